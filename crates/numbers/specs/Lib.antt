@@ -1,0 +1,6 @@
+pub mod Rows
+pub mod Bytes
+pub mod Signed
+pub mod Search
+pub mod Tests
+pub mod Laid

@@ -1,0 +1,189 @@
+-- The laws of `every`, `first`, `sumTo` and `tabulate`. Assumes nothing.
+use Prim.Native.Nat.{ℕ, zero, suc, _+_, _≤_, _<_}
+use native.Mathlib.Omega.{arith}
+use native.Mathlib.Numerals.{add-one}
+use native.Mathlib.Decide.{le-ind}
+use mathlib.Core.Path.{_≡_, refl, sym, _∙_, ap}
+use mathlib.Core.Bool.{Bool, true, false, cond}
+use mathlib.Core.List.{[], _∷_, _++_}
+use lib.Dec.{ltb}
+use lib.ListN.{length, getD}
+use borrow.Author.Tests.{lt-ltb, le-ltb, ltb-true, ltb-false}
+use Rattle.numbers.specs.Search.{every, first, sumTo, listFrom, tabulate}
+
+-- a goal by the two values of a test, each with its equation
+pub caseB {ℓ} : {A : Type ℓ} (b : Bool) → (b ≡ true → A) → (b ≡ false → A) → A
+caseB true t f = t refl
+caseB false t f = f refl
+
+-- a test that is both true and false
+pub contra {ℓ} : {A : Type ℓ} {b : Bool} → b ≡ true → b ≡ false → A
+contra t f = absurd (let z : _≡_ {A = ℕ} 0 1 = cc in let h : ⊥ = omega arith in h)
+
+-- ---- all
+
+module _ (p : ℕ → Bool) where
+  pub every-none : every p 0 ≡ true
+  unfolding every
+  every-none = refl
+
+  pub every-more : (i : ℕ) (r : Bool) → every p i ≡ true → r ≡ p i → r ≡ true → every p (i + 1) ≡ true
+  unfolding every
+  every-more i r e f g = rw (add-one i, e, ← f, g)
+
+  -- all were passed
+  pub every-all : (i n : ℕ) → every p i ≡ true → i ≤ n → n ≤ i → true ≡ every p n
+  every-all i n e h l = let q : i ≡ n = omega arith in sym (rw q at e)
+
+  -- one fails
+  pub every-not : (i n : ℕ) (r : Bool) → r ≡ p i → r ≡ false → i < n → false ≡ every p n
+  unfolding every
+  every-not i n r f g h = sym (le-ind (λ (m : ℕ). every p m ≡ false) (step (every p i)) (λ m j e. rw e) n h)
+    where
+      step : (t : Bool) → cond t (p i) false ≡ false
+      step true = sym f ∙ g
+      step false = refl
+
+  pub every-elim : (n i : ℕ) → every p n ≡ true → i < n → p i ≡ true
+  every-elim n i e h = caseB (p i) (λ t. t) (λ f. contra e (sym (every-not i n (p i) refl f h)))
+
+  pub every-intro : (n : ℕ) → ((i : ℕ) → i < n → p i ≡ true) → every p n ≡ true
+  unfolding every
+  every-intro zero h = refl
+  every-intro (suc n) h = rw (every-intro n (λ i l. h i (omega arith)), h n (omega arith))
+
+pub every-cong : (p q : ℕ → Bool) (n : ℕ) → ((i : ℕ) → i < n → p i ≡ q i) → every p n ≡ every q n
+unfolding every
+every-cong p q zero h = refl
+every-cong p q (suc n) h = rw (every-cong p q n (λ i l. h i (omega arith)), h n (omega arith))
+
+pub ruleset every-laws = (every-none, every-more, every-all, every-not)
+
+-- ---- the first
+
+module _ (p : ℕ → Bool) where
+  -- none below 0
+  pub first-none : first p 0 ≡ 0
+  unfolding first
+  first-none = refl
+
+  -- none below i, and not i
+  pub first-more : (i : ℕ) (r : Bool) → first p i ≡ i → r ≡ p i → r ≡ false → first p (i + 1) ≡ i + 1
+  unfolding first
+  first-more i r e f g = rw (add-one i, e, le-ltb i i (omega arith), ← f, g)
+
+  -- none below i, and i
+  pub first-hit : (i n : ℕ) (r : Bool) → first p i ≡ i → r ≡ p i → r ≡ true → i < n → i ≡ first p n
+  unfolding first
+  first-hit i n r e f g h =
+      let t : p i ≡ true = sym f ∙ g in
+      sym (le-ind (λ (m : ℕ). first p m ≡ i) (rw (e, le-ltb i i (omega arith), t)) (λ m j q. rw (q, lt-ltb i m (omega arith))) n h)
+
+  -- none at all
+  pub first-all : (i n : ℕ) → first p i ≡ i → i ≤ n → n ≤ i → n ≡ first p n
+  first-all i n e h l = let q : n ≡ i = omega arith in rw q (sym e)
+
+  pub first-le : (n : ℕ) → first p n ≤ n
+  unfolding first
+  first-le zero = omega arith
+  first-le (suc n) =
+      let h = first-le n in
+      caseB (ltb (first p n) n) (λ t. rw t (omega arith)) (λ f. rw f (caseB (p n) (λ t. rw t (omega arith)) (λ g. rw g (omega arith))))
+
+  -- where there is one, it passes, and none before it does
+  pub first-passes : (n : ℕ) → first p n < n → p (first p n) ≡ true
+  unfolding first
+  first-passes zero h = absurd (omega arith)
+  first-passes (suc n) h =
+      caseB (ltb (first p n) n)
+      (λ t. rw t (first-passes n (ltb-true (first p n) n t)))
+      (λ f. rw f (caseB (p n) (λ t. rw t t) (λ g. absurd (let k : suc n < suc n = rw (f, g) at h in omega arith))))
+
+  pub first-below : (n i : ℕ) → i < first p n → p i ≡ false
+  unfolding first
+  first-below zero i h = absurd (omega arith)
+  first-below (suc n) i h =
+      caseB (ltb (first p n) n)
+      (λ t. first-below n i (rw t at h))
+      (λ f. caseB (p n)
+      (λ t. let k : i < n = rw (f, t) at h in first-below n i (omega (arith, ltb-false (first p n) n f)))
+      (λ g. let k : i < suc n = rw (f, g) at h in
+      caseB (ltb i n) (λ y. first-below n i (omega (arith, ltb-true i n y, ltb-false (first p n) n f))) (λ y. let q : i ≡ n = omega (arith, ltb-false i n y) in rw q g)))
+
+  -- none of those below n passes
+  pub first-void : (n : ℕ) → ((i : ℕ) → i < n → p i ≡ false) → first p n ≡ n
+  first-void n h =
+      caseB (ltb (first p n) n)
+      (λ t. contra (first-passes n (ltb-true (first p n) n t)) (h (first p n) (ltb-true (first p n) n t)))
+      (λ f. omega (arith, ltb-false (first p n) n f, first-le n))
+
+  -- the first is the one that passes with none before it
+  pub first-is : (n i : ℕ) → i < n → p i ≡ true → ((j : ℕ) → j < i → p j ≡ false) → first p n ≡ i
+  first-is n i l t h = sym (first-hit i n (p i) (first-void i h) refl t l)
+
+pub first-cong : (p q : ℕ → Bool) (n : ℕ) → ((i : ℕ) → i < n → p i ≡ q i) → first p n ≡ first q n
+unfolding first
+first-cong p q zero h = refl
+first-cong p q (suc n) h = rw (first-cong p q n (λ i l. h i (omega arith)), h n (omega arith))
+
+pub ruleset first-laws = (first-none, first-more, first-hit, first-all)
+
+-- ---- sums
+
+module _ (f : ℕ → ℕ) where
+  pub sum-none : sumTo f 0 ≡ 0
+  unfolding sumTo
+  sum-none = refl
+
+  pub sum-suc : (i : ℕ) → sumTo f (suc i) ≡ sumTo f i + f i
+  unfolding sumTo
+  sum-suc i = refl
+
+  pub sum-more : (i s v : ℕ) → s ≡ sumTo f i → v ≡ f i → s + v ≡ sumTo f (i + 1)
+  sum-more i s v e g = rw (add-one i, sum-suc i, e, g)
+
+  pub sum-mono : (m n : ℕ) → m ≤ n → sumTo f m ≤ sumTo f n
+  sum-mono m n h = le-ind (λ (k : ℕ). sumTo f m ≤ sumTo f k) (omega arith) (λ k j e. omega (arith, sum-suc k)) n h
+
+-- ---- lists
+
+pub getD-listFrom {ℓ} : {A : Type ℓ} (i n k : ℕ) (f : ℕ → A) (d : A) → k < n → getD (listFrom i n f) k d ≡ f (i + k)
+unfolding listFrom
+getD-listFrom i zero k f d l = absurd (omega arith)
+getD-listFrom i (suc n) zero f d l = ap f (let h : i ≡ i + 0 = omega arith in h)
+getD-listFrom i (suc n) (suc k) f d l = getD-listFrom (suc i) n k f d (omega arith) ∙ ap f (let h : suc i + k ≡ i + suc k = omega arith in h)
+
+pub getD-tabulate {ℓ} : {A : Type ℓ} (n k : ℕ) (f : ℕ → A) (d : A) → k < n → getD (tabulate n f) k d ≡ f k
+unfolding tabulate
+getD-tabulate n k f d l = getD-listFrom 0 n k f d l ∙ ap f (let h : 0 + k ≡ k = omega arith in h)
+
+pub length-listFrom {ℓ} : {A : Type ℓ} (i n : ℕ) (f : ℕ → A) → length (listFrom i n f) ≡ n
+unfolding listFrom
+length-listFrom i zero f = refl
+length-listFrom i (suc n) f = ap suc (length-listFrom (suc i) n f)
+
+pub length-tabulate {ℓ} : {A : Type ℓ} (n : ℕ) (f : ℕ → A) → length (tabulate n f) ≡ n
+unfolding tabulate
+length-tabulate n f = length-listFrom 0 n f
+
+listFrom-snoc {ℓ} : {A : Type ℓ} (i n : ℕ) (f : ℕ → A) → listFrom i (suc n) f ≡ listFrom i n f ++ (f (i + n) ∷ [])
+unfolding listFrom
+listFrom-snoc i zero f = ap (λ k. f k ∷ []) (let h : i ≡ i + 0 = omega arith in h)
+listFrom-snoc i (suc n) f = let h : suc i + n ≡ i + suc n = omega arith in ap (λ l. f i ∷ l) (listFrom-snoc (suc i) n f ∙ rw h)
+
+pub tabulate-none {ℓ} : {A : Type ℓ} (f : ℕ → A) → tabulate 0 f ≡ []
+unfolding tabulate listFrom
+tabulate-none f = refl
+
+pub tabulate-suc {ℓ} : {A : Type ℓ} (n : ℕ) (f : ℕ → A) → tabulate (suc n) f ≡ tabulate n f ++ (f n ∷ [])
+unfolding tabulate
+tabulate-suc n f = let h : 0 + n ≡ n = omega arith in listFrom-snoc 0 n f ∙ rw h
+
+listFrom-cong {ℓ} : {A : Type ℓ} (i n : ℕ) (f g : ℕ → A) → ((k : ℕ) → i ≤ k → k < i + n → f k ≡ g k) → listFrom i n f ≡ listFrom i n g
+unfolding listFrom
+listFrom-cong i zero f g h = refl
+listFrom-cong i (suc n) f g h = rw (h i (omega arith) (omega arith), listFrom-cong (suc i) n f g (λ k a b. h k (omega arith) (omega arith)))
+
+pub tabulate-cong {ℓ} : {A : Type ℓ} (n : ℕ) (f g : ℕ → A) → ((k : ℕ) → k < n → f k ≡ g k) → tabulate n f ≡ tabulate n g
+unfolding tabulate
+tabulate-cong n f g h = listFrom-cong 0 n f g (λ k a b. h k (omega arith))

@@ -1,0 +1,35 @@
+-- Signed numbers. A number of a table or a state is kept as its two's-complement pattern, a natural number of 16 or 32 bits, and `toZ` gives
+-- the whole number that it stands for: so a range test from 0 also rules out the negative numbers, whose patterns are large.
+-- Their laws are in `Signed/Laws.antt`.
+pub mod Laws
+use Prim.Native.Nat.{ℕ, _+_, _-_, _%_}
+use mathlib.Core.Bool.{Bool, cond}
+use lib.Dec.{ltb}
+use lib.IntN.{ℤ, pos, negsuc}
+use lib.Signed.{ltZ}
+use mir.Syntax.{w32}
+use mir.Val.{toZ}
+
+-- what z leaves modulo 4294967296, counted from 0
+unfoldable pub residue : ℤ → ℕ
+residue (pos n) = n % 4294967296
+residue (negsuc n) = 4294967295 - n % 4294967296
+
+-- the number from -2147483648 to 2147483647 that differs from z by a multiple of 4294967296
+abbrev pub wrap : ℤ → ℤ
+wrap z = toZ w32 (residue z)
+
+-- of patterns of 32 bits: whether the number of x is below that of y
+unfoldable pub lower : ℕ → ℕ → Bool
+lower x y = ltZ (toZ w32 x) (toZ w32 y)
+
+-- the patterns of the sum and of the difference, taken back into range
+unfoldable pub sum : ℕ → ℕ → ℕ
+sum x y = (x + y) % 4294967296
+
+unfoldable pub difference : ℕ → ℕ → ℕ
+difference x y = (x + (4294967296 - y)) % 4294967296
+
+-- the 32-bit pattern of the number whose 16-bit pattern is v
+unfoldable pub widened : ℕ → ℕ
+widened v = cond (ltb v 32768) v (sum v 4294901760)

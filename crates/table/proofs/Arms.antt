@@ -1,0 +1,34 @@
+-- Answers in the arms of a `match` on a part, and what a node says of its branches. Assumes nothing.
+use Prim.Native.Nat.{ℕ, _+_}
+use mathlib.Core.Path.{_≡_, refl, sym, _∙_, ap}
+use mathlib.Core.Bool.{Bool, true, false, cond}
+use lib.Dec.{eqb}
+use borrow.Author.Tests.{eq-eqb, ne-eqb}
+use Rattle.numbers.specs.Rows.{at}
+use Rattle.table.specs.Table.{Table, nodeRow, definitionRow}
+use Rattle.table.specs.Layout.{blocks, lines, size, branchCount}
+use Rattle.table.specs.declared.Part.{Part}
+
+module _ (tb : Table) (r : ℕ) (p q : Part) (e : p ≡ q) where
+  pub blocks-arm : r ≡ blocks tb q → r ≡ blocks tb p
+  blocks-arm g = rw e g
+
+  pub lines-arm : r ≡ lines tb q → r ≡ lines tb p
+  lines-arm g = rw e g
+
+  pub size-arm : (i : ℕ) → r ≡ size tb q i → r ≡ size tb p i
+  size-arm i g = rw e g
+
+-- the row of block i begins at b, which a call answered
+module _ (tb : Table) (r b x i k : ℕ) (e : b ≡ x) where
+  pub row-read : r ≡ at tb (b + i) k → r ≡ at tb (x + i) k
+  row-read g = rw (← e) g
+
+module _ (tb : Table) (n b a : ℕ) (e : b ≡ nodeRow tb) (f : a ≡ at tb (b + n) 1) where
+  pub count-choice : (r : ℕ) → a ≡ 1 → r ≡ at tb (b + n) 2 → r ≡ branchCount tb n
+  unfolding branchCount
+  count-choice r h g = rw (← e, ← f, h) g
+
+  pub count-other : (a ≡ 1 → ⊥) → 0 ≡ branchCount tb n
+  unfolding branchCount
+  count-other h = rw (← e, ← f, ne-eqb a 1 h)

@@ -1,0 +1,4 @@
+pub mod Cells
+pub mod Arms
+pub mod Sums
+pub mod Places

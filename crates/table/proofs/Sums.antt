@@ -1,0 +1,35 @@
+-- The sums of ground 3, as they run over a part's blocks. Assumes nothing.
+use Prim.Native.Nat.{ℕ, suc, _+_, _≤_}
+use native.Mathlib.Omega.{arith}
+use native.Mathlib.Numerals.{add-one}
+use mathlib.Core.Path.{_≡_, refl, sym, _∙_, ap}
+use mathlib.Core.Bool.{Bool, true, false}
+use lib.Dec.{eqb}
+use Rattle.numbers.specs.Search.{sumTo}
+use Rattle.numbers.specs.Search.Laws.{sum-none, sum-more}
+use Rattle.table.specs.Table.{Table}
+use Rattle.table.specs.Layout.{blocks, lines, size}
+use Rattle.table.specs.Form.{gain, loss, gainOf, lossOf, sumAgrees}
+use Rattle.table.specs.declared.Part.{Part}
+
+module _ (tb : Table) (p : Part) where
+  pub gains-none : 0 ≡ sumTo (gainOf tb p) 0
+  gains-none = sym (sum-none (gainOf tb p))
+
+  pub losses-none : 0 ≡ sumTo (lossOf tb p) 0
+  losses-none = sym (sum-none (lossOf tb p))
+
+  module _ (i s v g : ℕ) (e : v ≡ size tb p i) where
+    pub gains-more : s ≡ sumTo (gainOf tb p) i → g ≡ gain v → s + g ≡ sumTo (gainOf tb p) (i + 1)
+    unfolding gainOf
+    gains-more f h = sum-more (gainOf tb p) i s g f (h ∙ rw e)
+
+    pub losses-more : s ≡ sumTo (lossOf tb p) i → g ≡ loss v → s + g ≡ sumTo (lossOf tb p) (i + 1)
+    unfolding lossOf
+    losses-more f h = sum-more (lossOf tb p) i s g f (h ∙ rw e)
+
+  pub agrees-is : (n i g l m : ℕ) → n ≡ blocks tb p → i ≤ n → n ≤ i → g ≡ sumTo (gainOf tb p) i → l ≡ sumTo (lossOf tb p) i → m ≡ lines tb p → eqb g (m + l) ≡ sumAgrees tb p
+  unfolding sumAgrees
+  agrees-is n i g l m e h k a b d = let q : i ≡ blocks tb p = omega arith in rw (a, b, d, q)
+
+pub ruleset sums = (gains-none, losses-none, gains-more, losses-more)

@@ -1,0 +1,6 @@
+pub mod Base
+pub mod Table
+pub mod Layout
+pub mod Index
+pub mod Roles
+pub mod Form
