@@ -7,10 +7,15 @@ use native.Mathlib.Decide.{le-ind}
 use mathlib.Core.Path.{_≡_, refl, sym, _∙_, ap}
 use mathlib.Core.List.{List, [], _∷_, _++_, append-assoc, append-nil}
 use lib.ListN.{length, getD, set, replicate, length-append, length-replicate, List·getD-append, getD-replicate}
-use lib.Seq.{set-at, append-snoc}
+use lib.Seq.{set-at, getD-append-add}
 use Rattle.numbers.specs.Search.{tabulate}
 use Rattle.numbers.specs.Search.Laws.{tabulate-none, tabulate-suc, length-tabulate, getD-tabulate}
 use Rattle.numbers.specs.Laid.{laid}
+
+pub zeros-at : (n k : ℕ) → _≡_ {A = ℕ} (getD (replicate n 0) k 0) 0
+zeros-at zero k = refl
+zeros-at (suc n) zero = refl
+zeros-at (suc n) (suc k) = zeros-at n k
 
 module _ (f : ℕ → ℕ) (n : ℕ) where
   pub laid-none : laid f 0 n ≡ replicate n 0
@@ -43,3 +48,14 @@ module _ (f : ℕ → ℕ) (n : ℕ) where
   pub getD-laid : (p k : ℕ) → k < p → getD (laid f p n) k 0 ≡ f k
   unfolding laid
   getD-laid p k h = List·getD-append (tabulate p f) (replicate (n - p) 0) 0 k (omega (arith, length-tabulate p f)) ∙ getD-tabulate p k f 0 h
+
+  -- past what is there it is 0
+  pub getD-unlaid : (p k : ℕ) → p ≤ k → getD (laid f p n) k 0 ≡ 0
+  unfolding laid
+  getD-unlaid p k h =
+      let e : k ≡ length (tabulate p f) + (k - p) = omega (arith, length-tabulate p f) in
+      rw e (getD-append-add (tabulate p f) (replicate (n - p) 0) (k - p) 0 ∙ zeros-at (n - p) (k - p))
+
+  pub length-laid : (p : ℕ) → p ≤ n → length (laid f p n) ≡ n
+  unfolding laid
+  length-laid p h = omega (arith, length-append (tabulate p f) (replicate (n - p) 0), length-tabulate p f, length-replicate {A = ℕ} (n - p) 0)

@@ -1,0 +1,79 @@
+-- What the functions of grounds 6 and 7 answer. Assumes nothing.
+use Prim.Native.Nat.{ℕ, _+_, _-_, _≤_, _<_}
+use mathlib.Core.Path.{_≡_, _∙_}
+use mathlib.Core.Bool.{Bool, true, false, not}
+use mathlib.Core.List.{List}
+use native.Mathlib.Omega.{arith}
+use mir.Syntax.{w32}
+use mir.Val.{Fits}
+use mir.Facts.{fits-below}
+use borrow.Author.Tests.{ne-eqb}
+use Rattle.numbers.specs.Rows.{at}
+use Rattle.numbers.specs.Search.{every}
+use Rattle.table.specs.Table.{Table, nodeRow, branchRow, lineTotal, definitionRow}
+use Rattle.table.specs.Layout.{lines, nodeOf}
+use Rattle.table.specs.Form.Laws.{header-counts}
+use Rattle.table.specs.Index.{Indexed}
+use Rattle.table.specs.declared.Part.the-variants.{Branches}
+use Rattle.table.specs.Roles.{operand, operandRole, reads}
+use Rattle.table.specs.declared.Role.{Role}
+use Rattle.flow.specs.Flow.{Marks, flow, marked, mayLack, argumentWritten, callWritten, operandWritten, rowWritten, unreachable}
+
+-- what is marked in marks ms, which are those of the flow
+module _ (tb : Table) (ms : Marks) (e : ms ≡ flow tb) where
+  lacks : (n k : ℕ) (t : Bool) → t ≡ marked ms n k → t ≡ mayLack tb n k
+  unfolding mayLack
+  lacks n k t f = f ∙ rw e
+
+  module _ (r n k x : ℕ) (t : Bool) (f : t ≡ marked ms n x) where
+    pub argument-is : x ≡ at tb r (3 + k) → not t ≡ argumentWritten tb r n k
+    unfolding argumentWritten
+    argument-is g = rw (lacks n x t f, g)
+
+    pub operand-read : (a : Role) (u : Bool) → a ≡ operandRole tb r k → u ≡ reads a → u ≡ true → x ≡ operand tb r k → not t ≡ operandWritten tb r n k
+    unfolding operandWritten
+    operand-read a u g h i j = rw (← g, ← h, i, lacks n x t f, j)
+
+  pub node-reached : (r a n : ℕ) (t : Bool) → a ≡ at tb r 0 → a ≡ 5 → n ≡ r - nodeRow tb → t ≡ marked ms n 16 → not t ≡ unreachable tb r
+  unfolding unreachable
+  node-reached r a n t f g h i = rw (← f, g, lacks n 16 t i, h)
+
+-- the branch in row r, numbered over the whole file, is one of the header's
+module _ (tb : Table) (r b : ℕ) (h : r < lineTotal tb) (e : b ≡ r - branchRow tb) where
+  pub branch-place : b ≤ lines tb Branches
+  unfolding lines
+  branch-place = omega arith
+
+  pub branch-fits : (x : List ℕ) → Indexed tb x → Fits w32 b
+  branch-fits x g = let c = header-counts tb (g .counts) in fits-below {w = w32} {m = b} {n = 384} tt (omega arith)
+
+module _ (tb : Table) (r : ℕ) where
+  pub operand-idle : (n k : ℕ) (a : Role) (u : Bool) → a ≡ operandRole tb r k → u ≡ reads a → u ≡ false → true ≡ operandWritten tb r n k
+  unfolding operandWritten
+  operand-idle n k a u g h i = rw (← g, ← h, i)
+
+  pub no-node : (a : ℕ) → a ≡ at tb r 0 → (a ≡ 5 → ⊥) → false ≡ unreachable tb r
+  unfolding unreachable
+  no-node a f g = rw (← f, ne-eqb a 5 g)
+
+  module _ (n a : ℕ) (e : a ≡ at tb r 1) where
+    pub call-is : (b d p : ℕ) (t : Bool) → a ≡ 2 → b ≡ definitionRow tb → d ≡ at tb r 2 → p ≡ at tb (b + d) 1 → t ≡ every (argumentWritten tb r n) p → t ≡ callWritten tb r n
+    unfolding callWritten
+    call-is b d p t f g h i j = j ∙ rw (← e, f, i, g, h)
+
+    pub call-other : (a ≡ 2 → ⊥) → true ≡ callWritten tb r n
+    unfolding callWritten
+    call-other f = rw (← e, ne-eqb a 2 f)
+
+  module _ (k : ℕ) (e : k ≡ at tb r 0) where
+    pub row-node : (n : ℕ) (t : Bool) → k ≡ 5 → n ≡ r - nodeRow tb → t ≡ callWritten tb r n → t ≡ rowWritten tb r
+    unfolding rowWritten
+    row-node n t f g h = h ∙ rw (← e, f, g)
+
+    pub row-branch : (n : ℕ) (t : Bool) → k ≡ 6 → n ≡ nodeOf tb (r - branchRow tb) → t ≡ every (operandWritten tb r n) 5 → t ≡ rowWritten tb r
+    unfolding rowWritten
+    row-branch n t f g h = h ∙ rw (← e, f, g)
+
+    pub row-other : (k ≡ 5 → ⊥) → (k ≡ 6 → ⊥) → true ≡ rowWritten tb r
+    unfolding rowWritten
+    row-other f g = rw (← e, ne-eqb k 5 f, ne-eqb k 6 g)

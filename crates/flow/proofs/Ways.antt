@@ -1,0 +1,120 @@
+-- What the functions that follow branches and nodes answer. Assumes nothing.
+use Prim.Native.Nat.{ℕ, zero, suc, _+_, _≤_, _<_}
+use native.Mathlib.Omega.{arith}
+use native.Mathlib.Numerals.{add-one}
+use native.Mathlib.Nat.{add-assoc}
+use mathlib.Core.Path.{_≡_, refl, _∙_, ap}
+use mathlib.Core.Bool.{Bool, true, false}
+use mathlib.Core.List.{List, [], _∷_}
+use lib.Dec.{eqb}
+use lib.ListN.{length, getD, length-set, length-map}
+use borrow.Author.Tests.{ne-eqb}
+use Rattle.numbers.specs.Rows.{at}
+use Rattle.numbers.specs.Search.{tabulate}
+use Rattle.numbers.specs.Search.Laws.{caseB, length-tabulate}
+use Rattle.table.specs.Table.{Table, nodes, branchRow}
+use Rattle.table.specs.Layout.{start, branchCount, definitionOf}
+use Rattle.table.specs.Roles.{operand, operandRole, writes}
+use Rattle.table.specs.Form.Laws.{header-counts}
+use Rattle.table.specs.Index.{Indexed}
+use Rattle.table.specs.declared.Part.the-variants.{Nodes, Branches}
+use Rattle.table.specs.declared.Role.{Role}
+use Rattle.flow.specs.Flow.{Marks, slotWritten, pastWrite, either, arrive, begins, beginning, branchFollowed, branchesFollowed, flowTo, flow}
+use Rattle.flow.specs.Marks.{bits, marksOf}
+
+-- ---- the slot that a branch writes
+
+module _ (tb : Table) (r : ℕ) (a : Role) (t : Bool) (e : a ≡ operandRole tb r 2) (f : t ≡ writes a) where
+  pub slot-first : (s : ℕ) → t ≡ true → s ≡ operand tb r 2 → s ≡ slotWritten tb r
+  unfolding slotWritten
+  slot-first s g h = rw (← e, ← f, g) h
+
+  module _ (g : t ≡ false) (b : Role) (u : Bool) (i : b ≡ operandRole tb r 3) (j : u ≡ writes b) where
+    pub slot-second : (s : ℕ) → u ≡ true → s ≡ operand tb r 3 → s ≡ slotWritten tb r
+    unfolding slotWritten
+    slot-second s k h = rw (← e, ← f, g, ← i, ← j, k) h
+
+    pub slot-none : u ≡ false → 17 ≡ slotWritten tb r
+    unfolding slotWritten
+    slot-none k = rw (← e, ← f, g, ← i, ← j, k)
+
+-- ---- a branch
+
+module _ (tb : Table) (f r w a k : ℕ) (m p : List Bool) (ms ms₁ : Marks)
+    (e : w ≡ slotWritten tb r) (g : p ≡ pastWrite w m) (h : a ≡ at tb r 8) (i : ms₁ ≡ arrive ms (f + a) p) (j : k ≡ at tb r 4) where
+  pub branch-next : (k ≡ 4 → ⊥) → ms₁ ≡ branchFollowed tb f m r ms
+  unfolding branchFollowed
+  branch-next n = i ∙ rw (← j, ne-eqb k 4 n, ← e, ← g, h)
+
+  pub branch-spawn : (b : ℕ) (ms₂ : Marks) → k ≡ 4 → b ≡ at tb r 9 → ms₂ ≡ arrive ms₁ (f + b) p → ms₂ ≡ branchFollowed tb f m r ms
+  unfolding branchFollowed
+  branch-spawn b ms₂ n q s = s ∙ rw (i, ← j, n, ← e, ← g, h, q)
+
+-- ---- the branches of a node
+
+module _ (tb : Table) (n : ℕ) (m : List Bool) (ms : Marks) where
+  pub branches-none : ms ≡ branchesFollowed tb n m ms 0
+  unfolding branchesFollowed
+  branches-none = refl
+
+  pub branches-more : (i f row : ℕ) (ms₁ ms₂ : Marks) → f ≡ start tb Nodes (definitionOf tb n) → row ≡ branchRow tb + start tb Branches n
+      → ms₁ ≡ branchesFollowed tb n m ms i → ms₂ ≡ branchFollowed tb f m (row + i) ms₁ → ms₂ ≡ branchesFollowed tb n m ms (i + 1)
+  unfolding branchesFollowed
+  branches-more i f row ms₁ ms₂ e g h j = j ∙ rw (h, e, g, add-one i, add-assoc (branchRow tb) (start tb Branches n) i)
+
+  pub branches-all : (i c : ℕ) (ms₁ : Marks) → ms₁ ≡ branchesFollowed tb n m ms i → c ≡ branchCount tb n → i ≤ c → c ≤ i → ms₁ ≡ branchesFollowed tb n m ms (branchCount tb n)
+  branches-all i c ms₁ e g h j = let q : branchCount tb n ≡ i = omega arith in rw q e
+
+-- ---- the nodes
+
+length-arrive : (ms : Marks) (t : ℕ) (m : List Bool) → length (arrive ms t m) ≡ length ms
+unfolding arrive
+length-arrive ms t m = length-set ms t (either (getD ms t []) m)
+
+module _ (tb : Table) where
+  length-branch : (f : ℕ) (m : List Bool) (r : ℕ) (ms : Marks) → length (branchFollowed tb f m r ms) ≡ length ms
+  unfolding branchFollowed
+  length-branch f m r ms =
+      let p = pastWrite (slotWritten tb r) m in
+      let o : length (arrive ms (f + at tb r 8) p) ≡ length ms = length-arrive ms (f + at tb r 8) p in
+      caseB (eqb (at tb r 4) 4)
+      (λ t. rw t (length-arrive (arrive ms (f + at tb r 8) p) (f + at tb r 9) p ∙ o))
+      (λ g. rw g o)
+
+  length-branches : (n : ℕ) (m : List Bool) (ms : Marks) (i : ℕ) → length (branchesFollowed tb n m ms i) ≡ length ms
+  unfolding branchesFollowed
+  length-branches n m ms zero = refl
+  length-branches n m ms (suc i) =
+      length-branch (start tb Nodes (definitionOf tb n)) m (branchRow tb + (start tb Branches n + i)) (branchesFollowed tb n m ms i) ∙ length-branches n m ms i
+
+  length-flow : (n : ℕ) → length (flowTo tb n) ≡ 192
+  unfolding flowTo beginning
+  length-flow zero = length-tabulate 192 (λ n. tabulate 17 (begins tb n))
+  length-flow (suc n) = length-branches n (getD (flowTo tb n) n []) (flowTo tb n) (branchCount tb n) ∙ length-flow n
+
+row-bits : (l : List ℕ) (n : ℕ) → n < length l → getD (marksOf l) n [] ≡ bits (getD l n 0)
+unfolding marksOf
+row-bits [] n h = absurd (omega arith)
+row-bits (m ∷ l) zero h = refl
+row-bits (m ∷ l) (suc n) h = row-bits l n (omega arith)
+
+length-marks : (l : List ℕ) → length (marksOf l) ≡ length l
+unfolding marksOf
+length-marks l = length-map l bits
+
+module _ (tb : Table) where
+  pub flow-none : (ms : Marks) → ms ≡ beginning tb → ms ≡ flowTo tb 0
+  unfolding flowTo
+  flow-none ms e = e
+
+  pub flow-more : (l l′ x : List ℕ) (n m : ℕ) → Indexed tb x → n < nodes tb → marksOf l ≡ flowTo tb n → m ≡ getD l n 0
+      → marksOf l′ ≡ branchesFollowed tb n (bits m) (marksOf l) (branchCount tb n) → marksOf l′ ≡ flowTo tb (n + 1)
+  unfolding flowTo
+  flow-more l l′ x n m g h e f k =
+      let c = header-counts tb (g .counts) in
+      let b : getD (marksOf l) n [] ≡ bits (getD l n 0) = row-bits l n (omega (arith, length-marks l, ap length e, length-flow tb n)) in
+      k ∙ rw (f, ← b, e, add-one n)
+
+  pub flow-all : (ms : Marks) (n c : ℕ) → ms ≡ flowTo tb n → c ≡ nodes tb → n ≤ c → c ≤ n → ms ≡ flow tb
+  unfolding flow
+  flow-all ms n c e f h k = let q : nodes tb ≡ n = omega arith in rw q e

@@ -1,0 +1,32 @@
+use Prim.Native.Nat.{_≤_, _-_}
+use mathlib.Core.Path.{_≡_}
+use lib.ListN.{length}
+use borrow.Author.Needs.{needs}
+use Rattle.numbers.specs.Laid.{laid}
+use Rattle.table.specs.Table.{tableOf}
+use Rattle.flow.specs.Marks.{seed}
+use Rattle.flow.proofs.Begins.{begin-none, begin-more, begin-all}
+use Rattle.flow.proofs.begin.Statement.{statement}
+use Rattle.flow.proofs.begin.Tie as tie
+
+abbrev Inv-loop : tie.InvT-loop
+Inv-loop table index marks₀ count n₀ marks n =
+    (n ≤ count) × (length marks ≡ length marks₀) × (marks ≡ laid (seed (tableOf table)) n 192)
+
+abbrev μ-loop : tie.MeasureT-loop
+μ-loop table index marks₀ count n₀ marks n = count - n
+
+pub begin-spec : {M : Type 1} → statement M
+begin-spec =
+    tie.close
+    (tie.spec
+    Inv-loop
+    μ-loop
+    (λ c κs. search needs)
+    (λ c. search (begin-none, needs))
+    (λ c κs. search needs)
+    (λ c. search needs)
+    (λ c. search needs)
+    (λ c. (search needs, search needs, search begin-more))
+    (λ c. search needs)
+    (λ c. search begin-all))

@@ -1,0 +1,18 @@
+use borrow.Author.Needs.{needs}
+use Rattle.flow.proofs.Grounds.{call-is, call-other}
+use Rattle.flow.proofs.call_written.Statement.{statement}
+use Rattle.flow.proofs.call_written.Tie as tie
+
+pub call-written-spec : {M : Type 1} → statement M
+call-written-spec =
+    tie.close
+    (tie.spec
+    (λ c κs. search needs)
+    (λ c κs. search needs)
+    (λ c κs. search needs)
+    (λ c. search needs)
+    (λ c. search needs)
+    (λ c κs. search needs)
+    (λ c κs. search needs)
+    (λ c. search call-is)
+    (λ c. search call-other))

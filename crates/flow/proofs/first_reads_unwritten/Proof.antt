@@ -1,0 +1,29 @@
+use Prim.Native.Nat.{_≤_, _-_}
+use mathlib.Core.Path.{_≡_}
+use borrow.Author.Needs.{needs}
+use Rattle.numbers.specs.Search.Laws.{first-laws}
+use Rattle.numbers.specs.Search.{first}
+use Rattle.table.specs.Table.{tableOf}
+use Rattle.flow.specs.Flow.{readsUnwritten}
+use Rattle.flow.proofs.first_reads_unwritten.Statement.{statement}
+use Rattle.flow.proofs.first_reads_unwritten.Tie as tie
+
+abbrev Inv-loop : tie.InvT-loop
+Inv-loop table index marks n row₀ row = (row ≤ n) × (first (readsUnwritten (tableOf table)) row ≡ row)
+
+abbrev μ-loop : tie.MeasureT-loop
+μ-loop table index marks n row₀ row = n - row
+
+pub first-reads-unwritten-spec : {M : Type 1} → statement M
+first-reads-unwritten-spec =
+    tie.close
+    (tie.spec
+    Inv-loop
+    μ-loop
+    (λ c. search (first-laws, needs))
+    (λ c κs. search needs)
+    (λ c. search first-laws)
+    (λ c. search needs)
+    (λ c. search needs)
+    (λ c. search (first-laws, needs))
+    (λ c. search first-laws))

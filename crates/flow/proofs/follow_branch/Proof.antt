@@ -1,0 +1,24 @@
+use borrow.Author.Needs.{needs}
+use Rattle.flow.proofs.Ways.{branch-next, branch-spawn}
+use Rattle.flow.proofs.follow_branch.Statement.{statement}
+use Rattle.flow.proofs.follow_branch.Tie as tie
+
+pub follow-branch-spec : {M : Type 1} → statement M
+follow-branch-spec =
+    tie.close
+    (tie.spec
+    (λ c κs. search needs)
+    (λ c κs. search needs)
+    (λ c κs. search needs)
+    (λ c. search needs)
+    (λ c. search needs)
+    (λ c κs. search needs)
+    (λ c κs. search needs)
+    (λ c. search needs)
+    (λ c. search branch-next)
+    (λ c κs. search needs)
+    (λ c. search needs)
+    (λ c. search needs)
+    (λ c κs. search needs)
+    (λ c. search needs)
+    (λ c. search branch-spawn))

@@ -1,0 +1,34 @@
+use Prim.Native.Nat.{_≤_, _-_}
+use native.Mathlib.Omega.{arith}
+use mathlib.Core.Path.{_≡_}
+use lib.ListN.{length}
+use borrow.Author.Needs.{needs}
+use Rattle.table.specs.Table.{tableOf}
+use Rattle.flow.specs.Flow.{flowTo}
+use Rattle.flow.specs.Marks.{marksOf}
+use Rattle.flow.proofs.Ways.{flow-none, flow-all}
+use Rattle.flow.proofs.mark_flow.Statement.{statement}
+use Rattle.flow.proofs.mark_flow.Tie as tie
+
+abbrev Inv-loop : tie.InvT-loop
+Inv-loop table index marks₀ count n₀ marks n =
+    (n ≤ count) × (length marks ≡ length marks₀) × (marksOf marks ≡ flowTo (tableOf table) n)
+
+abbrev μ-loop : tie.MeasureT-loop
+μ-loop table index marks₀ count n₀ marks n = count - n
+
+pub mark-flow-spec : {M : Type 1} → statement M
+mark-flow-spec =
+    tie.close
+    (tie.spec
+    Inv-loop
+    μ-loop
+    (λ c κs. search needs)
+    (λ c κs. search needs)
+    (λ c. search (flow-none, needs))
+    (λ c κs. (search, (omega arith, search)))
+    (λ c. search needs)
+    (λ c. search needs)
+    (λ c. search needs)
+    (λ c. search needs)
+    (λ c. search flow-all))

@@ -1,0 +1,101 @@
+-- Which slots a path may leave unwritten, by one pass upward over the nodes: next and child are above their node, so that all that leads to a
+-- node has been passed when the node is. Grounds 6 and 7 follow.
+use Prim.Native.Nat.{ℕ, zero, suc, _+_, _-_}
+use mathlib.Core.Bool.{Bool, true, false, not, _&&_, _||_, cond}
+use mathlib.Core.List.{List, []}
+use lib.Dec.{leb, eqb}
+use lib.ListN.{getD, set}
+use Rattle.numbers.specs.Rows.{at}
+use Rattle.numbers.specs.Search.{every, tabulate}
+use Rattle.table.specs.Table.{Table, maxNodes, nodes, nodeRow, branchRow, parameters}
+use Rattle.table.specs.Layout.{start, branchCount, definitionOf, nodeOf}
+use Rattle.table.specs.Roles.{operand, operandRole, reads, writes}
+use Rattle.table.specs.declared.Part.the-variants.{Nodes, Branches}
+
+-- for each node and each number k below 17, whether some path to the node leaves slot k unwritten. A definition has at most 16 slots: no slot
+-- has the number 16 and no path writes it, so that mark 16 says whether there is a path at all
+abbrev pub Marks : Type 0
+Marks = List (List Bool)
+
+abbrev pub markCount : ℕ
+markCount = 17
+
+abbrev pub pathMark : ℕ
+pathMark = 16
+
+-- the slot that the branch in row r writes; 17, which is no slot and no mark, where it writes none
+unfoldable pub slotWritten : Table → ℕ → ℕ
+slotWritten tb r =
+    cond (writes (operandRole tb r 2)) (operand tb r 2)
+    (cond (writes (operandRole tb r 3)) (operand tb r 3) markCount)
+
+-- what goes on past a write of slot w, and two sets of marks in one
+unfoldable pub pastWrite : ℕ → List Bool → List Bool
+pastWrite w m = tabulate markCount (λ k. getD m k false && not (eqb k w))
+
+unfoldable pub either : List Bool → List Bool → List Bool
+either m o = tabulate markCount (λ k. getD m k false || getD o k false)
+
+-- node t is also reached with the marks m
+unfoldable pub arrive : Marks → ℕ → List Bool → Marks
+arrive ms t m = set ms t (either (getD ms t []) m)
+
+-- node n has mark k
+unfoldable pub marked : Marks → ℕ → ℕ → Bool
+marked ms n k = getD (getD ms n []) k false
+
+module _ (tb : Table) where
+  -- a path begins at its definition's first node, with the parameters written
+  unfoldable pub begins : ℕ → ℕ → Bool
+  begins n k = eqb n (start tb Nodes (definitionOf tb n)) && leb (parameters tb (definitionOf tb n)) k
+
+  unfoldable pub beginning : Marks
+  beginning = tabulate maxNodes (λ n. tabulate markCount (begins n))
+
+  -- the branch in row r, of a node whose definition starts at node f and which has the marks m: to its next node, and a spawn to its child too
+  unfoldable pub branchFollowed : ℕ → List Bool → ℕ → Marks → Marks
+  branchFollowed f m r ms =
+      cond (eqb (at tb r 4) 4)
+      (arrive (arrive ms (f + at tb r 8) (pastWrite (slotWritten tb r) m)) (f + at tb r 9) (pastWrite (slotWritten tb r) m))
+      (arrive ms (f + at tb r 8) (pastWrite (slotWritten tb r) m))
+
+  -- the first i branches of node n, which has the marks m
+  unfoldable pub branchesFollowed : ℕ → List Bool → Marks → ℕ → Marks
+  branchesFollowed n m ms zero = ms
+  branchesFollowed n m ms (suc i) =
+      branchFollowed (start tb Nodes (definitionOf tb n)) m (branchRow tb + (start tb Branches n + i)) (branchesFollowed n m ms i)
+
+  -- the nodes below n
+  unfoldable pub flowTo : ℕ → Marks
+  flowTo zero = beginning
+  flowTo (suc n) = branchesFollowed n (getD (flowTo n) n []) (flowTo n) (branchCount tb n)
+
+  unfoldable pub flow : Marks
+  flow = flowTo (nodes tb)
+
+  -- some path to node n leaves slot k unwritten
+  unfoldable pub mayLack : ℕ → ℕ → Bool
+  mayLack n k = marked flow n k
+
+  module _ (r : ℕ) where
+    -- ground 6, of a call at node n and of a branch of node n: what is read is surely written
+    unfoldable pub argumentWritten : ℕ → ℕ → Bool
+    argumentWritten n i = not (mayLack n (at tb r (3 + i)))
+
+    unfoldable pub callWritten : ℕ → Bool
+    callWritten n = cond (eqb (at tb r 1) 2) (every (argumentWritten n) (parameters tb (at tb r 2))) true
+
+    unfoldable pub operandWritten : ℕ → ℕ → Bool
+    operandWritten n k = not (reads (operandRole tb r k) && mayLack n (operand tb r k))
+
+    unfoldable pub rowWritten : Bool
+    rowWritten =
+        cond (eqb (at tb r 0) 5) (callWritten (r - nodeRow tb))
+        (cond (eqb (at tb r 0) 6) (every (operandWritten (nodeOf tb (r - branchRow tb))) 5) true)
+
+    unfoldable pub readsUnwritten : Bool
+    readsUnwritten = not rowWritten
+
+    -- ground 7: no path leads to the node
+    unfoldable pub unreachable : Bool
+    unreachable = eqb (at tb r 0) 5 && not (mayLack (r - nodeRow tb) pathMark)

@@ -1,0 +1,28 @@
+-- Marks kept as bits: mark k of a node is bit k of its number. Their laws are in `Marks/Laws.antt`.
+pub mod Laws
+use Prim.Native.Nat.{ℕ, _-_, _/_, _%_, _^_}
+use mathlib.Core.Bool.{Bool, cond}
+use mathlib.Core.List.{List, map}
+use lib.Dec.{eqb, ltb}
+use Rattle.numbers.specs.Search.{tabulate}
+use Rattle.table.specs.Table.{Table, parameters}
+use Rattle.table.specs.Layout.{start, definitionOf}
+use Rattle.table.specs.declared.Part.the-variants.{Nodes}
+use Rattle.flow.specs.Flow.{Marks, markCount}
+
+unfoldable pub bit : ℕ → ℕ → Bool
+bit m k = eqb (m / 2 ^ k % 2) 1
+
+unfoldable pub bits : ℕ → List Bool
+bits m = tabulate markCount (bit m)
+
+unfoldable pub marksOf : List ℕ → Marks
+marksOf l = map bits l
+
+-- the number with mark p and those above it
+unfoldable pub marksFrom : ℕ → ℕ
+marksFrom p = cond (ltb p markCount) (131072 - 2 ^ p) 0
+
+-- the number with the marks that node n begins with
+unfoldable pub seed : Table → ℕ → ℕ
+seed tb n = cond (eqb n (start tb Nodes (definitionOf tb n))) (marksFrom (parameters tb (definitionOf tb n))) 0

@@ -1,0 +1,330 @@
+// Which slots a path may leave unwritten, and grounds 6 and 7 over a loaded table. The marks of a node are the bits of one number, so that a write
+// clears a bit and two ways to a node meet in one `|`.
+ghost use mathlib.Core.Path.{_≡_};
+ghost use Prim.Native.Nat.{_+_, _-_, _≤_, _<_};
+ghost use lib.ListN.{set, replicate};
+ghost use Rattle.numbers.specs.Search.{every, first};
+ghost use Rattle.table.specs.Table.{tableOf, nodes, nodeRow, branchRow, lineTotal};
+ghost use Rattle.table.specs.Layout.{start, branchCount, definitionOf, nodeOf};
+ghost use Rattle.table.specs.Index.{Indexed};
+ghost use Rattle.table.specs.declared.Part.the-variants.{Nodes, Branches};
+ghost use Rattle.flow.specs.Flow.{slotWritten, pastWrite, arrive, beginning, branchFollowed, branchesFollowed, flowTo, flow, marked, argumentWritten, callWritten, operandWritten, rowWritten, readsUnwritten, unreachable};
+ghost use Rattle.flow.specs.Marks.{bits, marksOf, marksFrom, seed};
+use table::Part;
+
+// Marks 0 to 15 are slots, mark 16 is the path itself.
+const MARKS: u32 = 17;
+
+const PATH_MARK: u32 = 16;
+
+// All marks, and the bit past them.
+const ALL_MARKS: u32 = 131071;
+
+const PAST_MARKS: u32 = 131072;
+
+// Whether node n has mark k.
+fn is_marked(marks: &[u32], n: usize, k: u32) -> bool
+    ensures { λ r. ⌜ r ≡ marked (marksOf (now (marks .entry))) n k ⌝ }
+{
+    if k < MARKS {
+        return (numbers::cell_at(marks, n) >> k) % 2 == 1;
+    }
+    false
+}
+
+// The slot that the branch in a row writes, and 17 where it writes none.
+fn slot_written(table: &[u8], row: usize) -> u32
+    ensures { λ r. ⌜ r ≡ slotWritten (tableOf (now (table .entry))) row ⌝ }
+{
+    if table::is_written(table::role_of(table, row, 2)) {
+        return table::operand_of(table, row, 2);
+    }
+    if table::is_written(table::role_of(table, row, 3)) {
+        return table::operand_of(table, row, 3);
+    }
+    MARKS
+}
+
+// The marks m without that of slot w.
+fn past_write(m: u32, w: u32) -> u32
+    ensures { λ r. ⌜ bits r ≡ pastWrite w (bits m) ⌝ }
+{
+    if w < MARKS {
+        return m & (ALL_MARKS - (1 << w));
+    }
+    m
+}
+
+// Node t is also reached with the marks m.
+fn arrive_at(marks: &mut [u32], t: usize, m: u32)
+    ensures { λ _. ⌜ marksOf (now (marks .exit)) ≡ arrive (marksOf (now (marks .entry))) t (bits m) ⌝ }
+{
+    let had = numbers::cell_at(marks, t);
+    numbers::put_cell(marks, t, had | m);
+}
+
+// Mark p and those above it.
+fn marks_from(p: u32) -> u32
+    ensures { λ r. ⌜ r ≡ marksFrom p ⌝ }
+{
+    if p < MARKS {
+        return PAST_MARKS - (1 << p);
+    }
+    0
+}
+
+// The first node of the definition of node n.
+fn first_node(table: &[u8], index: &[u32], n: u32) -> u32
+    requires { ⌜ Indexed (tableOf (now table)) (now index) ⌝ }
+    requires { ⌜ n < nodes (tableOf (now table)) ⌝ }
+    ensures { λ r. ⌜ r ≡ start (tableOf (now (table .entry))) Nodes (definitionOf (tableOf (now (table .entry))) n) ⌝ }
+{
+    let d = table::owner_of(table, index, Part::Nodes, n);
+    table::start_of(table, index, Part::Nodes, d)
+}
+
+// The marks that node n begins with.
+fn seed_of(table: &[u8], index: &[u32], n: u32) -> u32
+    requires { ⌜ Indexed (tableOf (now table)) (now index) ⌝ }
+    requires { ⌜ n < nodes (tableOf (now table)) ⌝ }
+    ensures { λ r. ⌜ r ≡ seed (tableOf (now (table .entry))) n ⌝ }
+{
+    let d = table::owner_of(table, index, Part::Nodes, n);
+    if n == table::start_of(table, index, Part::Nodes, d) {
+        return marks_from(table::cell(table, table::definition_row(table) + d as usize, 1));
+    }
+    0
+}
+
+// Node n gets the marks that it begins with.
+fn begin_at(table: &[u8], index: &[u32], n: u32, marks: &mut [u32])
+    requires { ⌜ Indexed (tableOf (now table)) (now index) ⌝ }
+    requires { ⌜ n < nodes (tableOf (now table)) ⌝ }
+    ensures { λ _. ⌜ now (marks .exit) ≡ set (now (marks .entry)) n (seed (tableOf (now (table .entry))) n) ⌝ }
+{
+    numbers::put_cell(marks, n as usize, seed_of(table, index, n));
+}
+
+// All nodes get theirs; no path begins past the last node, and the numbers there stay 0.
+fn begin(table: &[u8], index: &[u32], marks: &mut [u32])
+    requires { ⌜ Indexed (tableOf (now table)) (now index) ⌝ }
+    requires { ⌜ now marks ≡ replicate 192 0 ⌝ }
+    ensures { λ _. ⌜ marksOf (now (marks .exit)) ≡ beginning (tableOf (now (table .entry))) ⌝ }
+{
+    let count = table::cell(table, 0, 4);
+    for n in 0..count {
+        begin_at(table, index, n, marks);
+    }
+}
+
+// The branch in a row, of a node with the marks m in a definition that starts at node f, leads on: to its next node, and a spawn to its child too.
+fn follow_branch(table: &[u8], f: u32, m: u32, row: usize, marks: &mut [u32])
+    ensures { λ _. ⌜ marksOf (now (marks .exit)) ≡ branchFollowed (tableOf (now (table .entry))) f (bits m) row (marksOf (now (marks .entry))) ⌝ }
+{
+    let past = past_write(m, slot_written(table, row));
+    let next = f as usize + table::cell(table, row, 8) as usize;
+    arrive_at(marks, next, past);
+    if table::cell(table, row, 4) != 4 {
+        return;
+    }
+    let child = f as usize + table::cell(table, row, 9) as usize;
+    arrive_at(marks, child, past);
+}
+
+// The row of the first branch of node n.
+fn first_branch(table: &[u8], index: &[u32], n: u32) -> usize
+    requires { ⌜ Indexed (tableOf (now table)) (now index) ⌝ }
+    requires { ⌜ n < nodes (tableOf (now table)) ⌝ }
+    ensures { λ r. ⌜ r ≡ branchRow (tableOf (now (table .entry))) + start (tableOf (now (table .entry))) Branches n ⌝ }
+    ensures { λ r. ⌜ r < 4295229440 ⌝ }
+{
+    table::branch_row(table) + table::start_of(table, index, Part::Branches, n) as usize
+}
+
+// Each branch of node n, which has the marks m, leads on.
+fn follow_branches(table: &[u8], index: &[u32], n: u32, m: u32, marks: &mut [u32])
+    requires { ⌜ Indexed (tableOf (now table)) (now index) ⌝ }
+    requires { ⌜ n < nodes (tableOf (now table)) ⌝ }
+    ensures { λ _. ⌜ marksOf (now (marks .exit)) ≡ branchesFollowed (tableOf (now (table .entry))) n (bits m) (marksOf (now (marks .entry))) (branchCount (tableOf (now (table .entry))) n) ⌝ }
+{
+    let f = first_node(table, index, n);
+    let row = first_branch(table, index, n);
+    let count = table::branch_count(table, n);
+    for i in 0..count {
+        follow_branch(table, f, m, row + i as usize, marks);
+    }
+}
+
+// The nodes below n have been followed, and node n is too.
+fn follow_node(table: &[u8], index: &[u32], n: u32, marks: &mut [u32])
+    requires { ⌜ Indexed (tableOf (now table)) (now index) ⌝ }
+    requires { ⌜ n < nodes (tableOf (now table)) ⌝ }
+    requires { ⌜ marksOf (now marks) ≡ flowTo (tableOf (now table)) n ⌝ }
+    ensures { λ _. ⌜ marksOf (now (marks .exit)) ≡ flowTo (tableOf (now (table .entry))) (n + 1) ⌝ }
+{
+    let m = numbers::cell_at(marks, n as usize);
+    follow_branches(table, index, n, m, marks);
+}
+
+// The marks of every node.
+pub fn mark_flow(table: &[u8], index: &[u32], marks: &mut [u32])
+    requires { ⌜ Indexed (tableOf (now table)) (now index) ⌝ }
+    requires { ⌜ now marks ≡ replicate 192 0 ⌝ }
+    ensures { λ _. ⌜ marksOf (now (marks .exit)) ≡ flow (tableOf (now (table .entry))) ⌝ }
+{
+    begin(table, index, marks);
+    let count = table::cell(table, 0, 4);
+    for n in 0..count {
+        follow_node(table, index, n, marks);
+    }
+}
+
+// Argument i of the call in a row, at node n, is surely written.
+fn argument_written(table: &[u8], marks: &[u32], row: usize, n: usize, i: u32) -> bool
+    requires { ⌜ marksOf (now marks) ≡ flow (tableOf (now table)) ⌝ }
+    ensures { λ r. ⌜ r ≡ argumentWritten (tableOf (now (table .entry))) row n i ⌝ }
+{
+    !is_marked(marks, n, table::cell(table, row, 3 + i as usize))
+}
+
+fn arguments_written(table: &[u8], marks: &[u32], row: usize, n: usize, count: u32) -> bool
+    requires { ⌜ marksOf (now marks) ≡ flow (tableOf (now table)) ⌝ }
+    ensures { λ r. ⌜ r ≡ every (argumentWritten (tableOf (now (table .entry))) row n) count ⌝ }
+{
+    for i in 0..count {
+        if !argument_written(table, marks, row, n, i) {
+            return false;
+        }
+    }
+    true
+}
+
+// What node n, which is in a row, reads is surely written: only a call reads, its arguments.
+fn call_written(table: &[u8], marks: &[u32], row: usize, n: usize) -> bool
+    requires { ⌜ marksOf (now marks) ≡ flow (tableOf (now table)) ⌝ }
+    ensures { λ r. ⌜ r ≡ callWritten (tableOf (now (table .entry))) row n ⌝ }
+{
+    if table::cell(table, row, 1) == 2 {
+        let callee = table::definition_row(table) + table::cell(table, row, 2) as usize;
+        return arguments_written(table, marks, row, n, table::cell(table, callee, 1));
+    }
+    true
+}
+
+// Operand k of the branch in a row, of node n, is surely written where it is read.
+fn operand_written(table: &[u8], marks: &[u32], row: usize, n: usize, k: u32) -> bool
+    requires { ⌜ marksOf (now marks) ≡ flow (tableOf (now table)) ⌝ }
+    requires { ⌜ k < 5 ⌝ }
+    ensures { λ r. ⌜ r ≡ operandWritten (tableOf (now (table .entry))) row n k ⌝ }
+{
+    if table::is_read(table::role_of(table, row, k)) {
+        return !is_marked(marks, n, table::operand_of(table, row, k));
+    }
+    true
+}
+
+fn operands_written(table: &[u8], marks: &[u32], row: usize, n: usize) -> bool
+    requires { ⌜ marksOf (now marks) ≡ flow (tableOf (now table)) ⌝ }
+    ensures { λ r. ⌜ r ≡ every (operandWritten (tableOf (now (table .entry))) row n) 5 ⌝ }
+{
+    for k in 0..5 {
+        if !operand_written(table, marks, row, n, k) {
+            return false;
+        }
+    }
+    true
+}
+
+// The node in a row, the branch in a row, and the node of that branch, each counted over the whole file.
+fn node_in(table: &[u8], row: usize) -> usize
+    ensures { λ r. ⌜ r ≡ row - nodeRow (tableOf (now (table .entry))) ⌝ }
+{
+    let from = table::node_row(table);
+    if row < from {
+        return 0;
+    }
+    row - from
+}
+
+fn branch_in(table: &[u8], row: usize) -> usize
+    ensures { λ r. ⌜ r ≡ row - branchRow (tableOf (now (table .entry))) ⌝ }
+{
+    let from = table::branch_row(table);
+    if row < from {
+        return 0;
+    }
+    row - from
+}
+
+fn node_of(table: &[u8], index: &[u32], row: usize) -> u32
+    requires { ⌜ Indexed (tableOf (now table)) (now index) ⌝ }
+    requires { ⌜ row < lineTotal (tableOf (now table)) ⌝ }
+    ensures { λ r. ⌜ r ≡ nodeOf (tableOf (now (table .entry))) (row - branchRow (tableOf (now (table .entry)))) ⌝ }
+{
+    table::owner_of(table, index, Part::Branches, branch_in(table, row) as u32)
+}
+
+// Ground 6: what a row reads is surely written.
+fn row_written(table: &[u8], index: &[u32], marks: &[u32], row: usize) -> bool
+    requires { ⌜ Indexed (tableOf (now table)) (now index) ⌝ }
+    requires { ⌜ marksOf (now marks) ≡ flow (tableOf (now table)) ⌝ }
+    requires { ⌜ row < lineTotal (tableOf (now table)) ⌝ }
+    ensures { λ r. ⌜ r ≡ rowWritten (tableOf (now (table .entry))) row ⌝ }
+{
+    let kind = table::cell(table, row, 0);
+    if kind == 5 {
+        return call_written(table, marks, row, node_in(table, row));
+    }
+    if kind == 6 {
+        return operands_written(table, marks, row, node_of(table, index, row) as usize);
+    }
+    true
+}
+
+fn reads_unwritten(table: &[u8], index: &[u32], marks: &[u32], row: usize) -> bool
+    requires { ⌜ Indexed (tableOf (now table)) (now index) ⌝ }
+    requires { ⌜ marksOf (now marks) ≡ flow (tableOf (now table)) ⌝ }
+    requires { ⌜ row < lineTotal (tableOf (now table)) ⌝ }
+    ensures { λ r. ⌜ r ≡ readsUnwritten (tableOf (now (table .entry))) row ⌝ }
+{
+    !row_written(table, index, marks, row)
+}
+
+// The first of n rows that reads what may be unwritten; n where there is none.
+pub fn first_reads_unwritten(table: &[u8], index: &[u32], marks: &[u32], n: usize) -> usize
+    requires { ⌜ Indexed (tableOf (now table)) (now index) ⌝ }
+    requires { ⌜ marksOf (now marks) ≡ flow (tableOf (now table)) ⌝ }
+    requires { ⌜ n ≤ lineTotal (tableOf (now table)) ⌝ }
+    ensures { λ r. ⌜ r ≡ first (readsUnwritten (tableOf (now (table .entry)))) n ⌝ }
+{
+    for row in 0..n {
+        if reads_unwritten(table, index, marks, row) {
+            return row;
+        }
+    }
+    n
+}
+
+// Ground 7: a row is a node that no path leads to.
+fn is_unreachable(table: &[u8], marks: &[u32], row: usize) -> bool
+    requires { ⌜ marksOf (now marks) ≡ flow (tableOf (now table)) ⌝ }
+    ensures { λ r. ⌜ r ≡ unreachable (tableOf (now (table .entry))) row ⌝ }
+{
+    if table::cell(table, row, 0) == 5 {
+        return !is_marked(marks, node_in(table, row), PATH_MARK);
+    }
+    false
+}
+
+// The first of n rows that is such a node; n where there is none.
+pub fn first_unreachable(table: &[u8], marks: &[u32], n: usize) -> usize
+    requires { ⌜ marksOf (now marks) ≡ flow (tableOf (now table)) ⌝ }
+    ensures { λ r. ⌜ r ≡ first (unreachable (tableOf (now (table .entry)))) n ⌝ }
+{
+    for row in 0..n {
+        if is_unreachable(table, marks, row) {
+            return row;
+        }
+    }
+    n
+}

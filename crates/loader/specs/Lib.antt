@@ -1,0 +1,3 @@
+pub mod File
+pub mod Verdict
+pub mod Load

@@ -1,0 +1,64 @@
+-- The table's buffer: zeros before reading, and the bytes of the table that it holds. Assumes nothing.
+use Prim.Native.Nat.{ℕ, zero, suc, _+_, _*_, _/_, _%_, _≤_, _<_}
+use native.Mathlib.Omega.{arith}
+use mathlib.Core.Path.{_≡_, refl, sym, _∙_, ap}
+use mathlib.Core.Bool.{Bool, true, false, _&&_, cond}
+use mathlib.Core.List.{List, [], _∷_}
+use lib.Dec.{eqb}
+use lib.ListN.{length, getD, take, replicate, length-replicate, getD-replicate}
+use lib.Seq.{ext-getD, take-all}
+use mir.Syntax.{w8}
+use mir.Val.{Fits}
+use borrow.Author.Tests.{eq-eqb, ne-eqb}
+use Rattle.numbers.specs.Bytes.{shorts, little, encode, joined}
+use Rattle.numbers.specs.Bytes.Laws.{bytes-fit, length-numbers, short-is, joined-rows, encode-numbers}
+use Rattle.numbers.specs.Laid.{laid}
+use Rattle.numbers.specs.Laid.Laws.{laid-none, zeros-at}
+use Rattle.numbers.specs.Rows.{rows}
+use Rattle.table.specs.Table.{tableOf}
+use Rattle.loader.specs.File.{fileTable}
+use Rattle.loader.specs.Verdict.{verdict}
+use Rattle.loader.specs.Load.{tableBytes, Outcome, outcome, afterVerdict, loaded}
+use Rattle.loader.specs.declared.Ground.{Ground}
+use Rattle.loader.specs.declared.Verdict.{Verdict}
+use Rattle.loader.specs.declared.Verdict.the-variants.{Sound, Fault}
+use Rattle.loader.specs.declared.Loaded.{Loaded}
+use Rattle.loader.specs.declared.Loaded.the-variants.{Done, FileRefused, WrongLength}
+
+shorts-zero : (n : ℕ) → shorts (replicate (n * 2) 0) ≡ replicate n 0
+unfolding little
+shorts-zero n =
+    let b = replicate {A = ℕ} (n * 2) 0 in
+    let long : length (shorts b) ≡ n = length-numbers 2 b ∙ omega (arith, length-replicate {A = ℕ} (n * 2) 0) in
+    ext-getD 0 (shorts b) (replicate n 0) (long ∙ sym (length-replicate n 0))
+    (λ i h. sym (short-is b i 0 (rw (zeros-at (n * 2) (i * 2), zeros-at (n * 2) (i * 2 + 1))) (omega (arith, length-replicate {A = ℕ} (n * 2) 0)))
+    ∙ sym (zeros-at n i))
+
+pub table-zero : (b : List ℕ) (f : ℕ → ℕ) → b ≡ replicate 20760 0 → shorts b ≡ laid f 0 10380
+table-zero b f e = rw e (shorts-zero 10380 ∙ sym (laid-none f 10380))
+
+-- a buffer of the table's length is the bytes of the table that it holds
+pub table-bytes : (b : List ℕ) → length b ≡ 20760 → ((i : ℕ) → Fits w8 (getD b i 0)) → tableBytes (tableOf b) ≡ b
+unfolding tableBytes
+table-bytes b h f =
+    let long : length (shorts b) ≤ 865 * 12 = omega (arith, length-numbers 2 b) in
+    rw (joined-rows 865 12 (shorts b), take-all (865 * 12) (shorts b) long)
+    (encode-numbers 2 b (omega arith) (bytes-fit b f))
+
+-- ---- the answers
+
+module _ (file t : List ℕ) (v : Verdict) (e : v ≡ verdict file) where
+  pub load-refused : (g : Ground) (l : ℕ) → v ≡ Fault g l → outcome (FileRefused g l) t ≡ loaded file t
+  unfolding loaded afterVerdict
+  load-refused g l h = rw (← e, h)
+
+  module _ (h : v ≡ Sound) where
+    pub load-length : (length t ≡ 20760 → ⊥) → outcome WrongLength t ≡ loaded file t
+    unfolding loaded afterVerdict
+    load-length k = rw (← e, h, ne-eqb (length t) 20760 k)
+
+    pub load-done : (b t′ : List ℕ) → t′ ≡ b → (v ≡ Sound → tableOf b ≡ fileTable file) → length t ≡ 20760 → length t′ ≡ length t → ((i : ℕ) → Fits w8 (getD t′ i 0)) → outcome Done t′ ≡ loaded file t
+    unfolding loaded afterVerdict
+    load-done b t′ a k m n f = rw (← e, h, eq-eqb (length t) 20760 m, ← k h, ← a, table-bytes t′ (n ∙ m) f)
+
+pub ruleset answers = (load-refused, load-length, load-done)

@@ -1,0 +1,238 @@
+// Loading a procedure file: grounds 1 to 8, and ground 9 for a table that is handed in.
+ghost use mathlib.Core.Path.{_≡_};
+ghost use mathlib.Core.Bool.{true};
+ghost use Prim.Native.Nat.{ℕ, _+_, _*_, _≤_, _<_};
+ghost use lib.ListN.{length, replicate};
+ghost use Rattle.numbers.specs.Bytes.{shorts};
+ghost use Rattle.numbers.specs.Laid.{laid};
+ghost use Rattle.numbers.specs.Search.{every, first};
+ghost use Rattle.table.specs.Table.{tableOf, maxRows, lineTotal};
+ghost use Rattle.table.specs.Form.{kindWrong};
+ghost use Rattle.table.specs.Index.{indexLength, Indexed};
+ghost use Rattle.loader.specs.File.{lineCount, notLines, wellFormed, malformed, fileTable, numberIn};
+ghost use Rattle.loader.specs.Verdict.{judgedFlow, judgedRows, judged, verdict, restZero};
+ghost use Rattle.loader.specs.Load.{Outcome, loaded, accepted, tableLength};
+use text::Reading;
+
+const LINE: usize = 73;
+
+const MAX_ROWS: usize = 865;
+
+const ROW_NUMBERS: usize = 12;
+
+const TABLE: usize = 20760;
+
+const INDEX: usize = 807;
+
+const MAX_NODES: usize = 192;
+
+// Why a file is refused. Ground 3 has its four tests apart, in their order: header, total, kind, sums.
+pub enum Ground {
+    Lines,
+    Field,
+    Header,
+    Total,
+    Kind,
+    Sums,
+    Range,
+    Types,
+    Unwritten,
+    Unreachable,
+}
+
+// No fault, or the lowest ground and its first line, counted from 1 (0 for `Lines`).
+pub enum Verdict {
+    Sound,
+    Fault(Ground, usize),
+}
+
+// What loading answers.
+pub enum Loaded {
+    Done,
+    FileRefused(Ground, usize),
+    WrongLength,
+}
+
+// The fields of a line, laid into the table behind those of the lines before; whether all of the line is well formed.
+fn read_line(file: &[u8], table: &mut [u8], line: usize) -> bool
+    requires { ⌜ line < 865 ⌝ }
+    requires { ⌜ line * 73 + 73 ≤ length (now file) ⌝ }
+    requires { ⌜ shorts (now table) ≡ laid (numberIn (now file)) (line * 12) 10380 ⌝ }
+    ensures { λ r. ⌜ r ≡ wellFormed (now (file .entry)) line ⌝ }
+    ensures { λ r. ⌜ (r ≡ true → shorts (now (table .exit)) ≡ laid (numberIn (now (file .entry))) (line * 12 + 12) 10380) ⌝ }
+{
+    for column in 0..ROW_NUMBERS {
+        match text::read_field(text::field(file, line, column)) {
+            Reading::Value(v) => numbers::put_short(table, line * ROW_NUMBERS + column, v),
+            Reading::Wrong => return false,
+        }
+    }
+    let last = line * LINE + 72;
+    file[last] == 10
+}
+
+// The lines of a file, laid into a table of zeros; the first malformed line, n where there is none.
+fn read_lines(file: &[u8], table: &mut [u8], n: usize) -> usize
+    requires { ⌜ n ≤ 865 ⌝ }
+    requires { ⌜ n * 73 ≤ length (now file) ⌝ }
+    requires { ⌜ shorts (now table) ≡ laid (numberIn (now file)) 0 10380 ⌝ }
+    ensures { λ r. ⌜ r ≡ first (malformed (now (file .entry))) n ⌝ }
+    ensures { λ r. ⌜ (r ≡ n → shorts (now (table .exit)) ≡ laid (numberIn (now (file .entry))) (n * 12) 10380) ⌝ }
+{
+    for line in 0..n {
+        if !read_line(file, table, line) {
+            return line;
+        }
+    }
+    n
+}
+
+// Ground 1: whether the file is anything but 1 to 865 whole lines.
+fn not_lines(file: &[u8]) -> bool
+    ensures { λ r. ⌜ r ≡ notLines (now (file .entry)) ⌝ }
+{
+    let n = file.len() / LINE;
+    if n < 1 {
+        return true;
+    }
+    if n > MAX_ROWS {
+        return true;
+    }
+    file.len() % LINE != 0
+}
+
+// The bytes of one buffer into another of the same length.
+fn copy_table(from: &[u8], to: &mut [u8])
+    requires { ⌜ length (now from) ≡ length (now to) ⌝ }
+    ensures { λ _. ⌜ now (to .exit) ≡ now (from .entry) ⌝ }
+{
+    for i in 0..from.len() {
+        to[i] = from[i];
+    }
+}
+
+// Grounds 6 and 7, of a table that has passed those before.
+fn judge_flow(table: &[u8], index: &[u32], n: usize) -> Verdict
+    requires { ⌜ Indexed (tableOf (now table)) (now index) ⌝ }
+    requires { ⌜ n ≡ lineTotal (tableOf (now table)) ⌝ }
+    requires { ⌜ first (kindWrong (tableOf (now table))) n ≡ n ⌝ }
+    ensures { λ r. ⌜ r ≡ judgedFlow (tableOf (now (table .entry))) n ⌝ }
+{
+    let mut marks = [0u32; MAX_NODES];
+    flow::mark_flow(table, index, &mut marks);
+    let unwritten = flow::first_reads_unwritten(table, index, &marks, n);
+    if unwritten < n {
+        return Verdict::Fault(Ground::Unwritten, unwritten + 1);
+    }
+    let unreachable = flow::first_unreachable(table, &marks, n);
+    if unreachable < n {
+        return Verdict::Fault(Ground::Unreachable, unreachable + 1);
+    }
+    Verdict::Sound
+}
+
+// Grounds 4 and on, of a table that has passed ground 3.
+fn judge_rows(table: &[u8], index: &[u32], n: usize) -> Verdict
+    requires { ⌜ Indexed (tableOf (now table)) (now index) ⌝ }
+    requires { ⌜ n ≡ lineTotal (tableOf (now table)) ⌝ }
+    requires { ⌜ first (kindWrong (tableOf (now table))) n ≡ n ⌝ }
+    ensures { λ r. ⌜ r ≡ judgedRows (tableOf (now (table .entry))) n ⌝ }
+{
+    let range = checks::first_out_of_range(table, index, n);
+    if range < n {
+        return Verdict::Fault(Ground::Range, range + 1);
+    }
+    let types = checks::first_types_disagree(table, index, n);
+    if types < n {
+        return Verdict::Fault(Ground::Types, types + 1);
+    }
+    judge_flow(table, index, n)
+}
+
+// Grounds 3 and on, of a table of n lines. The index of a table in which there is no fault is left in `index`.
+fn judge(table: &[u8], index: &mut [u32], n: usize) -> Verdict
+    requires { ⌜ now index ≡ replicate indexLength 0 ⌝ }
+    ensures { λ r. ⌜ r ≡ judged (tableOf (now (table .entry))) n ⌝ }
+    ensures { λ r. ⌜ (r ≡ Verdict.Sound → Indexed (tableOf (now (table .entry))) (now (index .exit))) ⌝ }
+{
+    if !table::header_in_range(table) {
+        return Verdict::Fault(Ground::Header, 1);
+    }
+    if n != table::line_total(table) {
+        return Verdict::Fault(Ground::Total, 1);
+    }
+    let kind = table::first_kind_wrong(table, n);
+    if kind < n {
+        return Verdict::Fault(Ground::Kind, kind + 1);
+    }
+    if !table::sums_agree(table) {
+        return Verdict::Fault(Ground::Sums, 1);
+    }
+    table::fill_index(table, index);
+    judge_rows(table, index, n)
+}
+
+// The verdict on a file; the numbers of a file in which there is no fault are left in `table`, which comes as zeros.
+fn judge_file(file: &[u8], table: &mut [u8]) -> Verdict
+    requires { ⌜ now table ≡ replicate tableLength 0 ⌝ }
+    ensures { λ r. ⌜ r ≡ verdict (now (file .entry)) ⌝ }
+    ensures { λ r. ⌜ (r ≡ Verdict.Sound → tableOf (now (table .exit)) ≡ fileTable (now (file .entry))) ⌝ }
+{
+    if not_lines(file) {
+        return Verdict::Fault(Ground::Lines, 0);
+    }
+    let n = file.len() / LINE;
+    let malformed = read_lines(file, table, n);
+    if malformed < n {
+        return Verdict::Fault(Ground::Field, malformed + 1);
+    }
+    let mut index = [0u32; INDEX];
+    judge(table, &mut index, n)
+}
+
+// Loads a file: its table into the buffer if the file is in order and the buffer has the table's length. Else nothing changes.
+pub fn load(file: &[u8], table: &mut [u8]) -> Loaded
+    ensures { λ r. ⌜ _≡_ {A = Outcome} (record { answer = r; table = now (table .exit) }) (loaded (now (file .entry)) (now (table .entry))) ⌝ }
+{
+    let mut own = [0u8; TABLE];
+    match judge_file(file, &mut own) {
+        Verdict::Fault(ground, line) => Loaded::FileRefused(ground, line),
+        Verdict::Sound => {
+            if table.len() != TABLE {
+                return Loaded::WrongLength;
+            }
+            copy_table(&own, table);
+            Loaded::Done
+        }
+    }
+}
+
+// Whether the rows behind the first n, the header's number of lines, are 0.
+fn rest_is_zero(table: &[u8], n: usize) -> bool
+    requires { ⌜ n ≤ maxRows ⌝ }
+    requires { ⌜ n ≡ lineTotal (tableOf (now table)) ⌝ }
+    ensures { λ r. ⌜ r ≡ every (restZero (tableOf (now (table .entry)))) maxRows ⌝ }
+{
+    for row in n..MAX_ROWS {
+        if !checks::rest_unused(table, row, 0) {
+            return false;
+        }
+    }
+    true
+}
+
+// Ground 9: whether the table is one that loading yields; the index of such a table is left in `index`, which comes as zeros.
+pub fn accept(table: &[u8], index: &mut [u32]) -> bool
+    requires { ⌜ now index ≡ replicate indexLength 0 ⌝ }
+    ensures { λ r. ⌜ r ≡ accepted (now (table .entry)) ⌝ }
+    ensures { λ r. ⌜ (r ≡ true → Indexed (tableOf (now (table .entry))) (now (index .exit))) ⌝ }
+{
+    if table.len() != TABLE {
+        return false;
+    }
+    let n = table::line_total(table);
+    match judge(table, index, n) {
+        Verdict::Sound => rest_is_zero(table, n),
+        Verdict::Fault(_, _) => false,
+    }
+}

@@ -1,0 +1,9 @@
+pub mod Blocks
+pub mod Sums
+pub mod Paths
+pub mod Grounds
+pub mod Written
+pub mod Printed
+pub mod Yields
+pub mod Lowest
+pub mod Examples

@@ -1,0 +1,62 @@
+-- Paths: they begin at the first node of a definition and follow next and child alike. Nodes are counted over the whole file.
+pub mod Pass
+pub mod Laws
+use Prim.Native.Nat.{ℕ, _+_, _<_}
+use mathlib.Core.Path.{_≡_}
+use mathlib.Core.Logic.{_⊎_}
+use mathlib.Core.Bool.{Bool, true, false, _||_}
+use lib.Dec.{eqb}
+use Rattle.numbers.specs.Rows.{at}
+use Rattle.table.specs.Table.{Table, nodes, nodeRow, branchRow, parameters}
+use Rattle.table.specs.Layout.{start, branchCount, definitionOf}
+use Rattle.table.specs.Roles.{operand, operandRole, reads}
+use Rattle.table.specs.declared.Part.the-variants.{Nodes, Branches}
+use Rattle.flow.specs.Flow.{slotWritten}
+
+module _ (tb : Table) where
+  -- the first node of the definition that node n stands in
+  abbrev pub firstNode : ℕ → ℕ
+  firstNode n = start tb Nodes (definitionOf tb n)
+
+  -- the row of branch i of node n
+  abbrev pub rowOf : ℕ → ℕ → ℕ
+  rowOf n i = branchRow tb + (start tb Branches n + i)
+
+  -- where the branch in row r leads, in a definition that starts at node f: to its next node, and a spawn to its child too
+  abbrev pub Leads : ℕ → ℕ → ℕ → Type 0
+  Leads f r t = (t ≡ f + at tb r 8) ⊎ ((at tb r 4 ≡ 4) × (t ≡ f + at tb r 9))
+
+  -- branch i of node n leads to node t
+  pub record Edge (n i t : ℕ) : Type 0 where
+    pub branch : i < branchCount tb n
+    pub leads : Leads (firstNode n) (rowOf n i) t
+
+  -- the paths to a node
+  pub data Path : ℕ → Type 0 where
+    begin : {n : ℕ} → n < nodes tb → n ≡ firstNode n → Path n
+    follow : {n t : ℕ} → Path n → (i : ℕ) → Edge n i t → Path t
+
+  -- whether a branch on the path writes slot k
+  unfoldable pub wrote : {n : ℕ} → ℕ → Path n → Bool
+  wrote k (begin b e) = false
+  wrote k (follow {n} p i e) = wrote k p || eqb k (slotWritten tb (rowOf n i))
+
+  -- the call at node n reads slot k, as one of its arguments
+  abbrev pub CallReads : ℕ → ℕ → Type 0
+  CallReads n k = (j : ℕ) × (at tb (nodeRow tb + n) 1 ≡ 2) × (j < parameters tb (at tb (nodeRow tb + n) 2)) × (k ≡ at tb (nodeRow tb + n) (3 + j))
+
+  -- the branch in row r reads slot k, as one of its operands
+  abbrev pub BranchReads : ℕ → ℕ → Type 0
+  BranchReads r k = (j : ℕ) × (j < 5) × (reads (operandRole tb r j) ≡ true) × (k ≡ operand tb r j)
+
+  -- slot k is read at node n, by its call or by one of its branches
+  abbrev pub IsRead : ℕ → ℕ → Type 0
+  IsRead n k = CallReads n k ⊎ ((i : ℕ) × (i < branchCount tb n) × BranchReads (rowOf n i) k)
+
+  -- some path leads to node n
+  abbrev pub Reachable : ℕ → Type 0
+  Reachable n = Path n
+
+  -- slot k is a parameter, or was written on every path to node n
+  abbrev pub SurelyWritten : ℕ → ℕ → Type 0
+  SurelyWritten n k = (k < parameters tb (definitionOf tb n)) ⊎ ((p : Path n) → wrote k p ≡ true)

@@ -1,0 +1,67 @@
+//! The test for tables that loading yields, against the reference, on very many tables.
+
+use differential::for_seeds;
+use generate::cases::Case;
+use generate::{any_valid, damaged_table, table_of, LINE_BYTES, TABLE_BYTES};
+
+fn compare(table: &[u8], about: &str) -> bool {
+    let expected = reference::accepted(table);
+    assert_eq!(probe::accepted(table), expected, "{about}: the reference says {expected}");
+    expected
+}
+
+#[test]
+fn right_tables() {
+    for_seeds(5_000_000, 2_000, |random, about| {
+        let file = any_valid(random);
+        let table = table_of(&file.rows);
+        assert!(compare(&table, about), "{about}: made to be right");
+        let loaded = reference::load(&file.text()).expect("made to be right");
+        assert!(loaded.to_bytes() == table, "{about}: the table of a file is its numbers");
+    });
+}
+
+#[test]
+fn damaged_tables() {
+    let (mut right, mut wrong) = (0, 0);
+    for_seeds(6_000_000, 4_000, |random, about| {
+        let file = any_valid(random);
+        for number in 0..10 {
+            let table = damaged_table(random, &file);
+            match compare(&table, &format!("{about}, table {number}")) {
+                true => right += 1,
+                false => wrong += 1,
+            }
+        }
+    });
+    println!("{right} accepted, {wrong} not");
+    assert!(right >= 1_000 && wrong >= 20_000);
+}
+
+#[test]
+fn tables_of_wrong_length_and_without_content() {
+    for length in [0, 1, 24, TABLE_BYTES - 1, TABLE_BYTES, TABLE_BYTES + 1, 2 * TABLE_BYTES] {
+        for byte in [0, 1, 255] {
+            assert!(!compare(&vec![byte; length], "no table"));
+        }
+    }
+}
+
+/// The numbers of a case that has whole lines of numbers make a table that is accepted if the file is.
+fn check(case: &Case) {
+    if case.ground == 1 || case.ground == 2 {
+        return;
+    }
+    let lines = case.file.chunks(LINE_BYTES);
+    let fields = lines.flat_map(|line| line[..LINE_BYTES - 1].chunks(6));
+    let mut table: Vec<u8> = fields.flat_map(|field| number_of(field).to_le_bytes()).collect();
+    table.resize(TABLE_BYTES, 0);
+    assert_eq!(compare(&table, &case.name), case.ground == 0, "{}", case.name);
+}
+
+fn number_of(field: &[u8]) -> i16 {
+    let text = std::str::from_utf8(field).expect("well formed");
+    text.trim_start().parse().expect("well formed")
+}
+
+generate::case_tests!(check);
