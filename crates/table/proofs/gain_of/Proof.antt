@@ -3,18 +3,18 @@ use Rattle.table.specs.Form.{gain}
 use Rattle.numbers.specs.Tests.{tests}
 use Rattle.table.proofs.gain_of.Statement.{statement}
 use Rattle.table.proofs.gain_of.Tie as tie
-use Rattle.table.proofs.gain_of.Reads as reads
-use Rattle.table.proofs.gain_of.Lts as lts
 
--- src/lib.rt:211:9
 returns : tie.Need-returns
 unfolding gain
 returns c = (search tests, omega arith)
 
--- src/lib.rt:205:1
 returns-2 : tie.Need-returns-2
 unfolding gain
 returns-2 c = (search tests, omega arith)
 
 pub gain-of-spec : {M : Type 1} → statement M
-gain-of-spec = tie.close (tie.spec returns returns-2)
+gain-of-spec =
+    tie.close
+    (tie.spec
+    returns
+    returns-2)

@@ -3,28 +3,28 @@ use borrow.Author.Tests.{eq-eqb, ne-eqb, lt-ltb, le-ltb}
 use Rattle.numbers.specs.Tests.{cond-yes, cond-no}
 use Rattle.table.proofs.guard_role.Statement.{statement}
 use Rattle.table.proofs.guard_role.Tie as tie
-use Rattle.table.proofs.guard_role.Reads as reads
-use Rattle.table.proofs.guard_role.Lts as lts
 
--- src/lib.rt:259:9
 returns : tie.Need-returns
 unfolding guardRole
 returns c = search (cond-yes, cond-no, eq-eqb, ne-eqb, lt-ltb, le-ltb) depth 9
 
--- src/lib.rt:263:13
 returns-2 : tie.Need-returns-2
 unfolding guardRole
 returns-2 c = search (cond-yes, cond-no, eq-eqb, ne-eqb, lt-ltb, le-ltb) depth 9
 
--- src/lib.rt:265:9
 returns-3 : tie.Need-returns-3
 unfolding guardRole
 returns-3 c = search (cond-yes, cond-no, eq-eqb, ne-eqb, lt-ltb, le-ltb) depth 9
 
--- src/lib.rt:255:1
 returns-4 : tie.Need-returns-4
 unfolding guardRole
 returns-4 c = search (cond-yes, cond-no, eq-eqb, ne-eqb, lt-ltb, le-ltb) depth 9
 
 pub guard-role-spec : {M : Type 1} → statement M
-guard-role-spec = tie.close (tie.spec returns returns-2 returns-3 returns-4)
+guard-role-spec =
+    tie.close
+    (tie.spec
+    returns
+    returns-2
+    returns-3
+    returns-4)

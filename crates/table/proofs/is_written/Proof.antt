@@ -2,77 +2,35 @@ use Rattle.table.specs.Roles.{writes}
 use borrow.Author.Needs.{needs}
 use Rattle.table.proofs.is_written.Statement.{statement}
 use Rattle.table.proofs.is_written.Tie as tie
-use Rattle.table.proofs.is_written.Reads as reads
-use Rattle.table.proofs.is_written.Lts as lts
 
--- src/lib.rt:366:25
-enum-told : tie.Need-enum-told
-enum-told c = search needs
-
--- src/lib.rt:367:27
-enum-told-2 : tie.Need-enum-told-2
-enum-told-2 c = search needs
-
--- src/lib.rt:368:29
-enum-told-3 : tie.Need-enum-told-3
-enum-told-3 c = search needs
-
--- src/lib.rt:369:30
-enum-told-4 : tie.Need-enum-told-4
-enum-told-4 c = search needs
-
--- src/lib.rt:370:30
-enum-told-5 : tie.Need-enum-told-5
-enum-told-5 c = search needs
-
--- src/lib.rt:371:30
-enum-told-6 : tie.Need-enum-told-6
-enum-told-6 c = search needs
-
--- src/lib.rt:372:31
-enum-told-7 : tie.Need-enum-told-7
-enum-told-7 c = search needs
-
--- src/lib.rt:373:31
-enum-told-8 : tie.Need-enum-told-8
-enum-told-8 c = search needs
-
--- src/lib.rt:362:1
 returns : tie.Need-returns
 unfolding writes
 returns c = cc
 
--- src/lib.rt:362:1
 returns-2 : tie.Need-returns-2
 unfolding writes
 returns-2 c = cc
 
--- src/lib.rt:362:1
 returns-3 : tie.Need-returns-3
 unfolding writes
 returns-3 c = cc
 
--- src/lib.rt:362:1
 returns-4 : tie.Need-returns-4
 unfolding writes
 returns-4 c = cc
 
--- src/lib.rt:362:1
 returns-5 : tie.Need-returns-5
 unfolding writes
 returns-5 c = cc
 
--- src/lib.rt:362:1
 returns-6 : tie.Need-returns-6
 unfolding writes
 returns-6 c = cc
 
--- src/lib.rt:362:1
 returns-7 : tie.Need-returns-7
 unfolding writes
 returns-7 c = cc
 
--- src/lib.rt:362:1
 returns-8 : tie.Need-returns-8
 unfolding writes
 returns-8 c = cc
@@ -81,14 +39,14 @@ pub is-written-spec : {M : Type 1} → statement M
 is-written-spec =
     tie.close
     (tie.spec
-    enum-told
-    enum-told-2
-    enum-told-3
-    enum-told-4
-    enum-told-5
-    enum-told-6
-    enum-told-7
-    enum-told-8
+    (λ c. search needs)
+    (λ c. search needs)
+    (λ c. search needs)
+    (λ c. search needs)
+    (λ c. search needs)
+    (λ c. search needs)
+    (λ c. search needs)
+    (λ c. search needs)
     returns
     returns-2
     returns-3
