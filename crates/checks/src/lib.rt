@@ -1,28 +1,29 @@
-// Grounds 4 and 5 of the loader over a table whose kinds and counts ground 3 has passed: fields out of their range, and types that disagree.
+// Grounds 4 and 5 of the loader over a table whose counts ground 3 has passed: fields out of their range, and types that disagree.
 // A row is tested by its kind. Its node and its definition are looked up once and handed down.
 ghost use mathlib.Core.Path.{_≡_};
-ghost use Prim.Native.Nat.{_-_, _≤_, _<_};
-ghost use Rattle.numbers.specs.Rows.{at};
+ghost use Prim.Native.Nat.{_≤_, _<_};
 ghost use Rattle.numbers.specs.Search.{every, first};
-ghost use Rattle.table.specs.Table.{tableOf, definitions, nodes, nodeRow, branchRow, lineTotal, parameters, slotCount, nodeCount, carried};
-ghost use Rattle.table.specs.Layout.{start, definitionOf, nodeOf, slotType};
+ghost use Rattle.table.specs.Table.{tableOf, carried};
+ghost use Rattle.table.specs.Layout.{start, slotType};
 ghost use Rattle.table.specs.Index.{Indexed};
-ghost use Rattle.table.specs.Form.{kindDue, kindWrong};
 ghost use Rattle.table.specs.Roles.{operand};
-ghost use Rattle.table.specs.declared.Part.the-variants.{Nodes, Slots};
+ghost use Rattle.table.specs.declared.Part.the-variants.{Nodes};
 ghost use Rattle.checks.specs.Ranges.{roleInRange, ahead, unusedFrom, restUnused, typeInRange, definitionInRange, argumentInRange, callInRange, nodeInRange, operandInRange, targetsInRange, branchInRange, rowInRange, outOfRange};
 ghost use Rattle.checks.specs.Types.{roleTyped, portTyped, portsTyped, argumentTyped, nodeTyped, operandTyped, branchTyped, rowTyped, typesDisagree};
 use table::Part;
 use table::Role;
-use table::branch_row;
 use table::cell;
+use table::definition_at;
 use table::definition_row;
 use table::is_within;
-use table::node_row;
+use table::node_at;
+use table::nodes_of;
 use table::operand_of;
 use table::owner_of;
+use table::parameters_of;
 use table::role_of;
 use table::slot_row;
+use table::slots_of;
 use table::start_of;
 
 const ROW_NUMBERS: usize = 12;
@@ -36,48 +37,6 @@ const MAX_OWN_NODES: u32 = 192;
 const MAX_OWN_BRANCHES: u32 = 8;
 
 const OPERANDS: u32 = 5;
-
-// Of definition d: its parameters, slots and nodes.
-fn parameters_of(table: &[u8], d: u32) -> u32
-    ensures { λ r. ⌜ r ≡ parameters (tableOf (now (table .entry))) d ⌝ }
-    ensures { λ r. ⌜ r < 65536 ⌝ }
-{
-    cell(table, definition_row(table) + d as usize, 1)
-}
-
-fn slots_of(table: &[u8], d: u32) -> u32
-    ensures { λ r. ⌜ r ≡ slotCount (tableOf (now (table .entry))) d ⌝ }
-{
-    cell(table, definition_row(table) + d as usize, 2)
-}
-
-fn nodes_of(table: &[u8], d: u32) -> u32
-    ensures { λ r. ⌜ r ≡ nodeCount (tableOf (now (table .entry))) d ⌝ }
-{
-    cell(table, definition_row(table) + d as usize, 3)
-}
-
-// The definition of the node in a row, and the node of the branch in a row.
-fn definition_at(table: &[u8], index: &[u32], row: usize) -> u32
-    requires { ⌜ Indexed (tableOf (now table)) (now index) ⌝ }
-    requires { ⌜ nodeRow (tableOf (now table)) ≤ row ⌝ }
-    requires { ⌜ row < branchRow (tableOf (now table)) ⌝ }
-    ensures { λ r. ⌜ r ≡ definitionOf (tableOf (now (table .entry))) (row - nodeRow (tableOf (now (table .entry)))) ⌝ }
-{
-    let node = (row - node_row(table)) as u32;
-    owner_of(table, index, Part::Nodes, node)
-}
-
-fn node_at(table: &[u8], index: &[u32], row: usize) -> u32
-    requires { ⌜ Indexed (tableOf (now table)) (now index) ⌝ }
-    requires { ⌜ branchRow (tableOf (now table)) ≤ row ⌝ }
-    requires { ⌜ row < lineTotal (tableOf (now table)) ⌝ }
-    ensures { λ r. ⌜ r ≡ nodeOf (tableOf (now (table .entry))) (row - branchRow (tableOf (now (table .entry)))) ⌝ }
-    ensures { λ r. ⌜ r ≤ nodes (tableOf (now (table .entry))) ⌝ }
-{
-    let branch = (row - branch_row(table)) as u32;
-    owner_of(table, index, Part::Branches, branch)
-}
 
 // Ground 4. Whether the numbers of a row from number k on are 0.
 fn unused_from(table: &[u8], row: usize, k: usize, i: usize) -> bool
@@ -159,8 +118,6 @@ fn call_in_range(table: &[u8], row: usize, s: u32) -> bool
 
 fn node_in_range(table: &[u8], index: &[u32], row: usize) -> bool
     requires { ⌜ Indexed (tableOf (now table)) (now index) ⌝ }
-    requires { ⌜ nodeRow (tableOf (now table)) ≤ row ⌝ }
-    requires { ⌜ row < branchRow (tableOf (now table)) ⌝ }
     ensures { λ r. ⌜ r ≡ nodeInRange (tableOf (now (table .entry))) row ⌝ }
 {
     let form = cell(table, row, 1);
@@ -241,7 +198,6 @@ fn targets_in_range(table: &[u8], row: usize, own: u32, n: u32) -> bool
 
 fn branch_in_range(table: &[u8], index: &[u32], row: usize, node: u32, d: u32) -> bool
     requires { ⌜ Indexed (tableOf (now table)) (now index) ⌝ }
-    requires { ⌜ d ≤ definitions (tableOf (now table)) ⌝ }
     requires { ⌜ start (tableOf (now table)) Nodes d ≤ node ⌝ }
     ensures { λ r. ⌜ r ≡ branchInRange (tableOf (now (table .entry))) row node d ⌝ }
 {
@@ -263,8 +219,6 @@ fn branch_in_range(table: &[u8], index: &[u32], row: usize, node: u32, d: u32) -
 
 fn row_in_range(table: &[u8], index: &[u32], row: usize) -> bool
     requires { ⌜ Indexed (tableOf (now table)) (now index) ⌝ }
-    requires { ⌜ row < lineTotal (tableOf (now table)) ⌝ }
-    requires { ⌜ at (tableOf (now table)) row 0 ≡ kindDue (tableOf (now table)) row ⌝ }
     ensures { λ r. ⌜ r ≡ rowInRange (tableOf (now (table .entry))) row ⌝ }
 {
     let kind = cell(table, row, 0);
@@ -289,15 +243,13 @@ fn row_in_range(table: &[u8], index: &[u32], row: usize) -> bool
         index,
         row,
         node,
-        owner_of(table, index, Part::Nodes, node),
+        owner_of(table, index, Part::Nodes, node as usize),
     )
 }
 
 // The first of the rows with a field out of its range; n where there is none.
 pub fn first_out_of_range(table: &[u8], index: &[u32], n: usize) -> usize
     requires { ⌜ Indexed (tableOf (now table)) (now index) ⌝ }
-    requires { ⌜ n ≡ lineTotal (tableOf (now table)) ⌝ }
-    requires { ⌜ first (kindWrong (tableOf (now table))) n ≡ n ⌝ }
     ensures { λ r. ⌜ r ≡ first (outOfRange (tableOf (now (table .entry)))) n ⌝ }
 {
     for row in 0..n {
@@ -308,17 +260,7 @@ pub fn first_out_of_range(table: &[u8], index: &[u32], n: usize) -> usize
     n
 }
 
-// Ground 5. Where the slots of definition d start; 0 past the last definition, where the index has no place.
-fn slots_from(table: &[u8], index: &[u32], d: u32) -> u32
-    requires { ⌜ Indexed (tableOf (now table)) (now index) ⌝ }
-    ensures { λ r. ⌜ r ≡ start (tableOf (now (table .entry))) Slots d ⌝ }
-{
-    if d <= cell(table, 0, 2) {
-        return start_of(table, index, Part::Slots, d);
-    }
-    0
-}
-
+// Ground 5. The type of slot k of definition d.
 fn slot_type(table: &[u8], index: &[u32], d: u32, k: u32) -> u32
     requires { ⌜ Indexed (tableOf (now table)) (now index) ⌝ }
     ensures { λ r. ⌜ r ≡ slotType (tableOf (now (table .entry))) d k ⌝ }
@@ -327,7 +269,7 @@ fn slot_type(table: &[u8], index: &[u32], d: u32, k: u32) -> u32
     let first = slot_row(table);
     cell(
         table,
-        first + (slots_from(table, index, d) as usize + k as usize),
+        first + (start_of(table, index, Part::Slots, d) as usize + k as usize),
         1,
     )
 }
@@ -463,8 +405,6 @@ fn branch_typed(table: &[u8], index: &[u32], row: usize, d: u32) -> bool
 
 fn row_typed(table: &[u8], index: &[u32], row: usize) -> bool
     requires { ⌜ Indexed (tableOf (now table)) (now index) ⌝ }
-    requires { ⌜ row < lineTotal (tableOf (now table)) ⌝ }
-    requires { ⌜ at (tableOf (now table)) row 0 ≡ kindDue (tableOf (now table)) row ⌝ }
     ensures { λ r. ⌜ r ≡ rowTyped (tableOf (now (table .entry))) row ⌝ }
 {
     if row == definition_row(table) {
@@ -476,7 +416,12 @@ fn row_typed(table: &[u8], index: &[u32], row: usize) -> bool
     }
     if kind == 6 {
         let node = node_at(table, index, row);
-        return branch_typed(table, index, row, owner_of(table, index, Part::Nodes, node));
+        return branch_typed(
+            table,
+            index,
+            row,
+            owner_of(table, index, Part::Nodes, node as usize),
+        );
     }
     true
 }
@@ -484,8 +429,6 @@ fn row_typed(table: &[u8], index: &[u32], row: usize) -> bool
 // The first of the rows where types disagree; n where there is none.
 pub fn first_types_disagree(table: &[u8], index: &[u32], n: usize) -> usize
     requires { ⌜ Indexed (tableOf (now table)) (now index) ⌝ }
-    requires { ⌜ n ≡ lineTotal (tableOf (now table)) ⌝ }
-    requires { ⌜ first (kindWrong (tableOf (now table))) n ≡ n ⌝ }
     ensures { λ r. ⌜ r ≡ first (typesDisagree (tableOf (now (table .entry)))) n ⌝ }
 {
     for row in 0..n {

@@ -10,11 +10,11 @@ use borrow.Author.Tests.{eq-eqb, ne-eqb, le-leb}
 use Rattle.numbers.specs.Rows.{at}
 use Rattle.numbers.specs.Search.{tabulate}
 use Rattle.numbers.specs.Search.Laws.{caseB, sum-none, tabulate-none, tabulate-suc, tabulate-cong}
-use Rattle.table.specs.Table.{Table, nodes, definitionRow, parameters}
+use Rattle.table.specs.Table.{Table, nodes, parameters}
 use Rattle.table.specs.Layout.{blocks, lines, size, start, definitionOf}
 use Rattle.table.specs.Form.Laws.{header-counts}
 use Rattle.table.specs.Index.{Indexed}
-use Rattle.table.specs.Index.Laws.{owner-past}
+use Rattle.table.specs.Layout.Laws.{owner-past}
 use Rattle.numbers.specs.Laid.{laid}
 use Rattle.numbers.specs.Laid.Laws.{laid-none, laid-put, laid-skip, laid-all}
 use Rattle.table.specs.declared.Part.{Part}
@@ -34,9 +34,9 @@ module _ (tb : Table) where
   start-zero p = rw (le-leb 0 (blocks tb p) (omega arith)) (sum-none (size tb p))
 
   module _ (n d s : ℕ) (e : d ≡ definitionOf tb n) (f : s ≡ start tb Nodes d) where
-    pub seed-first : (b p r : ℕ) → n ≡ s → b ≡ definitionRow tb → p ≡ at tb (b + d) 1 → r ≡ marksFrom p → r ≡ seed tb n
+    pub seed-first : (p r : ℕ) → n ≡ s → p ≡ parameters tb d → r ≡ marksFrom p → r ≡ seed tb n
     unfolding seed
-    seed-first b p r g h i j = rw (← e, ← f, eq-eqb n s g, j, i, h)
+    seed-first p r g i j = rw (← e, ← f, eq-eqb n s g, j, i)
 
     pub seed-other : (n ≡ s → ⊥) → 0 ≡ seed tb n
     unfolding seed

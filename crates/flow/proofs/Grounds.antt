@@ -1,20 +1,13 @@
 -- What the functions of grounds 6 and 7 answer. Assumes nothing.
-use Prim.Native.Nat.{ℕ, _+_, _-_, _≤_, _<_}
+use Prim.Native.Nat.{ℕ, _+_, _-_}
 use mathlib.Core.Path.{_≡_, _∙_}
 use mathlib.Core.Bool.{Bool, true, false, not}
 use mathlib.Core.List.{List}
-use native.Mathlib.Omega.{arith}
-use mir.Syntax.{w32}
-use mir.Val.{Fits}
-use mir.Facts.{fits-below}
 use borrow.Author.Tests.{ne-eqb}
 use Rattle.numbers.specs.Rows.{at}
 use Rattle.numbers.specs.Search.{every}
-use Rattle.table.specs.Table.{Table, nodeRow, branchRow, lineTotal, definitionRow}
-use Rattle.table.specs.Layout.{lines, nodeOf}
-use Rattle.table.specs.Form.Laws.{header-counts}
-use Rattle.table.specs.Index.{Indexed}
-use Rattle.table.specs.declared.Part.the-variants.{Branches}
+use Rattle.table.specs.Table.{Table, nodeRow, branchRow, parameters}
+use Rattle.table.specs.Layout.{nodeOf}
 use Rattle.table.specs.Roles.{operand, operandRole, reads}
 use Rattle.table.specs.declared.Role.{Role}
 use Rattle.flow.specs.Flow.{Marks, flow, marked, mayLack, argumentWritten, callWritten, operandWritten, rowWritten, unreachable}
@@ -38,15 +31,6 @@ module _ (tb : Table) (ms : Marks) (e : ms ≡ flow tb) where
   unfolding unreachable
   node-reached r a n t f g h i = rw (← f, g, lacks n 16 t i, h)
 
--- the branch in row r, numbered over the whole file, is one of the header's
-module _ (tb : Table) (r b : ℕ) (h : r < lineTotal tb) (e : b ≡ r - branchRow tb) where
-  pub branch-place : b ≤ lines tb Branches
-  unfolding lines
-  branch-place = omega arith
-
-  pub branch-fits : (x : List ℕ) → Indexed tb x → Fits w32 b
-  branch-fits x g = let c = header-counts tb (g .counts) in fits-below {w = w32} {m = b} {n = 384} tt (omega arith)
-
 module _ (tb : Table) (r : ℕ) where
   pub operand-idle : (n k : ℕ) (a : Role) (u : Bool) → a ≡ operandRole tb r k → u ≡ reads a → u ≡ false → true ≡ operandWritten tb r n k
   unfolding operandWritten
@@ -57,9 +41,9 @@ module _ (tb : Table) (r : ℕ) where
   no-node a f g = rw (← f, ne-eqb a 5 g)
 
   module _ (n a : ℕ) (e : a ≡ at tb r 1) where
-    pub call-is : (b d p : ℕ) (t : Bool) → a ≡ 2 → b ≡ definitionRow tb → d ≡ at tb r 2 → p ≡ at tb (b + d) 1 → t ≡ every (argumentWritten tb r n) p → t ≡ callWritten tb r n
+    pub call-is : (d p : ℕ) (t : Bool) → a ≡ 2 → d ≡ at tb r 2 → p ≡ parameters tb d → t ≡ every (argumentWritten tb r n) p → t ≡ callWritten tb r n
     unfolding callWritten
-    call-is b d p t f g h i j = j ∙ rw (← e, f, i, g, h)
+    call-is d p t f h i j = j ∙ rw (← e, f, i, h)
 
     pub call-other : (a ≡ 2 → ⊥) → true ≡ callWritten tb r n
     unfolding callWritten

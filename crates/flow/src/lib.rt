@@ -4,7 +4,7 @@ ghost use mathlib.Core.Path.{_≡_};
 ghost use Prim.Native.Nat.{_+_, _-_, _≤_, _<_};
 ghost use lib.ListN.{set, replicate};
 ghost use Rattle.numbers.specs.Search.{every, first};
-ghost use Rattle.table.specs.Table.{tableOf, nodes, nodeRow, branchRow, lineTotal};
+ghost use Rattle.table.specs.Table.{tableOf, nodes, nodeRow, branchRow};
 ghost use Rattle.table.specs.Layout.{start, branchCount, definitionOf, nodeOf};
 ghost use Rattle.table.specs.Index.{Indexed};
 ghost use Rattle.table.specs.declared.Part.the-variants.{Nodes, Branches};
@@ -76,22 +76,20 @@ fn marks_from(p: u32) -> u32
 // The first node of the definition of node n.
 fn first_node(table: &[u8], index: &[u32], n: u32) -> u32
     requires { ⌜ Indexed (tableOf (now table)) (now index) ⌝ }
-    requires { ⌜ n < nodes (tableOf (now table)) ⌝ }
     ensures { λ r. ⌜ r ≡ start (tableOf (now (table .entry))) Nodes (definitionOf (tableOf (now (table .entry))) n) ⌝ }
 {
-    let d = table::owner_of(table, index, Part::Nodes, n);
+    let d = table::owner_of(table, index, Part::Nodes, n as usize);
     table::start_of(table, index, Part::Nodes, d)
 }
 
 // The marks that node n begins with.
 fn seed_of(table: &[u8], index: &[u32], n: u32) -> u32
     requires { ⌜ Indexed (tableOf (now table)) (now index) ⌝ }
-    requires { ⌜ n < nodes (tableOf (now table)) ⌝ }
     ensures { λ r. ⌜ r ≡ seed (tableOf (now (table .entry))) n ⌝ }
 {
-    let d = table::owner_of(table, index, Part::Nodes, n);
+    let d = table::owner_of(table, index, Part::Nodes, n as usize);
     if n == table::start_of(table, index, Part::Nodes, d) {
-        return marks_from(table::cell(table, table::definition_row(table) + d as usize, 1));
+        return marks_from(table::parameters_of(table, d));
     }
     0
 }
@@ -99,7 +97,6 @@ fn seed_of(table: &[u8], index: &[u32], n: u32) -> u32
 // Node n gets the marks that it begins with.
 fn begin_at(table: &[u8], index: &[u32], n: u32, marks: &mut [u32])
     requires { ⌜ Indexed (tableOf (now table)) (now index) ⌝ }
-    requires { ⌜ n < nodes (tableOf (now table)) ⌝ }
     ensures { λ _. ⌜ now (marks .exit) ≡ set (now (marks .entry)) n (seed (tableOf (now (table .entry))) n) ⌝ }
 {
     numbers::put_cell(marks, n as usize, seed_of(table, index, n));
@@ -134,7 +131,6 @@ fn follow_branch(table: &[u8], f: u32, m: u32, row: usize, marks: &mut [u32])
 // The row of the first branch of node n.
 fn first_branch(table: &[u8], index: &[u32], n: u32) -> usize
     requires { ⌜ Indexed (tableOf (now table)) (now index) ⌝ }
-    requires { ⌜ n < nodes (tableOf (now table)) ⌝ }
     ensures { λ r. ⌜ r ≡ branchRow (tableOf (now (table .entry))) + start (tableOf (now (table .entry))) Branches n ⌝ }
     ensures { λ r. ⌜ r < 4295229440 ⌝ }
 {
@@ -144,7 +140,6 @@ fn first_branch(table: &[u8], index: &[u32], n: u32) -> usize
 // Each branch of node n, which has the marks m, leads on.
 fn follow_branches(table: &[u8], index: &[u32], n: u32, m: u32, marks: &mut [u32])
     requires { ⌜ Indexed (tableOf (now table)) (now index) ⌝ }
-    requires { ⌜ n < nodes (tableOf (now table)) ⌝ }
     ensures { λ _. ⌜ marksOf (now (marks .exit)) ≡ branchesFollowed (tableOf (now (table .entry))) n (bits m) (marksOf (now (marks .entry))) (branchCount (tableOf (now (table .entry))) n) ⌝ }
 {
     let f = first_node(table, index, n);
@@ -205,8 +200,8 @@ fn call_written(table: &[u8], marks: &[u32], row: usize, n: usize) -> bool
     ensures { λ r. ⌜ r ≡ callWritten (tableOf (now (table .entry))) row n ⌝ }
 {
     if table::cell(table, row, 1) == 2 {
-        let callee = table::definition_row(table) + table::cell(table, row, 2) as usize;
-        return arguments_written(table, marks, row, n, table::cell(table, callee, 1));
+        let count = table::parameters_of(table, table::cell(table, row, 2));
+        return arguments_written(table, marks, row, n, count);
     }
     true
 }
@@ -235,48 +230,23 @@ fn operands_written(table: &[u8], marks: &[u32], row: usize, n: usize) -> bool
     true
 }
 
-// The node in a row, the branch in a row, and the node of that branch, each counted over the whole file.
-fn node_in(table: &[u8], row: usize) -> usize
-    ensures { λ r. ⌜ r ≡ row - nodeRow (tableOf (now (table .entry))) ⌝ }
-{
-    let from = table::node_row(table);
-    if row < from {
-        return 0;
-    }
-    row - from
-}
-
-fn branch_in(table: &[u8], row: usize) -> usize
-    ensures { λ r. ⌜ r ≡ row - branchRow (tableOf (now (table .entry))) ⌝ }
-{
-    let from = table::branch_row(table);
-    if row < from {
-        return 0;
-    }
-    row - from
-}
-
-fn node_of(table: &[u8], index: &[u32], row: usize) -> u32
-    requires { ⌜ Indexed (tableOf (now table)) (now index) ⌝ }
-    requires { ⌜ row < lineTotal (tableOf (now table)) ⌝ }
-    ensures { λ r. ⌜ r ≡ nodeOf (tableOf (now (table .entry))) (row - branchRow (tableOf (now (table .entry)))) ⌝ }
-{
-    table::owner_of(table, index, Part::Branches, branch_in(table, row) as u32)
-}
-
 // Ground 6: what a row reads is surely written.
 fn row_written(table: &[u8], index: &[u32], marks: &[u32], row: usize) -> bool
     requires { ⌜ Indexed (tableOf (now table)) (now index) ⌝ }
     requires { ⌜ marksOf (now marks) ≡ flow (tableOf (now table)) ⌝ }
-    requires { ⌜ row < lineTotal (tableOf (now table)) ⌝ }
     ensures { λ r. ⌜ r ≡ rowWritten (tableOf (now (table .entry))) row ⌝ }
 {
     let kind = table::cell(table, row, 0);
     if kind == 5 {
-        return call_written(table, marks, row, node_in(table, row));
+        return call_written(table, marks, row, table::node_in(table, row));
     }
     if kind == 6 {
-        return operands_written(table, marks, row, node_of(table, index, row) as usize);
+        return operands_written(
+            table,
+            marks,
+            row,
+            table::node_at(table, index, row) as usize,
+        );
     }
     true
 }
@@ -284,7 +254,6 @@ fn row_written(table: &[u8], index: &[u32], marks: &[u32], row: usize) -> bool
 fn reads_unwritten(table: &[u8], index: &[u32], marks: &[u32], row: usize) -> bool
     requires { ⌜ Indexed (tableOf (now table)) (now index) ⌝ }
     requires { ⌜ marksOf (now marks) ≡ flow (tableOf (now table)) ⌝ }
-    requires { ⌜ row < lineTotal (tableOf (now table)) ⌝ }
     ensures { λ r. ⌜ r ≡ readsUnwritten (tableOf (now (table .entry))) row ⌝ }
 {
     !row_written(table, index, marks, row)
@@ -294,7 +263,6 @@ fn reads_unwritten(table: &[u8], index: &[u32], marks: &[u32], row: usize) -> bo
 pub fn first_reads_unwritten(table: &[u8], index: &[u32], marks: &[u32], n: usize) -> usize
     requires { ⌜ Indexed (tableOf (now table)) (now index) ⌝ }
     requires { ⌜ marksOf (now marks) ≡ flow (tableOf (now table)) ⌝ }
-    requires { ⌜ n ≤ lineTotal (tableOf (now table)) ⌝ }
     ensures { λ r. ⌜ r ≡ first (readsUnwritten (tableOf (now (table .entry)))) n ⌝ }
 {
     for row in 0..n {
@@ -311,7 +279,7 @@ fn is_unreachable(table: &[u8], marks: &[u32], row: usize) -> bool
     ensures { λ r. ⌜ r ≡ unreachable (tableOf (now (table .entry))) row ⌝ }
 {
     if table::cell(table, row, 0) == 5 {
-        return !is_marked(marks, node_in(table, row), PATH_MARK);
+        return !is_marked(marks, table::node_in(table, row), PATH_MARK);
     }
     false
 }

@@ -7,7 +7,6 @@ ghost use Rattle.numbers.specs.Bytes.{shorts};
 ghost use Rattle.numbers.specs.Laid.{laid};
 ghost use Rattle.numbers.specs.Search.{every, first};
 ghost use Rattle.table.specs.Table.{tableOf, maxRows, lineTotal};
-ghost use Rattle.table.specs.Form.{kindWrong};
 ghost use Rattle.table.specs.Index.{indexLength, Indexed};
 ghost use Rattle.loader.specs.File.{lineCount, notLines, wellFormed, malformed, fileTable, numberIn};
 ghost use Rattle.loader.specs.Verdict.{judgedFlow, judgedRows, judged, verdict, restZero};
@@ -22,7 +21,7 @@ const ROW_NUMBERS: usize = 12;
 
 const TABLE: usize = 20760;
 
-const INDEX: usize = 807;
+const INDEX: usize = 803;
 
 const MAX_NODES: usize = 192;
 
@@ -114,8 +113,6 @@ fn copy_table(from: &[u8], to: &mut [u8])
 // Grounds 6 and 7, of a table that has passed those before.
 fn judge_flow(table: &[u8], index: &[u32], n: usize) -> Verdict
     requires { ⌜ Indexed (tableOf (now table)) (now index) ⌝ }
-    requires { ⌜ n ≡ lineTotal (tableOf (now table)) ⌝ }
-    requires { ⌜ first (kindWrong (tableOf (now table))) n ≡ n ⌝ }
     ensures { λ r. ⌜ r ≡ judgedFlow (tableOf (now (table .entry))) n ⌝ }
 {
     let mut marks = [0u32; MAX_NODES];
@@ -134,8 +131,6 @@ fn judge_flow(table: &[u8], index: &[u32], n: usize) -> Verdict
 // Grounds 4 and on, of a table that has passed ground 3.
 fn judge_rows(table: &[u8], index: &[u32], n: usize) -> Verdict
     requires { ⌜ Indexed (tableOf (now table)) (now index) ⌝ }
-    requires { ⌜ n ≡ lineTotal (tableOf (now table)) ⌝ }
-    requires { ⌜ first (kindWrong (tableOf (now table))) n ≡ n ⌝ }
     ensures { λ r. ⌜ r ≡ judgedRows (tableOf (now (table .entry))) n ⌝ }
 {
     let range = checks::first_out_of_range(table, index, n);

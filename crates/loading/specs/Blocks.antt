@@ -9,6 +9,7 @@ use Rattle.numbers.specs.Search.{first, sumTo}
 use Rattle.numbers.specs.Search.Laws.{caseB, first-is, first-passes, first-below, first-le, sum-none, sum-suc, sum-mono}
 use Rattle.table.specs.Table.{Table}
 use Rattle.table.specs.Layout.{blocks, lines, size, start, owner, endsPast}
+use Rattle.table.specs.Layout.Laws.{start-sum, starts-by}
 use Rattle.table.specs.declared.Part.{Part}
 
 -- the blocks of a part hold just the lines that the header gives to it
@@ -22,18 +23,11 @@ pub record Stands (tb : Table) (p : Part) (x d : ℕ) : Type 0 where
   pub before : x < start tb p (suc d)
 
 module _ (tb : Table) (p : Part) where
-  pub start-sum : (i : ℕ) → i ≤ blocks tb p → start tb p i ≡ sumTo (size tb p) i
-  unfolding start
-  start-sum i h = rw (le-leb i (blocks tb p) h)
-
-  pub start-none : start tb p 0 ≡ 0
-  start-none = start-sum 0 (omega arith) ∙ sum-none (size tb p)
-
   pub start-suc : (i : ℕ) → i < blocks tb p → start tb p (suc i) ≡ start tb p i + size tb p i
-  start-suc i h = omega (arith, start-sum (suc i) h, start-sum i (omega arith), sum-suc (size tb p) i)
+  start-suc i h = omega (arith, start-sum tb p (suc i) h, start-sum tb p i (omega arith), sum-suc (size tb p) i)
 
   pub start-mono : (i j : ℕ) → i ≤ j → j ≤ blocks tb p → start tb p i ≤ start tb p j
-  start-mono i j h k = omega (arith, start-sum i (omega arith), start-sum j k, sum-mono (size tb p) i j h)
+  start-mono i j h k = omega (arith, start-sum tb p i (omega arith), start-sum tb p j k, sum-mono (size tb p) i j h)
 
   module _ (full : Filled tb p) (x : ℕ) where
     pub stands-line : (d : ℕ) → Stands tb p x d → x < lines tb p
@@ -46,16 +40,11 @@ module _ (tb : Table) (p : Part) where
         (first-is (endsPast tb p x) (blocks tb p) d (s .block) (lt-ltb x (start tb p (suc d)) (s .before))
         (λ j h. le-ltb x (start tb p (suc j)) (omega (arith, start-mono (suc j) d h (omega (arith, s .block))))))
 
-    passed : (e : ℕ) → ((j : ℕ) → j < e → endsPast tb p x j ≡ false) → start tb p e ≤ x
-    unfolding endsPast
-    passed zero h = omega (arith, start-none)
-    passed (suc e) h = ltb-false x (start tb p (suc e)) (h e (omega arith))
-
     pub owner-stands : x < lines tb p → Stands tb p x (owner tb p x)
     unfolding owner endsPast
     owner-stands h = rw (lt-ltb x (lines tb p) h) (
         let o = first (endsPast tb p x) (blocks tb p) in
-        let l : start tb p o ≤ x = passed o (first-below (endsPast tb p x) (blocks tb p)) in
+        let l : start tb p o ≤ x = starts-by tb p x o (first-below (endsPast tb p x) (blocks tb p)) in
         caseB (ltb o (blocks tb p))
         (λ y. record { block = ltb-true o (blocks tb p) y; from = l; before = ltb-true x (start tb p (suc o)) (first-passes (endsPast tb p x) (blocks tb p) (ltb-true o (blocks tb p) y)) })
         (λ y. absurd (let q : o ≡ blocks tb p = omega (arith, ltb-false o (blocks tb p) y, first-le (endsPast tb p x) (blocks tb p)) in

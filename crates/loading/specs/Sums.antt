@@ -16,7 +16,8 @@ use Rattle.table.specs.Table.{Table}
 use Rattle.table.specs.Layout.{blocks, lines, size}
 use Rattle.table.specs.Form.{gain, loss, gainOf, lossOf, sumAgrees}
 use Rattle.table.specs.declared.Part.{Part}
-use Rattle.loading.specs.Blocks.{Filled, start-sum}
+use Rattle.loading.specs.Blocks.{Filled}
+use Rattle.table.specs.Layout.Laws.{start-sum}
 
 -- the sum of f over the numbers below n, as whole numbers
 unfoldable pub sumZ : (ℕ → ℤ) → ℕ → ℤ

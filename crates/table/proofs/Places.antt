@@ -1,21 +1,35 @@
 -- What is read in the places of an index. Assumes nothing.
 use Prim.Native.Nat.{ℕ, _+_, _≤_, _<_}
+use native.Mathlib.Omega.{arith}
 use mathlib.Core.Path.{_≡_, refl, sym, _∙_, ap}
 use mathlib.Core.List.{List}
 use lib.ListN.{getD}
 use Rattle.table.specs.Table.{Table}
 use Rattle.table.specs.Layout.{blocks, lines, start, owner}
 use Rattle.table.specs.Index.{startsFrom, ownersFrom, ownersRoom, Indexed}
-use Rattle.table.specs.Index.Laws.{index-start, index-owner, owner-le}
+use Rattle.table.specs.Layout.Laws.{start-out, owner-past, owner-le}
+use Rattle.table.specs.Index.Laws.{index-start, index-owner}
 use Rattle.table.specs.declared.Part.{Part}
 
 module _ (tb : Table) (l : List ℕ) (g : Indexed tb l) (p : Part) where
-  pub start-is : (i r : ℕ) → r ≡ getD l (startsFrom p + i) 0 → i ≤ blocks tb p + 1 → r ≡ start tb p i
-  start-is i r e h = e ∙ index-start tb l g p i h
+  pub start-is : (i n r : ℕ) → r ≡ getD l (startsFrom p + i) 0 → n ≡ blocks tb p → i ≤ n → r ≡ start tb p i
+  start-is i n r e b h = e ∙ index-start tb l g p i (omega arith)
 
-  module _ (x f r : ℕ) (a : f ≡ ownersFrom p) (e : r ≡ getD l (f + x) 0) (h : 0 < ownersRoom p) (k : x ≤ lines tb p) where
+  module _ (x f n r : ℕ) (a : f ≡ ownersFrom p) (e : r ≡ getD l (f + x) 0) (h : 0 < ownersRoom p) (b : n ≡ lines tb p) (k : x < n) where
     pub owner-is : r ≡ owner tb p x
-    owner-is = e ∙ rw a (index-owner tb l g p x h k)
+    owner-is = e ∙ rw a (index-owner tb l g p x h (omega arith))
 
     pub owner-small : r ≤ blocks tb p
     owner-small = rw owner-is (owner-le tb p x)
+
+module _ (tb : Table) (p : Part) (n : ℕ) where
+  pub start-past : (i : ℕ) → n ≡ blocks tb p → n < i → 0 ≡ start tb p i
+  start-past i b h = sym (start-out tb p i (omega arith))
+
+  pub owner-none : (x : ℕ) → n ≡ lines tb p → n ≤ x → 0 ≡ owner tb p x
+  owner-none x b h = sym (owner-past tb p x (omega arith))
+
+-- what stands in a row that a call answered
+module _ (tb : Table) (p : Part) (r x y : ℕ) (e : x ≡ y) where
+  pub owner-read : r ≡ owner tb p x → r ≡ owner tb p y
+  owner-read f = rw (← e) f

@@ -15,37 +15,37 @@ use Rattle.table.specs.declared.Part.{Part}
 use Rattle.table.specs.declared.Part.the-variants.{Slots, Nodes, Branches}
 
 abbrev pub indexLength : ℕ
-indexLength = 807
+indexLength = 803
 
--- the places of a part's starts: one for each block, one past the last, and one more that is 0
+-- the places of a part's starts: one for each block, and one for the end of the last
 abbrev pub startsFrom : Part → ℕ
 startsFrom Slots = 0
-startsFrom Nodes = 18
-startsFrom Branches = 36
+startsFrom Nodes = 17
+startsFrom Branches = 34
 
 abbrev pub startsRoom : Part → ℕ
-startsRoom Slots = 18
-startsRoom Nodes = 18
-startsRoom Branches = 194
+startsRoom Slots = 17
+startsRoom Nodes = 17
+startsRoom Branches = 193
 
 -- the places of a part's owners: of slots there are none
 abbrev pub ownersFrom : Part → ℕ
-ownersFrom Slots = 230
-ownersFrom Nodes = 230
-ownersFrom Branches = 423
+ownersFrom Slots = 227
+ownersFrom Nodes = 227
+ownersFrom Branches = 419
 
 abbrev pub ownersRoom : Part → ℕ
 ownersRoom Slots = 0
-ownersRoom Nodes = 193
+ownersRoom Nodes = 192
 ownersRoom Branches = 384
 
 module _ (tb : Table) where
   unfoldable pub entry : ℕ → ℕ
   entry x =
-      cond (ltb x 18) (start tb Slots x)
-      (cond (ltb x 36) (start tb Nodes (x - 18))
-      (cond (ltb x 230) (start tb Branches (x - 36))
-      (cond (ltb x 423) (owner tb Nodes (x - 230)) (owner tb Branches (x - 423)))))
+      cond (ltb x 17) (start tb Slots x)
+      (cond (ltb x 34) (start tb Nodes (x - 17))
+      (cond (ltb x 227) (start tb Branches (x - 34))
+      (cond (ltb x 419) (owner tb Nodes (x - 227)) (owner tb Branches (x - 419)))))
 
   unfoldable pub indexOf : List ℕ
   indexOf = tabulate indexLength entry

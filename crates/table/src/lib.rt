@@ -1,12 +1,12 @@
 // Reading a loaded table: its rows, how its blocks lie, the index of it, and ground 3. Rows and numbers are counted from 0.
 ghost use mathlib.Core.Path.{_≡_};
 ghost use mathlib.Core.Bool.{true};
-ghost use Prim.Native.Nat.{ℕ, _+_, _≤_, _<_};
+ghost use Prim.Native.Nat.{ℕ, _+_, _-_, _≤_, _<_};
 ghost use lib.ListN.{getD, replicate};
 ghost use Rattle.numbers.specs.Rows.{at};
 ghost use Rattle.numbers.specs.Search.{first};
-ghost use Rattle.table.specs.Table.{tableOf, definitionRow, slotRow, nodeRow, branchRow, lineTotal};
-ghost use Rattle.table.specs.Layout.{blocks, lines, branchCount, size, start, owner, endsPast};
+ghost use Rattle.table.specs.Table.{tableOf, definitionRow, slotRow, nodeRow, branchRow, lineTotal, parameters, slotCount, nodeCount};
+ghost use Rattle.table.specs.Layout.{blocks, lines, branchCount, size, start, owner, endsPast, definitionOf, nodeOf};
 ghost use Rattle.table.specs.Index.{startsFrom, startsRoom, ownersFrom, ownersRoom, indexLength, indexOf, entry, Starts, Indexed};
 ghost use Rattle.numbers.specs.Laid.{laid};
 ghost use Rattle.table.specs.Form.{within, headerInRange, kindDue, kindWrong, gain, loss, sumAgrees, sumsAgree};
@@ -96,6 +96,28 @@ pub fn line_total(table: &[u8]) -> usize
     branch_row(table) + cell(table, 0, 5) as usize
 }
 
+// Of definition d: its parameters, slots and nodes.
+pub fn parameters_of(table: &[u8], d: u32) -> u32
+    ensures { λ r. ⌜ r ≡ parameters (tableOf (now (table .entry))) d ⌝ }
+    ensures { λ r. ⌜ r < 65536 ⌝ }
+{
+    cell(table, definition_row(table) + d as usize, 1)
+}
+
+pub fn slots_of(table: &[u8], d: u32) -> u32
+    ensures { λ r. ⌜ r ≡ slotCount (tableOf (now (table .entry))) d ⌝ }
+    ensures { λ r. ⌜ r < 65536 ⌝ }
+{
+    cell(table, definition_row(table) + d as usize, 2)
+}
+
+pub fn nodes_of(table: &[u8], d: u32) -> u32
+    ensures { λ r. ⌜ r ≡ nodeCount (tableOf (now (table .entry))) d ⌝ }
+    ensures { λ r. ⌜ r < 65536 ⌝ }
+{
+    cell(table, definition_row(table) + d as usize, 3)
+}
+
 // How many blocks a part has, how many lines the header gives to it, and how large block i is.
 pub fn blocks_of(table: &[u8], part: Part) -> u32
     ensures { λ r. ⌜ r ≡ blocks (tableOf (now (table .entry))) part ⌝ }
@@ -135,8 +157,8 @@ fn block_size(table: &[u8], part: Part, i: u32) -> u32
     ensures { λ r. ⌜ r < 65536 ⌝ }
 {
     match part {
-        Part::Slots => cell(table, definition_row(table) + i as usize, 2),
-        Part::Nodes => cell(table, definition_row(table) + i as usize, 3),
+        Part::Slots => slots_of(table, i),
+        Part::Nodes => nodes_of(table, i),
         Part::Branches => branch_count(table, i),
     }
 }
@@ -383,23 +405,23 @@ pub fn is_written(role: Role) -> bool
 
 fn starts_from(part: Part) -> usize
     ensures { λ r. ⌜ r ≡ startsFrom part ⌝ }
-    ensures { λ r. ⌜ r ≤ 36 ⌝ }
+    ensures { λ r. ⌜ r ≤ 34 ⌝ }
 {
     match part {
         Part::Slots => 0,
-        Part::Nodes => 18,
-        Part::Branches => 36,
+        Part::Nodes => 17,
+        Part::Branches => 34,
     }
 }
 
 fn owners_from(part: Part) -> usize
     ensures { λ r. ⌜ r ≡ ownersFrom part ⌝ }
-    ensures { λ r. ⌜ r ≤ 423 ⌝ }
+    ensures { λ r. ⌜ r ≤ 419 ⌝ }
 {
     match part {
-        Part::Slots => 230,
-        Part::Nodes => 230,
-        Part::Branches => 423,
+        Part::Slots => 227,
+        Part::Nodes => 227,
+        Part::Branches => 419,
     }
 }
 
@@ -410,23 +432,64 @@ fn start_at(index: &[u32], part: Part, i: u32) -> u32
     numbers::cell_at(index, starts_from(part) + i as usize)
 }
 
-// Where block i of a part starts.
+// Where block i of a part starts; 0 past the end of the last block.
 pub fn start_of(table: &[u8], index: &[u32], part: Part, i: u32) -> u32
     requires { ⌜ Indexed (tableOf (now table)) (now index) ⌝ }
-    requires { ⌜ i ≤ blocks (tableOf (now table)) part + 1 ⌝ }
     ensures { λ r. ⌜ r ≡ start (tableOf (now (table .entry))) part i ⌝ }
 {
-    start_at(index, part, i)
+    if i <= blocks_of(table, part) {
+        return start_at(index, part, i);
+    }
+    0
 }
 
-// The block that x stands in.
-pub fn owner_of(table: &[u8], index: &[u32], part: Part, x: u32) -> u32
+// The block that x stands in; 0 past the part's lines.
+pub fn owner_of(table: &[u8], index: &[u32], part: Part, x: usize) -> u32
     requires { ⌜ Indexed (tableOf (now table)) (now index) ⌝ }
-    requires { ⌜ (0 < ownersRoom part) × (x ≤ lines (tableOf (now table)) part) ⌝ }
+    requires { ⌜ 0 < ownersRoom part ⌝ }
     ensures { λ r. ⌜ r ≡ owner (tableOf (now (table .entry))) part x ⌝ }
     ensures { λ r. ⌜ r ≤ blocks (tableOf (now (table .entry))) part ⌝ }
 {
-    numbers::cell_at(index, owners_from(part) + x as usize)
+    if x < lines_of(table, part) as usize {
+        return numbers::cell_at(index, owners_from(part) + x);
+    }
+    0
+}
+
+// The node in a row and the branch in a row, counted over the whole file; 0 for the rows before them.
+pub fn node_in(table: &[u8], row: usize) -> usize
+    ensures { λ r. ⌜ r ≡ row - nodeRow (tableOf (now (table .entry))) ⌝ }
+{
+    let from = node_row(table);
+    if row < from {
+        return 0;
+    }
+    row - from
+}
+
+pub fn branch_in(table: &[u8], row: usize) -> usize
+    ensures { λ r. ⌜ r ≡ row - branchRow (tableOf (now (table .entry))) ⌝ }
+{
+    let from = branch_row(table);
+    if row < from {
+        return 0;
+    }
+    row - from
+}
+
+// The definition of the node in a row, and the node of the branch in a row.
+pub fn definition_at(table: &[u8], index: &[u32], row: usize) -> u32
+    requires { ⌜ Indexed (tableOf (now table)) (now index) ⌝ }
+    ensures { λ r. ⌜ r ≡ definitionOf (tableOf (now (table .entry))) (row - nodeRow (tableOf (now (table .entry)))) ⌝ }
+{
+    owner_of(table, index, Part::Nodes, node_in(table, row))
+}
+
+pub fn node_at(table: &[u8], index: &[u32], row: usize) -> u32
+    requires { ⌜ Indexed (tableOf (now table)) (now index) ⌝ }
+    ensures { λ r. ⌜ r ≡ nodeOf (tableOf (now (table .entry))) (row - branchRow (tableOf (now (table .entry)))) ⌝ }
+{
+    owner_of(table, index, Part::Branches, branch_in(table, row))
 }
 
 // The first block that ends past x, where none below `from` does.

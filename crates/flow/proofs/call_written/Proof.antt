@@ -1,5 +1,5 @@
-use borrow.Author.Needs.{needs}
 use Rattle.flow.proofs.Grounds.{call-is, call-other}
+use borrow.Author.Needs.{needs}
 use Rattle.flow.proofs.call_written.Statement.{statement}
 use Rattle.flow.proofs.call_written.Tie as tie
 
@@ -10,9 +10,6 @@ call-written-spec =
     (λ c κs. search needs)
     (λ c κs. search needs)
     (λ c κs. search needs)
-    (λ c. search needs)
-    (λ c. search needs)
     (λ c κs. search needs)
-    (λ c κs. search needs)
-    (λ c. search call-is)
-    (λ c. search call-other))
+    (λ c. search (call-is, call-other))
+    (λ c. search (call-is, call-other)))

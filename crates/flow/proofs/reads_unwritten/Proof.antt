@@ -3,13 +3,10 @@ use Rattle.flow.specs.Flow.{readsUnwritten}
 use Rattle.flow.proofs.reads_unwritten.Statement.{statement}
 use Rattle.flow.proofs.reads_unwritten.Tie as tie
 
-returns : tie.Need-returns
-unfolding readsUnwritten
-returns c = cc
-
 pub reads-unwritten-spec : {M : Type 1} → statement M
+unfolding readsUnwritten
 reads-unwritten-spec =
     tie.close
     (tie.spec
     (λ c κs. search needs)
-    returns)
+    (λ c. cc))

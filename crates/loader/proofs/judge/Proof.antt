@@ -1,4 +1,4 @@
-use Rattle.loader.specs.Verdict.Laws.{judgements, fault-sound, indexed-is, header-good, none-at-fault}
+use Rattle.loader.specs.Verdict.Laws.{judgements, fault-sound, indexed-is, header-good}
 use borrow.Author.Needs.{needs}
 use Rattle.loader.proofs.judge.Statement.{statement}
 use Rattle.loader.proofs.judge.Tie as tie
@@ -17,6 +17,6 @@ judge-spec =
     (λ c κs. search needs)
     (λ c. (search judgements, λ e. absurd (fault-sound _ _ e)))
     (λ c κs. (search header-good, search))
-    (λ c κs. (search indexed-is, (search needs, search none-at-fault)))
+    (λ c κs. search indexed-is)
     (λ c. search needs)
     (λ c. (search judgements, λ e. search indexed-is)))

@@ -36,9 +36,6 @@ module _ (p : ℕ → Bool) (n r : ℕ) (e : r ≡ first p n) where
   unfolding atFault
   no-fault g v w h f = rw (← e, le-ltb r n h) f
 
-  pub none-at-fault : n ≤ r → first p n ≡ n
-  none-at-fault h = omega (arith, first-le p n)
-
 pub ruleset faults = (at-fault, no-fault)
 
 pub fault-sound : (g : Ground) (l : ℕ) → Fault g l ≡ Sound → ⊥

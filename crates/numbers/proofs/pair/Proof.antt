@@ -3,14 +3,11 @@ use Rattle.numbers.specs.Bytes.{little}
 use Rattle.numbers.proofs.pair.Statement.{statement}
 use Rattle.numbers.proofs.pair.Tie as tie
 
-returns : tie.Need-returns
-unfolding little
-returns c = search needs
-
 pub pair-spec : {M : Type 1} → statement M
+unfolding little
 pair-spec =
     tie.close
     (tie.spec
     (λ c. search needs)
     (λ c. search needs)
-    returns)
+    (λ c. search needs))

@@ -3,11 +3,8 @@ use Rattle.numbers.specs.Bytes.{little}
 use Rattle.numbers.proofs.quad.Statement.{statement}
 use Rattle.numbers.proofs.quad.Tie as tie
 
-returns : tie.Need-returns
-unfolding little
-returns c = search needs
-
 pub quad-spec : {M : Type 1} → statement M
+unfolding little
 quad-spec =
     tie.close
     (tie.spec
@@ -17,4 +14,4 @@ quad-spec =
     (λ c. search needs)
     (λ c. search needs)
     (λ c. search needs)
-    returns)
+    (λ c. search needs))

@@ -4,18 +4,11 @@ use Rattle.numbers.specs.Tests.{tests}
 use Rattle.numbers.proofs.widen.Statement.{statement}
 use Rattle.numbers.proofs.widen.Tie as tie
 
-returns : tie.Need-returns
-unfolding widened
-returns c = search tests
-
-returns-2 : tie.Need-returns-2
-unfolding widened
-returns-2 c = search tests
-
 pub widen-spec : {M : Type 1} → statement M
+unfolding widened
 widen-spec =
     tie.close
     (tie.spec
-    returns
+    (λ c. search tests)
     (λ c κs. search needs)
-    returns-2)
+    (λ c. search tests))

@@ -3,39 +3,8 @@ use borrow.Author.Needs.{needs}
 use Rattle.table.proofs.is_read.Statement.{statement}
 use Rattle.table.proofs.is_read.Tie as tie
 
-returns : tie.Need-returns
-unfolding reading
-returns c = cc
-
-returns-2 : tie.Need-returns-2
-unfolding reading
-returns-2 c = cc
-
-returns-3 : tie.Need-returns-3
-unfolding reading
-returns-3 c = cc
-
-returns-4 : tie.Need-returns-4
-unfolding reading
-returns-4 c = cc
-
-returns-5 : tie.Need-returns-5
-unfolding reading
-returns-5 c = cc
-
-returns-6 : tie.Need-returns-6
-unfolding reading
-returns-6 c = cc
-
-returns-7 : tie.Need-returns-7
-unfolding reading
-returns-7 c = cc
-
-returns-8 : tie.Need-returns-8
-unfolding reading
-returns-8 c = cc
-
 pub is-read-spec : {M : Type 1} → statement M
+unfolding reading
 is-read-spec =
     tie.close
     (tie.spec
@@ -47,11 +16,11 @@ is-read-spec =
     (λ c. search needs)
     (λ c. search needs)
     (λ c. search needs)
-    returns
-    returns-2
-    returns-3
-    returns-4
-    returns-5
-    returns-6
-    returns-7
-    returns-8)
+    (λ c. cc)
+    (λ c. cc)
+    (λ c. cc)
+    (λ c. cc)
+    (λ c. cc)
+    (λ c. cc)
+    (λ c. cc)
+    (λ c. cc))

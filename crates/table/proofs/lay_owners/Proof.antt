@@ -13,7 +13,7 @@ use Rattle.table.proofs.lay_owners.Tie as tie
 
 abbrev Inv-loop : tie.InvT-loop
 Inv-loop table index₀ part n from block₀ x₀ index block x =
-    (x ≤ n) × (n ≡ lines (tableOf table) part) × (n < 65536) × (from ≡ ownersFrom part) × (from ≤ 423)
+    (x ≤ n) × (n ≡ lines (tableOf table) part) × (n < 65536) × (from ≡ ownersFrom part) × (from ≤ 419)
     × (block ≤ blocks (tableOf table) part) × (first (endsPast (tableOf table) part x) block ≡ block) × (length index ≡ length index₀)
     × (index ≡ laid (entry (tableOf table)) (from + x) indexLength)
 

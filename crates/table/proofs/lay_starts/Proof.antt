@@ -13,7 +13,7 @@ use Rattle.table.proofs.lay_starts.Tie as tie
 
 abbrev Inv-loop : tie.InvT-loop
 Inv-loop table index₀ part n from sum₀ i₀ index sum i =
-    (i ≤ n) × (n ≡ blocks (tableOf table) part) × (n < 65536) × (from ≡ startsFrom part) × (from ≤ 36)
+    (i ≤ n) × (n ≡ blocks (tableOf table) part) × (n < 65536) × (from ≡ startsFrom part) × (from ≤ 34)
     × (sum ≡ sumTo (size (tableOf table) part) i) × (sum ≤ 65535 * i) × (length index ≡ length index₀)
     × (index ≡ laid (entry (tableOf table)) (from + i + 1) indexLength)
 

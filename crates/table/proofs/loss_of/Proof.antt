@@ -5,18 +5,11 @@ use borrow.Author.Needs.{needs}
 use Rattle.table.proofs.loss_of.Statement.{statement}
 use Rattle.table.proofs.loss_of.Tie as tie
 
-returns : tie.Need-returns
-unfolding loss
-returns c = (search tests, omega arith)
-
-returns-2 : tie.Need-returns-2
-unfolding loss
-returns-2 c = (search tests, omega arith)
-
 pub loss-of-spec : {M : Type 1} → statement M
+unfolding loss
 loss-of-spec =
     tie.close
     (tie.spec
-    returns
+    (λ c. (search tests, omega arith))
     (λ c. search needs)
-    returns-2)
+    (λ c. (search tests, omega arith)))

@@ -1,4 +1,4 @@
-use Rattle.table.proofs.Places.{owner-is, owner-small}
+use Rattle.table.proofs.Places.{owner-is, owner-none, owner-small}
 use borrow.Author.Needs.{needs}
 use Rattle.table.proofs.owner_of.Statement.{statement}
 use Rattle.table.proofs.owner_of.Tie as tie
@@ -10,4 +10,7 @@ owner-of-spec =
     (λ c κs. search needs)
     (λ c. search needs)
     (λ c κs. search needs)
-    (λ c. (search owner-is, search owner-small)))
+    (λ c. search needs)
+    (λ c κs. search needs)
+    (λ c. (search (owner-is, owner-none), search (owner-small, needs)))
+    (λ c. (search (owner-is, owner-none), search (owner-small, needs))))

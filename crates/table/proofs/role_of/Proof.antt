@@ -6,21 +6,14 @@ use borrow.Author.Needs.{needs}
 use Rattle.table.proofs.role_of.Statement.{statement}
 use Rattle.table.proofs.role_of.Tie as tie
 
-returns : tie.Need-returns
-unfolding operandRole
-returns c = search (cond-yes, cond-no, lt-ltb, le-ltb, guard-read, action-read)
-
-returns-2 : tie.Need-returns-2
-unfolding operandRole
-returns-2 c = search (cond-yes, cond-no, lt-ltb, le-ltb, guard-read, action-read)
-
 pub role-of-spec : {M : Type 1} → statement M
+unfolding operandRole
 role-of-spec =
     tie.close
     (tie.spec
     (λ c κs. search needs)
     (λ c κs. search needs)
-    returns
+    (λ c. search (cond-yes, cond-no, lt-ltb, le-ltb, guard-read, action-read))
     (λ c κs. search needs)
     (λ c κs. search needs)
-    returns-2)
+    (λ c. search (cond-yes, cond-no, lt-ltb, le-ltb, guard-read, action-read)))

@@ -1,4 +1,4 @@
-use Rattle.table.proofs.Places.{start-is}
+use Rattle.table.proofs.Places.{start-is, start-past}
 use borrow.Author.Needs.{needs}
 use Rattle.table.proofs.start_of.Statement.{statement}
 use Rattle.table.proofs.start_of.Tie as tie
@@ -8,4 +8,6 @@ start-of-spec =
     tie.close
     (tie.spec
     (λ c κs. search needs)
-    (λ c. search start-is))
+    (λ c κs. search needs)
+    (λ c. search (start-is, start-past))
+    (λ c. search (start-is, start-past)))

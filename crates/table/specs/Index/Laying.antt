@@ -17,33 +17,22 @@ use Rattle.table.specs.Form.Laws.{Counts, header-counts}
 use Rattle.table.specs.Index.{indexLength, startsFrom, startsRoom, ownersFrom, ownersRoom, entry, indexOf, Starts}
 use Rattle.numbers.specs.Laid.{laid}
 use Rattle.numbers.specs.Laid.Laws.{laid-none, laid-all, laid-put, laid-zero, laid-skip, getD-laid}
-use Rattle.table.specs.Index.Laws.{entry-start, entry-owner, starts-fit, lines-fit, starts-inside, owners-inside, owner-past}
+use Rattle.table.specs.Index.Laws.{entry-start, entry-owner, starts-fit, lines-fit, starts-inside, owners-inside}
+use Rattle.table.specs.Layout.Laws.{start-sum, start-none, start-out, owner-past}
 use Rattle.table.specs.declared.Part.{Part}
 use Rattle.table.specs.declared.Part.the-variants.{Slots, Nodes, Branches}
 
-starts-first : (p : Part) → startsFrom p + startsRoom p ≤ 230
+starts-first : (p : Part) → startsFrom p + startsRoom p ≤ 227
 starts-first Slots = omega arith
 starts-first Nodes = omega arith
 starts-first Branches = omega arith
 
-owners-last : (p : Part) → 230 ≤ ownersFrom p
+owners-last : (p : Part) → 227 ≤ ownersFrom p
 owners-last Slots = omega arith
 owners-last Nodes = omega arith
 owners-last Branches = omega arith
 
 module _ (tb : Table) (p : Part) where
-  start-zero : start tb p 0 ≡ 0
-  unfolding start
-  start-zero = rw (le-leb 0 (blocks tb p) (omega arith)) (sum-none (size tb p))
-
-  start-in : (i : ℕ) → i ≤ blocks tb p → start tb p i ≡ sumTo (size tb p) i
-  unfolding start
-  start-in i h = rw (le-leb i (blocks tb p) h)
-
-  start-out : (i : ℕ) → blocks tb p < i → start tb p i ≡ 0
-  unfolding start
-  start-out i h = rw (lt-leb i (blocks tb p) h)
-
   pub sizes-none : 0 ≡ sumTo (size tb p) 0
   sizes-none = sym (sum-none (size tb p))
 
@@ -57,7 +46,7 @@ module _ (tb : Table) (p : Part) where
     starts-none l from e g =
         let c = header-counts tb h in
         let z : entry tb (startsFrom p) ≡ 0 =
-        (let q : startsFrom p ≡ startsFrom p + 0 = omega arith in rw q (entry-start tb p 0 (omega (arith, starts-fit tb c p)) ∙ start-zero)) in
+        (let q : startsFrom p ≡ startsFrom p + 0 = omega arith in rw q (entry-start tb p 0 (omega (arith, starts-fit tb c p)) ∙ start-none tb p)) in
         let q : from + 0 + 1 ≡ suc (startsFrom p) = omega arith in
         g ∙ rw q (laid-zero (entry tb) indexLength (startsFrom p) (omega (arith, starts-fit tb c p, starts-inside tb p)) z)
 
@@ -68,7 +57,7 @@ module _ (tb : Table) (p : Part) where
         let q : from + i + 1 ≡ startsFrom p + (i + 1) = omega arith in
         let w : from + (i + 1) + 1 ≡ suc (startsFrom p + (i + 1)) = omega arith in
         let m : s + v ≡ entry tb (startsFrom p + (i + 1)) =
-        (sum-more (size tb p) i s v f g ∙ sym (start-in (i + 1) (omega arith)) ∙ sym (entry-start tb p (i + 1) (omega (arith, starts-fit tb c p)))) in
+        (sum-more (size tb p) i s v f g ∙ sym (start-sum tb p (i + 1) (omega arith)) ∙ sym (entry-start tb p (i + 1) (omega (arith, starts-fit tb c p)))) in
         d ∙ rw (a, q, m, w) (laid-put (entry tb) indexLength (startsFrom p + (i + 1)) (omega (arith, starts-fit tb c p, starts-inside tb p)))
 
     pub starts-all : (l : List ℕ) (from n i : ℕ) → from ≡ startsFrom p → n ≡ blocks tb p → i ≤ n → n ≤ i → l ≡ laid (entry tb) (from + i + 1) indexLength → l ≡ laid (entry tb) (startsFrom p + startsRoom p) indexLength
@@ -77,7 +66,7 @@ module _ (tb : Table) (p : Part) where
         let f = starts-fit tb c p in
         a ∙ laid-skip (entry tb) indexLength (from + i + 1) (startsFrom p + startsRoom p) (omega arith) (starts-inside tb p)
         (λ x y z. let q : x ≡ startsFrom p + (x - startsFrom p) = omega arith in
-        rw q (entry-start tb p (x - startsFrom p) (omega arith) ∙ start-out (x - startsFrom p) (omega arith)))
+        rw q (entry-start tb p (x - startsFrom p) (omega arith) ∙ start-out tb p (x - startsFrom p) (omega arith)))
 
     -- all starts are there before the owners are laid
     pub starts-there : (l : List ℕ) (from x : ℕ) → l ≡ laid (entry tb) (from + x) indexLength → from ≡ ownersFrom p → Starts tb p l
