@@ -12,7 +12,7 @@ accept-spec =
     (λ c κs. search needs)
     (λ c κs. search needs)
     (λ c. search needs)
-    (λ c κs. (search sound-few, search))
+    (λ c κs. (search needs, (search sound-few, search)))
     (λ c. search needs)
     (λ c. search needs)
     (λ c. (search accept-rest, λ e. search sound-indexed))

@@ -1,21 +1,17 @@
-use Prim.Native.Nat.{_≤_, _-_}
+-- `loader::rest_is_zero` meets its contract. Joined so far are the bytes behind the first n rows, up to place i. Assumes nothing.
+use Prim.Native.Nat.{_*_, _≤_, _-_}
 use mathlib.Core.Path.{_≡_}
-use mathlib.Core.Bool.{true}
 use borrow.Author.Needs.{needs}
-use Rattle.numbers.specs.Search.{every}
-use Rattle.numbers.specs.Search.Laws.{every-all}
-use Rattle.table.specs.Table.{tableOf}
-use Rattle.loader.specs.Verdict.{restZero}
-use Rattle.loader.specs.Verdict.Laws.{rest-begins, rest-more, rest-not}
+use Rattle.loader.specs.Verdict.Rest.{bitsOf, bytesPast, past-none, past-more, rest-is}
 use Rattle.loader.proofs.rest_is_zero.Statement.{statement}
 use Rattle.loader.proofs.rest_is_zero.Tie as tie
 
 abbrev Inv-loop : tie.InvT-loop
-Inv-loop table n row₀ row =
-    (row ≤ 865) × (n ≤ row) × (every (restZero (tableOf table)) row ≡ true)
+Inv-loop table n from all₀ i₀ all i =
+    (n * 24 ≤ i) × (i ≤ 20760) × (all ≡ bitsOf (bytesPast table (n * 24)) (i - n * 24))
 
 abbrev μ-loop : tie.MeasureT-loop
-μ-loop table n row₀ row = 865 - row
+μ-loop table n from all₀ i₀ all i = 20760 - i
 
 pub rest-is-zero-spec : {M : Type 1} → statement M
 rest-is-zero-spec =
@@ -23,10 +19,10 @@ rest-is-zero-spec =
     (tie.spec
     Inv-loop
     μ-loop
-    (λ c. (search needs, search needs, search rest-begins))
-    (λ c κs. search needs)
-    (λ c. search rest-not)
+    (λ c. search needs)
+    (λ c. (search needs, search needs, search past-none))
     (λ c. search needs)
     (λ c. search needs)
-    (λ c. (search needs, search needs, search rest-more))
-    (λ c. search every-all))
+    (λ c. search needs)
+    (λ c. (search needs, search needs, search past-more))
+    (λ c. search rest-is))

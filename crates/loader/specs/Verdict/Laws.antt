@@ -11,12 +11,11 @@ use borrow.Author.Tests.{lt-ltb, le-ltb, leb-true, eq-eqb, ne-eqb, not-true, not
 use Rattle.numbers.specs.Bytes.{shorts}
 use Rattle.numbers.specs.Laid.{laid}
 use Rattle.numbers.specs.Search.{every, first}
-use Rattle.numbers.specs.Search.Laws.{caseB, every-intro, every-more, every-not, first-le}
+use Rattle.numbers.specs.Search.Laws.{caseB, first-le}
 use Rattle.table.specs.Table.{Table, tableOf, lineTotal}
 use Rattle.table.specs.Form.{headerInRange, kindWrong, sumsAgree}
 use Rattle.table.specs.Form.Laws.{header-counts, and-left, and-right}
 use Rattle.table.specs.Index.{Indexed, indexOf}
-use Rattle.checks.specs.Ranges.{restUnused}
 use Rattle.loader.specs.File.{lineCount, notLines, malformed, fileTable, numberIn}
 use Rattle.loader.specs.File.Laws.{rows-file}
 use Rattle.loader.specs.Verdict.{atFault, judgedRows, judged, verdict, isSound, restZero, acceptable}
@@ -117,22 +116,6 @@ module _ (tb : Table) where
 
   pub sound-indexed : (l : List ℕ) (v : Verdict) → (v ≡ Sound → Indexed tb l) → v ≡ Sound → Indexed tb l
   sound-indexed l v f e = f e
-
-  -- the header's lines are not the rest
-  pub rest-begins : (n : ℕ) → n ≡ lineTotal tb → every (restZero tb) n ≡ true
-  unfolding restZero
-  rest-begins n e = every-intro (restZero tb) n (λ i h. rw (lt-ltb i (lineTotal tb) (omega arith)))
-
-  module _ (n row : ℕ) (w : Bool) (a : n ≡ lineTotal tb) (b : n ≤ row) (e : w ≡ restUnused tb row 0) where
-    rest-row : w ≡ restZero tb row
-    unfolding restZero
-    rest-row = rw (le-ltb row (lineTotal tb) (omega arith)) e
-
-    pub rest-more : not w ≡ false → every (restZero tb) row ≡ true → every (restZero tb) (row + 1) ≡ true
-    rest-more g f = every-more (restZero tb) row w f rest-row (not-false w g)
-
-    pub rest-not : not w ≡ true → row < 865 → false ≡ every (restZero tb) 865
-    rest-not g h = every-not (restZero tb) row 865 w rest-row (not-true w g) h
 
 module _ (b : List ℕ) where
   pub accept-length : (length b ≡ 20760 → ⊥) → false ≡ accepted b
