@@ -1,3 +1,4 @@
+-- `checks::arguments_in_range` meets its contract. The loop: every argument before the i-th is a slot of the calling definition. Assumes nothing.
 use Prim.Native.Nat.{_≤_, _-_}
 use mathlib.Core.Path.{_≡_}
 use mathlib.Core.Bool.{true}

@@ -1,3 +1,4 @@
+-- `checks::arguments_typed` meets its contract. The loop: every argument before the i-th has its parameter's type. Assumes nothing.
 use Prim.Native.Nat.{_≤_, _-_}
 use mathlib.Core.Path.{_≡_}
 use mathlib.Core.Bool.{true}

@@ -1,3 +1,4 @@
+-- `checks::each_port_typed` meets its contract. The loop: every port before the k-th has type 1. Assumes nothing.
 use Prim.Native.Nat.{_≤_, _-_}
 use mathlib.Core.Path.{_≡_}
 use mathlib.Core.Bool.{true}

@@ -1,3 +1,4 @@
+-- `checks::first_out_of_range` meets its contract. The loop: no row passed is out of range. Assumes nothing.
 use Prim.Native.Nat.{_≤_, _-_}
 use mathlib.Core.Path.{_≡_}
 use borrow.Author.Needs.{needs}

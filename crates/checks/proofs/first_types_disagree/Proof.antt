@@ -1,3 +1,4 @@
+-- `checks::first_types_disagree` meets its contract. The loop: types agree in every row passed. Assumes nothing.
 use Prim.Native.Nat.{_≤_, _-_}
 use mathlib.Core.Path.{_≡_}
 use borrow.Author.Needs.{needs}

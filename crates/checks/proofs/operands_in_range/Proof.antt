@@ -1,3 +1,4 @@
+-- `checks::operands_in_range` meets its contract. The loop: every operand before the k-th is in range. Assumes nothing.
 use Prim.Native.Nat.{_≤_, _-_}
 use mathlib.Core.Path.{_≡_}
 use mathlib.Core.Bool.{true}

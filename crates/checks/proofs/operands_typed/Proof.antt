@@ -1,3 +1,4 @@
+-- `checks::operands_typed` meets its contract. The loop: every operand before the k-th has the type of its role. Assumes nothing.
 use Prim.Native.Nat.{_≤_, _-_}
 use mathlib.Core.Path.{_≡_}
 use mathlib.Core.Bool.{true}

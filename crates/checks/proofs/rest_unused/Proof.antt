@@ -1,3 +1,4 @@
+-- `checks::rest_unused` meets its contract. The loop: every number passed is 0 or lies before the first unused one. Assumes nothing.
 use Prim.Native.Nat.{_≤_, _-_}
 use mathlib.Core.Path.{_≡_}
 use mathlib.Core.Bool.{true}

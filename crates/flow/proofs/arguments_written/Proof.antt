@@ -1,3 +1,4 @@
+-- `flow::arguments_written` meets its contract. The loop: every argument before the i-th is surely written. Assumes nothing.
 use Prim.Native.Nat.{_≤_, _-_}
 use mathlib.Core.Bool.{true}
 use mathlib.Core.Path.{_≡_}

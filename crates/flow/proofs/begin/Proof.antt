@@ -1,3 +1,4 @@
+-- `flow::begin` meets its contract. The loop: the nodes passed have the marks that they begin with, and the others are 0 still. Assumes nothing.
 use Prim.Native.Nat.{_≤_, _-_}
 use mathlib.Core.Path.{_≡_}
 use lib.ListN.{length}

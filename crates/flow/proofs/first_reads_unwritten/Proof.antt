@@ -1,3 +1,4 @@
+-- `flow::first_reads_unwritten` meets its contract. The loop: no row passed reads what may be unwritten. Assumes nothing.
 use Prim.Native.Nat.{_≤_, _-_}
 use mathlib.Core.Path.{_≡_}
 use borrow.Author.Needs.{needs}

@@ -1,3 +1,4 @@
+-- `flow::first_unreachable` meets its contract. The loop: every node passed is reached. Assumes nothing.
 use Prim.Native.Nat.{_≤_, _-_}
 use mathlib.Core.Path.{_≡_}
 use borrow.Author.Needs.{needs}

@@ -1,3 +1,4 @@
+-- `flow::follow_branches` meets its contract. The loop: the branches before the i-th have led on. Assumes nothing.
 use Prim.Native.Nat.{_≤_, _-_}
 use mathlib.Core.Path.{_≡_}
 use lib.ListN.{length}

@@ -1,3 +1,4 @@
+-- `flow::mark_flow` meets its contract. The loop: the nodes below n have been followed. Assumes nothing.
 use Prim.Native.Nat.{_≤_, _-_}
 use native.Mathlib.Omega.{arith}
 use mathlib.Core.Path.{_≡_}

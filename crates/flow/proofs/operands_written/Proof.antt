@@ -1,3 +1,4 @@
+-- `flow::operands_written` meets its contract. The loop: every operand before the k-th is surely written where it is read. Assumes nothing.
 use Prim.Native.Nat.{_≤_, _-_}
 use mathlib.Core.Bool.{true}
 use mathlib.Core.Path.{_≡_}

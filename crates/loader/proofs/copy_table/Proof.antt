@@ -1,3 +1,4 @@
+-- `loader::copy_table` meets its contract. The loop: the two buffers agree up to place i. Assumes nothing.
 use Prim.Native.Nat.{_≤_, _-_}
 use mathlib.Core.Path.{_≡_, refl}
 use borrow.Author.Needs.{needs}

@@ -1,3 +1,4 @@
+-- `loader::read_lines` meets its contract. The loop: no line passed is malformed, and their numbers are laid into the table. Assumes nothing.
 use Prim.Native.Nat.{_*_, _≤_, _-_}
 use native.Mathlib.Omega.{arith}
 use mathlib.Core.Path.{_≡_}

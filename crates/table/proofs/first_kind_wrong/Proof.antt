@@ -1,3 +1,4 @@
+-- `table::first_kind_wrong` meets its contract. The loop: every row passed has the kind that is due. Assumes nothing.
 use Prim.Native.Nat.{_≤_, _-_}
 use mathlib.Core.Path.{_≡_}
 use borrow.Author.Needs.{needs}

@@ -1,3 +1,4 @@
+-- `table::lay_owners` meets its contract. The loop: the owners below x are laid, and no block before the present one ends past x. Assumes nothing.
 use Prim.Native.Nat.{_+_, _≤_, _<_, _-_}
 use mathlib.Core.Path.{_≡_}
 use borrow.Author.Needs.{needs}

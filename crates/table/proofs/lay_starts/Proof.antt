@@ -1,3 +1,4 @@
+-- `table::lay_starts` meets its contract. The loop: the starts up to block i are laid, and the sum is that of the sizes so far. Assumes nothing.
 use Prim.Native.Nat.{_+_, _*_, _≤_, _<_, _-_}
 use mathlib.Core.Path.{_≡_}
 use borrow.Author.Needs.{needs}

@@ -1,3 +1,4 @@
+-- `table::seek` meets its contract. The loop: no block passed ends past x. Assumes nothing.
 use Prim.Native.Nat.{_≤_, _<_, _-_}
 use mathlib.Core.Path.{_≡_}
 use borrow.Author.Needs.{needs}

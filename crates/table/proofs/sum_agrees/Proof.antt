@@ -1,3 +1,4 @@
+-- `table::sum_agrees` meets its contract. The loop: both sums are those of the sizes so far, which keeps them below 65535 times their number. Assumes nothing.
 use Prim.Native.Nat.{_≤_, _<_, _-_, _*_}
 use mathlib.Core.Path.{_≡_}
 use native.Mathlib.Omega.{arith}
