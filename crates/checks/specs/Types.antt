@@ -1,6 +1,6 @@
 -- Ground 5: types disagree. Type 0 is a number, every other type a channel.
 use Prim.Native.Nat.{ℕ, _+_, _-_}
-use mathlib.Core.Bool.{Bool, true, false, not, _&&_, _||_, cond}
+use mathlib.Core.Bool.{Bool, true, not, _&&_, _||_, cond}
 use lib.Dec.{leb, eqb}
 use Rattle.numbers.specs.Rows.{at}
 use Rattle.numbers.specs.Search.{every}

@@ -7,7 +7,6 @@ use mathlib.Core.List.{List, [], _∷_, map, map-append}
 use lib.Dec.{eqb, leb}
 use lib.ListN.{set, replicate}
 use borrow.Author.Tests.{eq-eqb, ne-eqb, le-leb}
-use Rattle.numbers.specs.Rows.{at}
 use Rattle.numbers.specs.Search.{tabulate}
 use Rattle.numbers.specs.Search.Laws.{caseB, sum-none, tabulate-none, tabulate-suc, tabulate-cong}
 use Rattle.table.specs.Table.{Table, nodes, parameters}

@@ -1,11 +1,11 @@
 // Which slots a path may leave unwritten, and grounds 6 and 7 over a loaded table. The marks of a node are the bits of one number, so that a write
 // clears a bit and two ways to a node meet in one `|`.
 ghost use mathlib.Core.Path.{_≡_};
-ghost use Prim.Native.Nat.{_+_, _-_, _≤_, _<_};
+ghost use Prim.Native.Nat.{_+_, _-_, _<_};
 ghost use lib.ListN.{set, replicate};
 ghost use Rattle.numbers.specs.Search.{every, first};
-ghost use Rattle.table.specs.Table.{tableOf, nodes, nodeRow, branchRow};
-ghost use Rattle.table.specs.Layout.{start, branchCount, definitionOf, nodeOf};
+ghost use Rattle.table.specs.Table.{tableOf, nodes, branchRow};
+ghost use Rattle.table.specs.Layout.{start, branchCount, definitionOf};
 ghost use Rattle.table.specs.Index.{Indexed};
 ghost use Rattle.table.specs.declared.Part.the-variants.{Nodes, Branches};
 ghost use Rattle.flow.specs.Flow.{slotWritten, pastWrite, arrive, beginning, branchFollowed, branchesFollowed, flowTo, flow, marked, argumentWritten, callWritten, operandWritten, rowWritten, readsUnwritten, unreachable};

@@ -1,14 +1,14 @@
 // Loading a procedure file: grounds 1 to 8, and ground 9 for a table that is handed in.
 ghost use mathlib.Core.Path.{_≡_};
 ghost use mathlib.Core.Bool.{true};
-ghost use Prim.Native.Nat.{ℕ, _+_, _*_, _≤_, _<_};
+ghost use Prim.Native.Nat.{_+_, _*_, _≤_, _<_};
 ghost use lib.ListN.{length, replicate};
 ghost use Rattle.numbers.specs.Bytes.{shorts};
 ghost use Rattle.numbers.specs.Laid.{laid};
 ghost use Rattle.numbers.specs.Search.{every, first};
 ghost use Rattle.table.specs.Table.{tableOf, maxRows, lineTotal};
 ghost use Rattle.table.specs.Index.{indexLength, Indexed};
-ghost use Rattle.loader.specs.File.{lineCount, notLines, wellFormed, malformed, fileTable, numberIn};
+ghost use Rattle.loader.specs.File.{notLines, wellFormed, malformed, fileTable, numberIn};
 ghost use Rattle.loader.specs.Verdict.{judgedFlow, judgedRows, judged, verdict, restZero};
 ghost use Rattle.loader.specs.Load.{Outcome, loaded, accepted, tableLength};
 use text::Reading;

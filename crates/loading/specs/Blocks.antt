@@ -1,12 +1,11 @@
 -- Blocks that follow one another, as a table's index has them: which block a line stands in. Assumes nothing.
-use Prim.Native.Nat.{ℕ, zero, suc, _+_, _≤_, _<_}
+use Prim.Native.Nat.{ℕ, suc, _+_, _≤_, _<_}
 use native.Mathlib.Omega.{arith}
-use mathlib.Core.Path.{_≡_, _∙_}
-use mathlib.Core.Bool.{false}
+use mathlib.Core.Path.{_≡_}
 use lib.Dec.{ltb}
-use borrow.Author.Tests.{ltb-true, ltb-false, lt-ltb, le-ltb, le-leb}
-use Rattle.numbers.specs.Search.{first, sumTo}
-use Rattle.numbers.specs.Search.Laws.{caseB, first-is, first-passes, first-below, first-le, sum-none, sum-suc, sum-mono}
+use borrow.Author.Tests.{ltb-true, ltb-false, lt-ltb, le-ltb}
+use Rattle.numbers.specs.Search.{first}
+use Rattle.numbers.specs.Search.Laws.{caseB, first-is, first-passes, first-below, first-le, sum-suc, sum-mono}
 use Rattle.table.specs.Table.{Table}
 use Rattle.table.specs.Layout.{blocks, lines, size, start, owner, endsPast}
 use Rattle.table.specs.Layout.Laws.{start-sum, starts-by}

@@ -9,11 +9,10 @@ use lib.Dec.{ltb, eqb}
 use lib.ListN.{length, getD, take, drop, replicate, length-drop, length-append, length-replicate, getD-replicate, take-append-drop, List·getD-append}
 use lib.Seq.{length-take-le, getD-take, getD-drop, getD-append-add, ext-getD, take-all}
 use borrow.Author.Tests.{le-ltb, ltb-true, ltb-false, eq-eqb, eqb-true}
-use Rattle.numbers.specs.Rows.{rows, at}
+use Rattle.numbers.specs.Rows.{at}
 use Rattle.numbers.specs.Rows.Laws.{length-rows, length-row, at-in}
 use Rattle.numbers.specs.Bytes.{shorts, joined}
 use Rattle.numbers.specs.Bytes.Laws.{length-numbers, length-encode, encode-numbers, numbers-encode, numbers-fit, joined-rows, rows-joined}
-use Rattle.numbers.specs.Search.{every}
 use Rattle.numbers.specs.Search.Laws.{caseB, contra, every-elim, every-intro, length-tabulate, getD-tabulate}
 use Rattle.table.specs.Table.{Table, maxRows, rowNumbers, tableOf, lineTotal}
 use Rattle.table.specs.Form.{headerInRange}

@@ -1,11 +1,9 @@
 -- Answers in the arms of a `match` on a part, and what a node says of its branches. Assumes nothing.
 use Prim.Native.Nat.{ℕ, _+_}
-use mathlib.Core.Path.{_≡_, refl, sym, _∙_, ap}
-use mathlib.Core.Bool.{Bool, true, false, cond}
-use lib.Dec.{eqb}
-use borrow.Author.Tests.{eq-eqb, ne-eqb}
+use mathlib.Core.Path.{_≡_}
+use borrow.Author.Tests.{ne-eqb}
 use Rattle.numbers.specs.Rows.{at}
-use Rattle.table.specs.Table.{Table, nodeRow, definitionRow}
+use Rattle.table.specs.Table.{Table, nodeRow}
 use Rattle.table.specs.Layout.{blocks, lines, size, branchCount}
 use Rattle.table.specs.declared.Part.{Part}
 

@@ -1,12 +1,12 @@
 -- What a read of a buffer means for the table, and the answers of the small functions. Assumes nothing.
 use Prim.Native.Nat.{ℕ, _+_, _*_, _<_, _≤_}
-use mathlib.Core.Path.{_≡_, refl, sym, _∙_, ap}
-use mathlib.Core.Bool.{Bool, true, false, not, _&&_, cond}
+use mathlib.Core.Path.{_≡_, sym, _∙_}
+use mathlib.Core.Bool.{Bool, true, false, not, _&&_}
 use mathlib.Core.List.{List}
 use borrow.Author.Tests.{not-true, not-false}
 use Rattle.numbers.specs.Tests.{and-yes, and-no}
 use lib.ListN.{getD}
-use Rattle.numbers.specs.Rows.{rows, at}
+use Rattle.numbers.specs.Rows.{at}
 use Rattle.numbers.specs.Bytes.{shorts}
 use Rattle.numbers.specs.Rows.Laws.{at-in, at-out, at-row-out}
 use Rattle.table.specs.Table.{tableOf}

@@ -1,9 +1,7 @@
 -- The sums of ground 3, as they run over a part's blocks. Assumes nothing.
-use Prim.Native.Nat.{ℕ, suc, _+_, _≤_}
+use Prim.Native.Nat.{ℕ, _+_, _≤_}
 use native.Mathlib.Omega.{arith}
-use native.Mathlib.Numerals.{add-one}
-use mathlib.Core.Path.{_≡_, refl, sym, _∙_, ap}
-use mathlib.Core.Bool.{Bool, true, false}
+use mathlib.Core.Path.{_≡_, sym, _∙_}
 use lib.Dec.{eqb}
 use Rattle.numbers.specs.Search.{sumTo}
 use Rattle.numbers.specs.Search.Laws.{sum-none, sum-more}

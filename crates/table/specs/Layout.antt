@@ -1,6 +1,6 @@
 -- Blocks that follow one another: a definition's slots and nodes follow those of the definition before, a choice's branches those of the choice before.
 pub mod Laws
-use Prim.Native.Nat.{ℕ, zero, suc, _+_, _-_}
+use Prim.Native.Nat.{ℕ, suc, _+_}
 use mathlib.Core.Bool.{Bool, cond}
 use lib.Dec.{ltb, leb, eqb}
 use Rattle.numbers.specs.Rows.{at}

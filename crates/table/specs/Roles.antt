@@ -1,6 +1,6 @@
 -- What the operands of a branch are: for each guard and each action the role of each of its fields. From the roles follow a field's range
 -- (ground 4), its type (ground 5), what is read (ground 6) and what is written.
-use Prim.Native.Nat.{ℕ, zero, suc, _+_, _-_}
+use Prim.Native.Nat.{ℕ, _+_, _-_}
 use mathlib.Core.Bool.{Bool, true, false, cond}
 use lib.Dec.{ltb, eqb}
 use Rattle.numbers.specs.Rows.{at}

@@ -1,7 +1,7 @@
 // Reading a loaded table: its rows, how its blocks lie, the index of it, and ground 3. Rows and numbers are counted from 0.
 ghost use mathlib.Core.Path.{_≡_};
 ghost use mathlib.Core.Bool.{true};
-ghost use Prim.Native.Nat.{ℕ, _+_, _-_, _≤_, _<_};
+ghost use Prim.Native.Nat.{_+_, _-_, _≤_, _<_};
 ghost use lib.ListN.{getD, replicate};
 ghost use Rattle.numbers.specs.Rows.{at};
 ghost use Rattle.numbers.specs.Search.{first};

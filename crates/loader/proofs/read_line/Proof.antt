@@ -1,5 +1,5 @@
 -- `loader::read_line` meets its contract. The loop: the fields before the column are numbers, and they are laid into the table. Assumes nothing.
-use Prim.Native.Nat.{_+_, _*_, _≤_, _<_, _-_}
+use Prim.Native.Nat.{_+_, _*_, _≤_, _-_}
 use mathlib.Core.Path.{_≡_}
 use mathlib.Core.Bool.{true, false≢true}
 use borrow.Author.Needs.{needs}

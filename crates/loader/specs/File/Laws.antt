@@ -1,21 +1,21 @@
 -- The reading of a file, line by line and field by field. Assumes nothing.
-use Prim.Native.Nat.{ℕ, zero, suc, _+_, _*_, _/_, _%_, _-_, _≤_, _<_}
+use Prim.Native.Nat.{ℕ, suc, _+_, _*_, _/_, _%_, _≤_, _<_}
 use native.Mathlib.Omega.{arith}
 use native.Mathlib.Numerals.{add-one}
 use native.Mathlib.Nat.{min-eq-left}
-use mathlib.Core.Path.{_≡_, refl, sym, _∙_, ap}
-use mathlib.Core.Bool.{Bool, true, false, not, _&&_, cond}
+use mathlib.Core.Path.{_≡_, refl, sym, _∙_}
+use mathlib.Core.Bool.{Bool, true, false, not}
 use mathlib.Core.List.{List, []}
 use lib.Dec.{ltb, eqb}
-use lib.ListN.{length, getD, set, take, drop, replicate, length-take, length-drop, length-replicate, getD-replicate, List·getD-eq-default}
+use lib.ListN.{length, getD, set, take, drop, length-take, length-drop, length-replicate, getD-replicate}
 use lib.Seq.{ext-getD, getD-take, getD-drop, take-suc, take-suc-set, take-all}
-use borrow.Author.Tests.{lt-ltb, le-ltb, ltb-true, ltb-false, le-leb, lt-leb, not-false}
+use borrow.Author.Tests.{ltb-true, ltb-false, le-leb, lt-leb, not-false}
 use Rattle.numbers.specs.Rows.{rows}
 use Rattle.numbers.specs.Rows.Laws.{length-rows, row-in}
 use Rattle.numbers.specs.Search.{every, first, tabulate}
 use Rattle.numbers.specs.Search.Laws.{caseB, every-more, every-not, every-all, first-hit, first-more, length-tabulate, getD-tabulate}
 use Rattle.numbers.specs.Laid.{laid}
-use Rattle.numbers.specs.Laid.Laws.{laid-put, laid-skip, getD-laid, length-laid, getD-unlaid}
+use Rattle.numbers.specs.Laid.Laws.{laid-put, getD-laid, length-laid, getD-unlaid}
 use Rattle.text.specs.Text.{fieldOf, readNumber}
 use Rattle.text.specs.declared.Reading.{Reading}
 use Rattle.text.specs.declared.Reading.the-variants.{Value, Wrong}

@@ -1,28 +1,24 @@
 -- The table's buffer: zeros before reading, and the bytes of the table that it holds. Assumes nothing.
-use Prim.Native.Nat.{ℕ, zero, suc, _+_, _*_, _/_, _%_, _≤_, _<_}
+use Prim.Native.Nat.{ℕ, _+_, _*_, _≤_}
 use native.Mathlib.Omega.{arith}
-use mathlib.Core.Path.{_≡_, refl, sym, _∙_, ap}
-use mathlib.Core.Bool.{Bool, true, false, _&&_, cond}
-use mathlib.Core.List.{List, [], _∷_}
-use lib.Dec.{eqb}
-use lib.ListN.{length, getD, take, replicate, length-replicate, getD-replicate}
+use mathlib.Core.Path.{_≡_, sym, _∙_}
+use mathlib.Core.List.{List}
+use lib.ListN.{length, getD, replicate, length-replicate}
 use lib.Seq.{ext-getD, take-all}
 use mir.Syntax.{w8}
 use mir.Val.{Fits}
 use borrow.Author.Tests.{eq-eqb, ne-eqb}
-use Rattle.numbers.specs.Bytes.{shorts, little, encode, joined}
+use Rattle.numbers.specs.Bytes.{shorts, little}
 use Rattle.numbers.specs.Bytes.Laws.{bytes-fit, length-numbers, short-is, joined-rows, encode-numbers}
 use Rattle.numbers.specs.Laid.{laid}
 use Rattle.numbers.specs.Laid.Laws.{laid-none, zeros-at}
-use Rattle.numbers.specs.Rows.{rows}
 use Rattle.table.specs.Table.{tableOf}
 use Rattle.loader.specs.File.{fileTable}
 use Rattle.loader.specs.Verdict.{verdict}
-use Rattle.loader.specs.Load.{tableBytes, Outcome, outcome, afterVerdict, loaded}
+use Rattle.loader.specs.Load.{tableBytes, outcome, afterVerdict, loaded}
 use Rattle.loader.specs.declared.Ground.{Ground}
 use Rattle.loader.specs.declared.Verdict.{Verdict}
 use Rattle.loader.specs.declared.Verdict.the-variants.{Sound, Fault}
-use Rattle.loader.specs.declared.Loaded.{Loaded}
 use Rattle.loader.specs.declared.Loaded.the-variants.{Done, FileRefused, WrongLength}
 
 shorts-zero : (n : ℕ) → shorts (replicate (n * 2) 0) ≡ replicate n 0

@@ -2,20 +2,19 @@
 use Prim.Native.Nat.{ℕ, zero, suc, _+_, _-_, _*_, _/_, _%_, _≤_, _<_}
 use native.Mathlib.Omega.{arith}
 use mathlib.Core.Path.{_≡_, refl, sym, _∙_, ap}
-use mathlib.Core.Bool.{Bool, true, false, _||_}
-use mathlib.Core.List.{List, [], _∷_}
+use mathlib.Core.Bool.{true}
+use mathlib.Core.List.{List}
 use lib.Dec.{ltb, eqb}
 use lib.ListN.{length, getD}
-use borrow.Author.Tests.{lt-ltb, le-ltb, ltb-true, ltb-false, eq-eqb, ne-eqb, eqb-true, eqb-false}
+use borrow.Author.Tests.{le-ltb, ltb-true, ltb-false, eq-eqb, ne-eqb, eqb-true, eqb-false}
 use Rattle.numbers.specs.Bytes.{shorts, little}
 use Rattle.numbers.specs.Bytes.Laws.{short-is}
-use Rattle.numbers.specs.Rows.{rows, at}
+use Rattle.numbers.specs.Rows.{at}
 use Rattle.numbers.specs.Rows.Laws.{at-in}
-use lib.Bits.{bitOr, bitAnd, or-add-and, and-le-l, and-le-r, or-zero-l}
-use native.Mathlib.Numerals.{add-one}
+use lib.Bits.{bitOr, or-add-and, and-le-l, and-le-r, or-zero-l}
 use Rattle.numbers.specs.Search.{every}
 use Rattle.numbers.specs.Search.Laws.{caseB, contra, every-elim, every-intro}
-use Rattle.table.specs.Table.{Table, tableOf, lineTotal}
+use Rattle.table.specs.Table.{tableOf, lineTotal}
 use Rattle.checks.specs.Ranges.{unusedFrom, restUnused}
 use Rattle.loader.specs.Verdict.{restZero}
 

@@ -1,7 +1,7 @@
 -- Every line that loading names is a line of the file, and so fits the interface. Assumes nothing.
 use Prim.Native.Nat.{ℕ, _≤_}
 use native.Mathlib.Omega.{arith}
-use mathlib.Core.Path.{_≡_, refl, sym, _∙_, ap}
+use mathlib.Core.Path.{_≡_, refl, _∙_, ap}
 use mathlib.Core.Bool.{Bool, true, false, cond}
 use mathlib.Core.List.{List}
 use lib.Dec.{eqb}
@@ -16,10 +16,9 @@ use Rattle.loader.specs.declared.Ground.{Ground}
 use Rattle.loader.specs.declared.Verdict.{Verdict}
 use Rattle.loader.specs.declared.Verdict.the-variants.{Sound, Fault}
 use Rattle.loader.specs.declared.Loaded.{Loaded}
-use Rattle.loader.specs.declared.Loaded.the-variants.{Done, FileRefused, WrongLength}
+use Rattle.loader.specs.declared.Loaded.the-variants.{Done, WrongLength}
 use Rattle.loading.specs.Lowest.{fault-line}
 use Rattle.pithread.specs.Interface.{LoadResult, numbered, loadResult}
-use Rattle.pithread.specs.declared.LoadAnswer.{LoadAnswer}
 
 line-few : (file t : List ℕ) (v : Verdict) → verdict file ≡ v → lineNumber (afterVerdict v file t .answer) ≤ 865
 unfolding afterVerdict lineNumber

@@ -1,16 +1,13 @@
 -- What stands in the places of an index. Assumes nothing.
-use Prim.Native.Nat.{ℕ, zero, suc, _+_, _-_, _≤_, _<_}
+use Prim.Native.Nat.{ℕ, _+_, _-_, _≤_, _<_}
 use native.Mathlib.Omega.{arith}
-use mathlib.Core.Path.{_≡_, refl, sym, _∙_, ap}
-use mathlib.Core.Bool.{Bool, true, false, cond}
+use mathlib.Core.Path.{_≡_, _∙_}
 use mathlib.Core.List.{List}
-use lib.Dec.{ltb, leb}
-use lib.ListN.{length, getD, List·getD-eq-default}
-use borrow.Author.Tests.{lt-ltb, le-ltb, ltb-true, ltb-false}
-use Rattle.numbers.specs.Search.{first, tabulate}
-use Rattle.numbers.specs.Search.Laws.{caseB, getD-tabulate, length-tabulate, first-le}
+use lib.ListN.{getD}
+use borrow.Author.Tests.{lt-ltb, le-ltb}
+use Rattle.numbers.specs.Search.Laws.{getD-tabulate}
 use Rattle.table.specs.Table.{Table}
-use Rattle.table.specs.Layout.{blocks, lines, start, owner, endsPast}
+use Rattle.table.specs.Layout.{blocks, lines, start, owner}
 use Rattle.table.specs.Form.Laws.{Counts, header-counts}
 use Rattle.table.specs.Index.{indexLength, startsFrom, startsRoom, ownersFrom, ownersRoom, entry, indexOf, Indexed}
 use Rattle.table.specs.declared.Part.{Part}

@@ -1,19 +1,18 @@
 -- How the index is laid, entry by entry. Assumes nothing.
-use Prim.Native.Nat.{ℕ, zero, suc, _+_, _-_, _≤_, _<_}
+use Prim.Native.Nat.{ℕ, suc, _+_, _-_, _≤_, _<_}
 use native.Mathlib.Omega.{arith}
 use native.Mathlib.Numerals.{add-one}
-use mathlib.Core.Path.{_≡_, refl, sym, _∙_, ap}
-use mathlib.Core.Bool.{Bool, true, false, cond}
+use mathlib.Core.Path.{_≡_, refl, sym, _∙_}
+use mathlib.Core.Bool.{true, false}
 use mathlib.Core.List.{List}
-use lib.Dec.{ltb, leb}
 use lib.ListN.{getD, set, replicate}
-use borrow.Author.Tests.{lt-ltb, le-ltb, le-leb, lt-leb, ltb-true, ltb-false}
-use Rattle.numbers.specs.Search.{first, sumTo, tabulate}
-use Rattle.numbers.specs.Search.Laws.{first-none, first-more, first-hit, first-void, first-below, first-le, sum-none, sum-more, sum-suc}
+use borrow.Author.Tests.{lt-ltb, le-ltb, ltb-false}
+use Rattle.numbers.specs.Search.{first, sumTo}
+use Rattle.numbers.specs.Search.Laws.{first-none, first-more, first-hit, first-void, first-below, first-le, sum-none, sum-more}
 use Rattle.table.specs.Table.{Table}
 use Rattle.table.specs.Layout.{blocks, lines, size, start, owner, endsPast}
 use Rattle.table.specs.Form.{headerInRange}
-use Rattle.table.specs.Form.Laws.{Counts, header-counts}
+use Rattle.table.specs.Form.Laws.{header-counts}
 use Rattle.table.specs.Index.{indexLength, startsFrom, startsRoom, ownersFrom, ownersRoom, entry, indexOf, Starts}
 use Rattle.numbers.specs.Laid.{laid}
 use Rattle.numbers.specs.Laid.Laws.{laid-none, laid-all, laid-put, laid-zero, laid-skip, getD-laid}
