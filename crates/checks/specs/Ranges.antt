@@ -1,4 +1,4 @@
--- Ground 4: a field out of its range. Each kind of line has its own ranges; an unused field's range is 0 alone. The test of a line rests on the
+-- Ground 4: a field out of its range. Each kind of line has its own ranges, and a field that the line does not use must be 0. The test of a line rests on the
 -- lines before it, which have been found in range when it counts.
 use Prim.Native.Nat.{ℕ, _+_, _-_}
 use mathlib.Core.Bool.{Bool, true, false, not, _&&_, _||_, cond}

@@ -47,7 +47,7 @@ module _ (tb : Table) where
     unfoldable pub branchTyped : ℕ → Bool
     branchTyped d = every (operandTyped d) 5
 
-    -- by the line's kind
+    -- by the line's kind; definition 0's line answers for the ports
     unfoldable pub rowTyped : Bool
     rowTyped =
         cond (eqb r (definitionRow tb)) portsTyped

@@ -27,7 +27,7 @@ module _ (file : List ℕ) where
   abbrev pub lineCount : ℕ
   lineCount = length file / lineLength
 
-  -- ground 1: empty, not whole lines, or too many
+  -- ground 1: no line at all, a last line that is cut short, or more lines than a file may have
   unfoldable pub notLines : Bool
   notLines = not (leb 1 lineCount && (leb lineCount maxRows && eqb (length file % lineLength) 0))
 

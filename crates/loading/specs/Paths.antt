@@ -1,4 +1,4 @@
--- Paths: they begin at the first node of a definition and follow next and child alike. Nodes are counted over the whole file.
+-- Paths. One starts at a definition's first node and goes on from node to node: along a branch to its next node, or to the child that it spawns. Nodes are counted over the whole file.
 pub mod Pass
 pub mod Laws
 use Prim.Native.Nat.{ℕ, _+_, _<_}
@@ -57,6 +57,6 @@ module _ (tb : Table) where
   abbrev pub Reachable : ℕ → Type 0
   Reachable n = Path n
 
-  -- slot k is a parameter, or was written on every path to node n
+  -- whichever way node n is reached, slot k has a value there: it is a parameter, or each path to n has written it
   abbrev pub SurelyWritten : ℕ → ℕ → Type 0
   SurelyWritten n k = (k < parameters tb (definitionOf tb n)) ⊎ ((p : Path n) → wrote k p ≡ true)

@@ -1,6 +1,5 @@
--- Signed numbers. A number of a table or a state is kept as its two's-complement pattern, a natural number of 16 or 32 bits, and `toZ` gives
--- the whole number that it stands for: so a range test from 0 also rules out the negative numbers, whose patterns are large.
--- Their laws are in `Signed/Laws.antt`.
+-- Signed numbers. Tables and states keep a number as its pattern of 16 or 32 bits in two's complement, which is a natural number; `toZ` turns the
+-- pattern into the whole number. A test that a pattern lies between 0 and a small limit also keeps out every negative number: those have large patterns.
 pub mod Laws
 use Prim.Native.Nat.{ℕ, _+_, _-_, _%_}
 use mathlib.Core.Bool.{Bool, cond}

@@ -1,4 +1,4 @@
--- Blocks that follow one another: a definition's slots and nodes follow those of the definition before, a choice's branches those of the choice before.
+-- Blocks of lines: one block of slots and one of nodes for each definition, one of branches for each choice, each block behind the one before it.
 pub mod Laws
 use Prim.Native.Nat.{ℕ, suc, _+_}
 use mathlib.Core.Bool.{Bool, cond}
