@@ -21,7 +21,8 @@ use Rattle.loader.specs.declared.Ground.{Ground}
 use Rattle.loader.specs.declared.Ground.the-variants.{Lines, Field, Header, Total, Kind, Sums, Range, Types, Unwritten, Unreachable}
 use Rattle.loader.specs.declared.Verdict.{Verdict}
 use Rattle.loader.specs.declared.Verdict.the-variants.{Sound, Fault}
-use Rattle.loading.specs.Printed.{no-sound, lines-lined}
+use Rattle.loader.specs.Verdict.Laws.{no-sound}
+use Rattle.loading.specs.Printed.{lines-lined}
 
 -- ---- the grounds
 

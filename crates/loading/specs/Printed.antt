@@ -19,16 +19,13 @@ use Rattle.table.specs.Table.{Table, maxRows, rowNumbers}
 use Rattle.table.specs.Form.Laws.{and-left, and-right}
 use Rattle.loader.specs.File.{isValue, valueOf, lineCount, notLines, fieldIsNumber, wellFormed, malformed, numberAt, rowAt, fileTable}
 use Rattle.loader.specs.Verdict.{atFault, judged, verdict}
+use Rattle.loader.specs.Verdict.Laws.{no-sound}
 use Rattle.loader.specs.declared.Ground.{Ground}
 use Rattle.loader.specs.declared.Ground.the-variants.{Lines, Field}
 use Rattle.loader.specs.declared.Verdict.{Verdict}
-use Rattle.loader.specs.declared.Verdict.the-variants.{Sound, Fault}
+use Rattle.loader.specs.declared.Verdict.the-variants.{Sound}
 
 -- ---- what a file in order has passed
-
--- a refusal is no acceptance
-pub no-sound {ℓ} : {A : Type ℓ} (g : Ground) (l : ℕ) → _≡_ {A = Verdict} (Fault g l) Sound → A
-no-sound g l e = absurd (let z : _≡_ {A = ℕ} 0 1 = cc in let h : ⊥ = omega arith in h)
 
 -- a test that finds no line at fault, and the verdict that follows it
 pub fault-sound : (g : Ground) (p : ℕ → Bool) (n : ℕ) (v : Verdict) → atFault g p n v ≡ Sound → (first p n ≡ n) × (v ≡ Sound)

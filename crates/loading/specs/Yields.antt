@@ -24,13 +24,14 @@ use Rattle.text.specs.declared.Reading.{Reading}
 use Rattle.text.specs.declared.Reading.the-variants.{Value, Wrong}
 use Rattle.loader.specs.File.{lineCount, valueOf, numberAt, fileTable}
 use Rattle.loader.specs.Verdict.{judged, verdict, isSound, restZero, acceptable}
+use Rattle.loader.specs.Verdict.Laws.{no-sound, judged-header}
 use Rattle.loader.specs.Load.{tableLength, tableBytes, Outcome, outcome, afterVerdict, loaded, accepted}
-use Rattle.loader.specs.declared.Ground.the-variants.{Header, Total}
+use Rattle.loader.specs.declared.Ground.the-variants.{Total}
 use Rattle.loader.specs.declared.Verdict.{Verdict}
 use Rattle.loader.specs.declared.Verdict.the-variants.{Sound, Fault}
 use Rattle.loader.specs.declared.Loaded.{Loaded}
 use Rattle.loader.specs.declared.Loaded.the-variants.{Done, FileRefused, WrongLength}
-use Rattle.loading.specs.Printed.{no-sound, Printable, filledUp, sound-read, row-read, row-rest, length-table, print-judged, print-table}
+use Rattle.loading.specs.Printed.{Printable, filledUp, sound-read, row-read, row-rest, length-table, print-judged, print-table}
 
 -- some file in order has this table
 abbrev pub Yields : Table → Type 0
@@ -45,15 +46,10 @@ pub record Shaped (tb : Table) : Type 0 where
 -- ---- what the verdict on a table says of its lines
 
 module _ (tb : Table) (n : ℕ) where
-  pub judged-header : judged tb n ≡ Sound → headerInRange tb ≡ true
-  unfolding judged
-  judged-header e = caseB (headerInRange tb) (λ y. y)
-      (λ y. no-sound Header 1 (rw y at e))
-
   pub judged-total : judged tb n ≡ Sound → n ≡ lineTotal tb
   unfolding judged
   judged-total e = caseB (eqb n (lineTotal tb)) (λ y. eqb-true n (lineTotal tb) y)
-      (λ y. no-sound Total 1 (rw (judged-header e, y) at e))
+      (λ y. no-sound Total 1 (rw (judged-header tb n e, y) at e))
 
 is-sound : (v : Verdict) → isSound v ≡ true → v ≡ Sound
 unfolding isSound

@@ -1,4 +1,4 @@
-use Rattle.loader.specs.Verdict.Laws.{judgements, fault-sound, indexed-is, header-good}
+use Rattle.loader.specs.Verdict.Laws.{judgements, no-sound, indexed-is, header-good}
 use borrow.Author.Needs.{needs}
 use Rattle.loader.proofs.judge.Statement.{statement}
 use Rattle.loader.proofs.judge.Tie as tie
@@ -8,14 +8,14 @@ judge-spec =
     tie.close
     (tie.spec
     (λ c κs. search needs)
-    (λ c. (search judgements, λ e. absurd (fault-sound _ _ e)))
+    (λ c. (search judgements, no-sound _ _))
     (λ c κs. search needs)
-    (λ c. (search judgements, λ e. absurd (fault-sound _ _ e)))
+    (λ c. (search judgements, no-sound _ _))
     (λ c κs. search needs)
     (λ c. search needs)
-    (λ c. (search judgements, λ e. absurd (fault-sound _ _ e)))
+    (λ c. (search judgements, no-sound _ _))
     (λ c κs. search needs)
-    (λ c. (search judgements, λ e. absurd (fault-sound _ _ e)))
+    (λ c. (search judgements, no-sound _ _))
     (λ c κs. (search header-good, search))
     (λ c κs. search indexed-is)
     (λ c. search needs)

@@ -1,4 +1,4 @@
-use Rattle.loader.specs.Verdict.Laws.{file-lines, file-field, file-judged, file-read, few-lines, fault-sound}
+use Rattle.loader.specs.Verdict.Laws.{file-lines, file-field, file-judged, file-read, few-lines, no-sound}
 use Rattle.loader.specs.Load.Laws.{table-zero}
 use borrow.Author.Needs.{needs}
 use Rattle.loader.proofs.judge_file.Statement.{statement}
@@ -9,11 +9,11 @@ judge-file-spec =
     tie.close
     (tie.spec
     (λ c κs. search needs)
-    (λ c. (search file-lines, λ e. absurd (fault-sound _ _ e)))
+    (λ c. (search file-lines, no-sound _ _))
     (λ c κs. (search few-lines, (search needs, search table-zero)))
     (λ c. search needs)
     (λ c. search needs)
-    (λ c. (search file-field, λ e. absurd (fault-sound _ _ e)))
+    (λ c. (search file-field, no-sound _ _))
     (λ c. search needs)
     (λ c κs. search needs)
     (λ c. search needs)

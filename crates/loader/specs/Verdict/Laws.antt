@@ -37,8 +37,9 @@ module _ (p : ℕ → Bool) (n r : ℕ) (e : r ≡ first p n) where
 
 pub ruleset faults = (at-fault, no-fault)
 
-pub fault-sound : (g : Ground) (l : ℕ) → Fault g l ≡ Sound → ⊥
-fault-sound g l e = let z : _≡_ {A = ℕ} 0 1 = cc in omega arith
+-- a verdict that names a fault is not the one that finds none
+pub no-sound {ℓ} : {A : Type ℓ} (g : Ground) (l : ℕ) → _≡_ {A = Verdict} (Fault g l) Sound → A
+no-sound g l e = absurd (let z : _≡_ {A = ℕ} 0 1 = cc in let h : ⊥ = omega arith in h)
 
 -- ---- ground 3
 
@@ -106,13 +107,13 @@ module _ (file : List ℕ) (q : Bool) (e : q ≡ notLines file) where
 -- ---- ground 9
 
 module _ (tb : Table) where
-  sound-header : (n : ℕ) → judged tb n ≡ Sound → headerInRange tb ≡ true
+  pub judged-header : (n : ℕ) → judged tb n ≡ Sound → headerInRange tb ≡ true
   unfolding judged
-  sound-header n e = caseB (headerInRange tb) (λ t. t) (λ f. absurd (fault-sound Header 1 (rw f at e)))
+  judged-header n e = caseB (headerInRange tb) (λ t. t) (λ f. no-sound Header 1 (rw f at e))
 
   pub sound-few : (n : ℕ) (v : Verdict) → n ≡ lineTotal tb → v ≡ judged tb n → v ≡ Sound → n ≤ 865
   sound-few n v a e f =
-      let c = header-counts tb (sound-header n (sym e ∙ f)) in omega arith
+      let c = header-counts tb (judged-header n (sym e ∙ f)) in omega arith
 
   pub sound-indexed : (l : List ℕ) (v : Verdict) → (v ≡ Sound → Indexed tb l) → v ≡ Sound → Indexed tb l
   sound-indexed l v f e = f e
