@@ -2,8 +2,9 @@
  * pithread: loading of procedure files.
  *
  * A buffer is a pointer and its length in bytes. A call reads and writes inside the buffers that
- * it is given and nowhere else, keeps no pointer and allocates nothing. Buffers of one call must
- * not overlap. A pointer must not be null, not even for a length of 0.
+ * it is given and nowhere else, keeps no pointer and allocates nothing; it takes about 25,000
+ * bytes of stack. Buffers of one call must not overlap. A pointer must not be null, not even for a
+ * length of 0.
  *
  * Every call answers a struct whose first number is 0 if the call was done, or else the number of
  * the ground on which it was refused. A refused call changes no buffer, and the other numbers of

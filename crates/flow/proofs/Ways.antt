@@ -6,12 +6,9 @@ use native.Mathlib.Nat.{add-assoc}
 use mathlib.Core.Path.{_≡_, refl, _∙_, ap}
 use mathlib.Core.Bool.{Bool, true, false}
 use mathlib.Core.List.{List, [], _∷_}
-use lib.Dec.{eqb}
-use lib.ListN.{length, getD, length-set, length-map}
+use lib.ListN.{length, getD, length-map}
 use borrow.Author.Tests.{ne-eqb}
 use Rattle.numbers.specs.Rows.{at}
-use Rattle.numbers.specs.Search.{tabulate}
-use Rattle.numbers.specs.Search.Laws.{caseB, length-tabulate}
 use Rattle.table.specs.Table.{Table, nodes, branchRow}
 use Rattle.table.specs.Layout.{start, branchCount, definitionOf}
 use Rattle.table.specs.Roles.{operand, operandRole, writes}
@@ -19,7 +16,8 @@ use Rattle.table.specs.Form.Laws.{header-counts}
 use Rattle.table.specs.Index.{Indexed}
 use Rattle.table.specs.declared.Part.the-variants.{Nodes, Branches}
 use Rattle.table.specs.declared.Role.{Role}
-use Rattle.flow.specs.Flow.{Marks, slotWritten, pastWrite, either, arrive, begins, beginning, branchFollowed, branchesFollowed, flowTo, flow}
+use Rattle.flow.specs.Flow.Laws.{length-flow}
+use Rattle.flow.specs.Flow.{Marks, slotWritten, pastWrite, arrive, beginning, branchFollowed, branchesFollowed, flowTo, flow}
 use Rattle.flow.specs.Marks.{bits, marksOf}
 
 -- ---- the slot that a branch writes
@@ -66,31 +64,6 @@ module _ (tb : Table) (n : ℕ) (m : List Bool) (ms : Marks) where
   branches-all i c ms₁ e g h j = let q : branchCount tb n ≡ i = omega arith in rw q e
 
 -- ---- the nodes
-
-length-arrive : (ms : Marks) (t : ℕ) (m : List Bool) → length (arrive ms t m) ≡ length ms
-unfolding arrive
-length-arrive ms t m = length-set ms t (either (getD ms t []) m)
-
-module _ (tb : Table) where
-  length-branch : (f : ℕ) (m : List Bool) (r : ℕ) (ms : Marks) → length (branchFollowed tb f m r ms) ≡ length ms
-  unfolding branchFollowed
-  length-branch f m r ms =
-      let p = pastWrite (slotWritten tb r) m in
-      let o : length (arrive ms (f + at tb r 8) p) ≡ length ms = length-arrive ms (f + at tb r 8) p in
-      caseB (eqb (at tb r 4) 4)
-      (λ t. rw t (length-arrive (arrive ms (f + at tb r 8) p) (f + at tb r 9) p ∙ o))
-      (λ g. rw g o)
-
-  length-branches : (n : ℕ) (m : List Bool) (ms : Marks) (i : ℕ) → length (branchesFollowed tb n m ms i) ≡ length ms
-  unfolding branchesFollowed
-  length-branches n m ms zero = refl
-  length-branches n m ms (suc i) =
-      length-branch (start tb Nodes (definitionOf tb n)) m (branchRow tb + (start tb Branches n + i)) (branchesFollowed tb n m ms i) ∙ length-branches n m ms i
-
-  length-flow : (n : ℕ) → length (flowTo tb n) ≡ 192
-  unfolding flowTo beginning
-  length-flow zero = length-tabulate 192 (λ n. tabulate 17 (begins tb n))
-  length-flow (suc n) = length-branches n (getD (flowTo tb n) n []) (flowTo tb n) (branchCount tb n) ∙ length-flow n
 
 row-bits : (l : List ℕ) (n : ℕ) → n < length l → getD (marksOf l) n [] ≡ bits (getD l n 0)
 unfolding marksOf

@@ -1,5 +1,6 @@
 -- Which slots a path may leave unwritten, by one pass upward over the nodes: next and child are above their node, so that all that leads to a
 -- node has been passed when the node is. Grounds 6 and 7 follow.
+pub mod Laws
 use Prim.Native.Nat.{ℕ, zero, suc, _+_, _-_}
 use mathlib.Core.Bool.{Bool, true, false, not, _&&_, _||_, cond}
 use mathlib.Core.List.{List, []}

@@ -6,9 +6,9 @@ ghost use lib.ListN.{length, replicate};
 ghost use Rattle.numbers.specs.Bytes.{shorts};
 ghost use Rattle.numbers.specs.Laid.{laid};
 ghost use Rattle.numbers.specs.Search.{every, first};
-ghost use Rattle.table.specs.Table.{tableOf, maxRows, lineTotal};
+ghost use Rattle.table.specs.Table.{tableOf, maxRows, rowNumbers, tableNumbers, lineTotal};
 ghost use Rattle.table.specs.Index.{indexLength, Indexed};
-ghost use Rattle.loader.specs.File.{notLines, wellFormed, malformed, fileTable, numberIn};
+ghost use Rattle.loader.specs.File.{lineLength, notLines, wellFormed, malformed, fileTable, numberIn};
 ghost use Rattle.loader.specs.Verdict.{judgedFlow, judgedRows, judged, verdict, restZero};
 ghost use Rattle.loader.specs.Load.{Outcome, loaded, accepted, tableLength};
 use text::Reading;
@@ -56,11 +56,11 @@ pub enum Loaded {
 
 // The fields of a line, laid into the table behind those of the lines before; whether all of the line is well formed.
 fn read_line(file: &[u8], table: &mut [u8], line: usize) -> bool
-    requires { ⌜ line < 865 ⌝ }
-    requires { ⌜ line * 73 + 73 ≤ length (now file) ⌝ }
-    requires { ⌜ shorts (now table) ≡ laid (numberIn (now file)) (line * 12) 10380 ⌝ }
+    requires { ⌜ line < maxRows ⌝ }
+    requires { ⌜ line * lineLength + lineLength ≤ length (now file) ⌝ }
+    requires { ⌜ shorts (now table) ≡ laid (numberIn (now file)) (line * rowNumbers) tableNumbers ⌝ }
     ensures { λ r. ⌜ r ≡ wellFormed (now (file .entry)) line ⌝ }
-    ensures { λ r. ⌜ (r ≡ true → shorts (now (table .exit)) ≡ laid (numberIn (now (file .entry))) (line * 12 + 12) 10380) ⌝ }
+    ensures { λ r. ⌜ (r ≡ true → shorts (now (table .exit)) ≡ laid (numberIn (now (file .entry))) (line * rowNumbers + rowNumbers) tableNumbers) ⌝ }
 {
     for column in 0..ROW_NUMBERS {
         match text::read_field(text::field(file, line, column)) {
@@ -74,11 +74,11 @@ fn read_line(file: &[u8], table: &mut [u8], line: usize) -> bool
 
 // The lines of a file, laid into a table of zeros; the first malformed line, n where there is none.
 fn read_lines(file: &[u8], table: &mut [u8], n: usize) -> usize
-    requires { ⌜ n ≤ 865 ⌝ }
-    requires { ⌜ n * 73 ≤ length (now file) ⌝ }
-    requires { ⌜ shorts (now table) ≡ laid (numberIn (now file)) 0 10380 ⌝ }
+    requires { ⌜ n ≤ maxRows ⌝ }
+    requires { ⌜ n * lineLength ≤ length (now file) ⌝ }
+    requires { ⌜ shorts (now table) ≡ laid (numberIn (now file)) 0 tableNumbers ⌝ }
     ensures { λ r. ⌜ r ≡ first (malformed (now (file .entry))) n ⌝ }
-    ensures { λ r. ⌜ (r ≡ n → shorts (now (table .exit)) ≡ laid (numberIn (now (file .entry))) (n * 12) 10380) ⌝ }
+    ensures { λ r. ⌜ (r ≡ n → shorts (now (table .exit)) ≡ laid (numberIn (now (file .entry))) (n * rowNumbers) tableNumbers) ⌝ }
 {
     for line in 0..n {
         if !read_line(file, table, line) {
@@ -220,7 +220,8 @@ fn rest_is_zero(table: &[u8], n: usize) -> bool
     all == 0
 }
 
-// Ground 9: whether the table is one that loading yields; the index of such a table is left in `index`, which comes as zeros.
+// Ground 9: whether the table is one that loading yields. The index of such a table is left in `index`, which comes as zeros; for any other
+// table it is left open what `index` holds, and nobody may use it.
 pub fn accept(table: &[u8], index: &mut [u32]) -> bool
     requires { ⌜ now index ≡ replicate indexLength 0 ⌝ }
     ensures { λ r. ⌜ r ≡ accepted (now (table .entry)) ⌝ }

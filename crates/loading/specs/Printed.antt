@@ -13,6 +13,7 @@ use Rattle.numbers.specs.Search.{every, first, tabulate}
 use Rattle.numbers.specs.Search.Laws.{caseB, contra, every-elim, every-intro, first-le, first-below, first-void, length-tabulate, getD-tabulate}
 use Rattle.text.specs.Text.{fileText, fieldOf, readNumber}
 use Rattle.text.specs.Text.Laws.{length-file, prints-read, prints-end, read-prints}
+use Rattle.text.specs.Text.Characters.{Characters, file-fits}
 use Rattle.text.specs.declared.Reading.{Reading}
 use Rattle.text.specs.declared.Reading.the-variants.{Value, Wrong}
 use Rattle.table.specs.Table.{Table, maxRows, rowNumbers}
@@ -119,6 +120,10 @@ module _ (file : List ℕ) (g : Read file) where
 
 pub sound-printed : (file : List ℕ) → verdict file ≡ Sound → file ≡ fileText (take (lineCount file) (fileTable file))
 sound-printed file e = read-printed file (sound-read file e .0)
+
+-- and so a file that loads is bytes
+pub sound-bytes : (file : List ℕ) → verdict file ≡ Sound → Characters file
+sound-bytes file e = rw (sound-printed file e) (file-fits (take (lineCount file) (fileTable file)))
 
 -- ---- the print of rows
 

@@ -4,9 +4,9 @@ use native.Mathlib.Omega.{arith}
 use mathlib.Core.Path.{_≡_, refl, sym, _∙_, ap}
 use mathlib.Core.Logic.{_↔_}
 use mathlib.Core.Bool.{true}
-use mathlib.Core.List.{List, [], _∷_, _++_}
+use mathlib.Core.List.{List, [], _∷_, _++_, map-id}
 use lib.Dec.{ltb, eqb}
-use lib.ListN.{length, getD, take, drop, replicate, length-drop, length-append, length-replicate, getD-replicate, take-append-drop, List·getD-append}
+use lib.ListN.{length, getD, take, drop, replicate, length-drop, length-replicate, getD-replicate, take-append-drop, List·getD-append}
 use lib.Seq.{length-take-le, getD-take, getD-drop, getD-append-add, ext-getD, take-all}
 use borrow.Author.Tests.{le-ltb, ltb-true, ltb-false, eq-eqb, eqb-true}
 use Rattle.numbers.specs.Rows.{at}
@@ -19,7 +19,8 @@ use Rattle.table.specs.Form.{headerInRange}
 use Rattle.table.specs.Form.Laws.{and-left, and-right, header-counts}
 use Rattle.checks.specs.Ranges.{unusedFrom, restUnused}
 use Rattle.text.specs.Text.{fileText, fieldOf, readNumber}
-use Rattle.text.specs.Text.Laws.{reads-value}
+use Rattle.text.specs.Text.Laws.{reads-value, length-joined}
+use Rattle.text.specs.Text.Characters.{Characters}
 use Rattle.text.specs.declared.Reading.{Reading}
 use Rattle.text.specs.declared.Reading.the-variants.{Value, Wrong}
 use Rattle.loader.specs.File.{lineCount, valueOf, numberAt, fileTable}
@@ -31,7 +32,7 @@ use Rattle.loader.specs.declared.Verdict.{Verdict}
 use Rattle.loader.specs.declared.Verdict.the-variants.{Sound, Fault}
 use Rattle.loader.specs.declared.Loaded.{Loaded}
 use Rattle.loader.specs.declared.Loaded.the-variants.{Done, FileRefused, WrongLength}
-use Rattle.loading.specs.Printed.{Printable, filledUp, sound-read, row-read, row-rest, length-table, print-judged, print-table}
+use Rattle.loading.specs.Printed.{Printable, filledUp, sound-bytes, sound-read, row-read, row-rest, length-table, print-judged, print-table}
 
 -- some file in order has this table
 abbrev pub Yields : Table → Type 0
@@ -126,10 +127,8 @@ module _ (tb : Table) where
 
 -- ---- rows, one after the other
 
-length-joined : (w : ℕ) (rs : Table) → ((i : ℕ) → i < length rs → length (getD rs i []) ≡ w) → length (joined rs) ≡ length rs * w
-unfolding joined
-length-joined w [] h = omega arith
-length-joined w (r ∷ rs) h = omega (arith, length-append r (joined rs), h 0 (omega arith), length-joined w rs (λ i l. h (suc i) (omega arith)))
+length-even : (w : ℕ) (rs : Table) → ((i : ℕ) → i < length rs → length (getD rs i []) ≡ w) → length (joined rs) ≡ length rs * w
+length-even w rs h = rw (map-id rs) at (length-joined (λ (r : List ℕ). r) w [] rs h)
 
 joined-small : (m : ℕ) (rs : Table) → 0 < m → ((i k : ℕ) → i < length rs → k < length (getD rs i []) → at rs i k < m) → (x : ℕ) → getD (joined rs) x 0 < m
 unfolding joined
@@ -145,7 +144,7 @@ joined-small m (r ∷ rs) z h x =
 module _ (tb : Table) (s : Shaped tb) where
   pub length-bytes : length (tableBytes tb) ≡ tableLength
   unfolding tableBytes
-  length-bytes = omega (arith, length-encode 2 (joined tb), length-joined rowNumbers tb (λ i h. s .twelve i (omega (arith, s .long))), s .long)
+  length-bytes = omega (arith, length-encode 2 (joined tb), length-even rowNumbers tb (λ i h. s .twelve i (omega (arith, s .long))), s .long)
 
   -- the bytes of a table hold it
   pub bytes-hold : tableOf (tableBytes tb) ≡ tb
@@ -190,9 +189,9 @@ file-shaped file = record {
 
 -- ---- bytes
 
--- some file, loaded into some buffer, leaves these bytes in it
+-- some file of bytes, loaded into some buffer, leaves these bytes in it
 abbrev pub YieldsBytes : List ℕ → Type 0
-YieldsBytes b = (file : List ℕ) × (t : List ℕ) × (loaded file t ≡ outcome Done b)
+YieldsBytes b = (file : List ℕ) × (t : List ℕ) × Characters file × (loaded file t ≡ outcome Done b)
 
 after-done : (v : Verdict) (file t b : List ℕ) → afterVerdict v file t ≡ outcome Done b → (v ≡ Sound) × (tableBytes (fileTable file) ≡ b)
 unfolding afterVerdict
@@ -218,8 +217,8 @@ unfolding accepted
 accepted-iff b fit = (
   λ e. let long : length b ≡ tableLength = eqb-true (length b) tableLength (and-left _ _ e) in
       let (file, v, t) = acceptable-yields (tableOf b) (buffer-shaped b long fit) (and-right (eqb (length b) tableLength) _ e) in
-      (file, b, sound-loads file b v long ∙ rw (t, hold-bytes b long fit)),
-  λ y. let (file, t, e) = y in
+      (file, b, sound-bytes file v, sound-loads file b v long ∙ rw (t, hold-bytes b long fit)),
+  λ y. let (file, t, c, e) = y in
       let (v, q) = done-sound file t b e in
       let s = file-shaped file in
       let long : length b ≡ tableLength = sym (ap length q) ∙ length-bytes (fileTable file) s in

@@ -1,4 +1,3 @@
-pub mod Base
 pub mod Table
 pub mod Layout
 pub mod Index

@@ -15,6 +15,10 @@ maxRows = 865
 abbrev pub rowNumbers : ℕ
 rowNumbers = 12
 
+-- all its numbers
+abbrev pub tableNumbers : ℕ
+tableNumbers = 10380
+
 abbrev pub maxTypes : ℕ
 maxTypes = 16
 

@@ -2,6 +2,7 @@
 -- the negative ones from 32768 on. A character is its number in ASCII: 32 is the blank, 45 the minus sign, 48 to 57 the figures, 10 the newline.
 -- The laws are in `Text/Laws.antt`.
 pub mod Laws
+pub mod Characters
 use Prim.Native.Nat.{ℕ, zero, suc, _+_, _-_, _*_, _/_, _%_}
 use mathlib.Core.Bool.{Bool, true, false, cond}
 use mathlib.Core.List.{List, [], _∷_, _++_, map}

@@ -7,16 +7,17 @@ use mathlib.Core.Logic.{_⊎_, inl, inr, ⊎-elim, ⊎-map, _↔_}
 use mathlib.Core.Bool.{Bool, true, false, not, _&&_, _||_}
 use mathlib.Core.List.{List, []}
 use lib.Dec.{eqb}
-use lib.ListN.{length, getD, length-set}
+use lib.ListN.{length, getD}
 use lib.Seq.{getD-set-same, getD-set-other}
 use borrow.Author.Tests.{eqb-true, eqb-false, eq-eqb, not-true}
 use Rattle.numbers.specs.Rows.{at}
 use Rattle.numbers.specs.Search.{tabulate}
-use Rattle.numbers.specs.Search.Laws.{caseB, contra, getD-tabulate, length-tabulate}
+use Rattle.numbers.specs.Search.Laws.{caseB, contra, getD-tabulate}
 use Rattle.table.specs.Table.{Table, maxNodes}
 use Rattle.table.specs.Layout.{branchCount}
 use Rattle.table.specs.Form.Laws.{and-left, and-right}
 use Rattle.flow.specs.Flow.{Marks, markCount, slotWritten, pastWrite, either, arrive, begins, beginning, branchFollowed, branchesFollowed, flowTo}
+use Rattle.flow.specs.Flow.Laws.{length-arrive, length-branches, length-flow}
 use Rattle.loading.specs.Paths.{firstNode, rowOf, Leads, Edge}
 
 pub or-true : (a b : Bool) → ((a || b) ≡ true) ↔ ((a ≡ true) ⊎ (b ≡ true))
@@ -33,28 +34,7 @@ mark ms t k = getD (getD ms t []) k false
 
 -- ---- the marks are those of 192 nodes throughout
 
-length-arrive : (ms : Marks) (u : ℕ) (m : List Bool) → length (arrive ms u m) ≡ length ms
-unfolding arrive
-length-arrive ms u m = length-set ms u (either (getD ms u []) m)
-
 module _ (tb : Table) where
-  length-followed : (f : ℕ) (m : List Bool) (r : ℕ) (ms : Marks) → length (branchFollowed tb f m r ms) ≡ length ms
-  unfolding branchFollowed
-  length-followed f m r ms =
-      let w = pastWrite (slotWritten tb r) m in
-      let next = length-arrive ms (f + at tb r 8) w in
-      caseB (eqb (at tb r 4) 4) (λ y. rw y (length-arrive (arrive ms (f + at tb r 8) w) (f + at tb r 9) w ∙ next)) (λ y. rw y next)
-
-  length-branches : (n : ℕ) (m : List Bool) (ms : Marks) (i : ℕ) → length (branchesFollowed tb n m ms i) ≡ length ms
-  unfolding branchesFollowed
-  length-branches n m ms zero = refl
-  length-branches n m ms (suc i) = length-followed (firstNode tb n) m (rowOf tb n i) (branchesFollowed tb n m ms i) ∙ length-branches n m ms i
-
-  length-flow : (n : ℕ) → length (flowTo tb n) ≡ maxNodes
-  unfolding flowTo beginning
-  length-flow zero = length-tabulate maxNodes (λ n. tabulate markCount (begins tb n))
-  length-flow (suc n) = length-branches n (getD (flowTo tb n) n []) (flowTo tb n) (branchCount tb n) ∙ length-flow n
-
   -- the branch in row r, of a node with the marks m, lets mark k go on
   abbrev pub LetsOn : ℕ → List Bool → ℕ → Type 0
   LetsOn k m r = (getD m k false ≡ true) × (eqb k (slotWritten tb r) ≡ false)
@@ -116,7 +96,7 @@ module _ (tb : Table) where
     branches-iff n m ms e zero = (λ x. inl x, λ s. ⊎-elim (λ a. a) (λ b. absurd (let z = b .1 in omega arith)) s)
     branches-iff n m ms e (suc i) =
         let before = branches-iff n m ms e i in
-        let last = branch-iff (firstNode tb n) m (rowOf tb n i) (branchesFollowed tb n m ms i) (length-branches n m ms i ∙ e) in (
+        let last = branch-iff (firstNode tb n) m (rowOf tb n i) (branchesFollowed tb n m ms i) (length-branches tb n m ms i ∙ e) in (
           λ x. ⊎-elim (λ a. ⊎-map (λ b. b) (λ b. let (j, z, d) = b in (j, omega arith, d)) (before .0 a))
               (λ b. inr (i, omega arith, record { leads = b .0; lets = b .1 })) (last .0 x),
           λ s. last .1 (⊎-elim (λ a. inl (before .1 (inl a)))
@@ -130,7 +110,7 @@ module _ (tb : Table) where
     pub flow-iff : (n : ℕ) → (mark (flowTo tb (suc n)) t k ≡ true) ↔ ((mark (flowTo tb n) t k ≡ true) ⊎ ((i : ℕ) × Edge tb n i t × LetsOn k (getD (flowTo tb n) n []) (rowOf tb n i)))
     unfolding flowTo
     flow-iff n =
-        let all = branches-iff n (getD (flowTo tb n) n []) (flowTo tb n) (length-flow n) (branchCount tb n) in (
+        let all = branches-iff n (getD (flowTo tb n) n []) (flowTo tb n) (length-flow tb n) (branchCount tb n) in (
           λ x. ⊎-map (λ a. a) (λ b. let (i, z, d) = b in (i, record { branch = z; leads = d .leads }, d .lets)) (all .0 x),
           λ s. all .1 (⊎-map (λ a. a) (λ b. let (i, d, c) = b in (i, d .branch, record { leads = d .leads; lets = c })) s),
         )
