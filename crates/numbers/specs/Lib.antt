@@ -1,5 +1,6 @@
 pub mod Rows
 pub mod Bytes
+pub mod Count
 pub mod Signed
 pub mod Search
 pub mod Tests

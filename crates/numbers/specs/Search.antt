@@ -16,6 +16,10 @@ pub first : (ℕ → Bool) → ℕ → ℕ
 first p zero = zero
 first p (suc n) = cond (ltb (first p n) n) (first p n) (cond (p n) n (suc n))
 
+-- whether p holds of some number below n
+unfoldable pub some : (ℕ → Bool) → ℕ → Bool
+some p n = ltb (first p n) n
+
 -- the sum of f over the numbers below n
 pub sumTo : (ℕ → ℕ) → ℕ → ℕ
 sumTo f zero = 0

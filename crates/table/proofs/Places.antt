@@ -4,7 +4,10 @@ use native.Mathlib.Omega.{arith}
 use mathlib.Core.Path.{_≡_, sym, _∙_}
 use mathlib.Core.List.{List}
 use lib.ListN.{getD}
-use Rattle.table.specs.Table.{Table}
+use mir.Syntax.{w8}
+use mir.Val.{Fits}
+use Rattle.table.specs.Table.{Table, tableOf}
+use Rattle.table.specs.Bounds.{start-few}
 use Rattle.table.specs.Layout.{blocks, lines, start, owner}
 use Rattle.table.specs.Index.{startsFrom, ownersFrom, ownersRoom, Indexed}
 use Rattle.table.specs.Layout.Laws.{start-out, owner-past, owner-le}
@@ -33,3 +36,7 @@ module _ (tb : Table) (p : Part) (n : ℕ) where
 module _ (tb : Table) (p : Part) (r x y : ℕ) (e : x ≡ y) where
   pub owner-read : r ≡ owner tb p x → r ≡ owner tb p y
   owner-read f = rw (← e) f
+
+-- a start is small
+pub start-low : (b : List ℕ) (l : List ℕ) → Indexed (tableOf b) l → (p : Part) (i n r : ℕ) → r ≡ getD l (startsFrom p + i) 0 → n ≡ blocks (tableOf b) p → i ≤ n → ((i : ℕ) → Fits w8 (getD b i 0)) → r ≤ 12582720
+start-low b l g p i n r e k h f = rw (start-is (tableOf b) l g p i n r e k h) (start-few b f l g p i)

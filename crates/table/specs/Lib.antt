@@ -3,3 +3,4 @@ pub mod Layout
 pub mod Index
 pub mod Roles
 pub mod Form
+pub mod Bounds

@@ -436,6 +436,7 @@ fn start_at(index: &[u32], part: Part, i: u32) -> u32
 pub fn start_of(table: &[u8], index: &[u32], part: Part, i: u32) -> u32
     requires { ⌜ Indexed (tableOf (now table)) (now index) ⌝ }
     ensures { λ r. ⌜ r ≡ start (tableOf (now (table .entry))) part i ⌝ }
+    ensures { λ r. ⌜ r ≤ 12582720 ⌝ }
 {
     if i <= blocks_of(table, part) {
         return start_at(index, part, i);

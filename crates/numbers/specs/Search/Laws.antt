@@ -9,7 +9,7 @@ use mathlib.Core.List.{[], _∷_, _++_}
 use lib.Dec.{ltb}
 use lib.ListN.{length, getD}
 use borrow.Author.Tests.{lt-ltb, le-ltb, ltb-true, ltb-false}
-use Rattle.numbers.specs.Search.{every, first, sumTo, listFrom, tabulate}
+use Rattle.numbers.specs.Search.{every, first, some, sumTo, listFrom, tabulate}
 
 -- a goal by the two values of a test, each with its equation
 pub caseB {ℓ} : {A : Type ℓ} (b : Bool) → (b ≡ true → A) → (b ≡ false → A) → A
@@ -121,10 +121,31 @@ module _ (p : ℕ → Bool) where
   pub first-is : (n i : ℕ) → i < n → p i ≡ true → ((j : ℕ) → j < i → p j ≡ false) → first p n ≡ i
   first-is n i l t h = sym (first-hit i n (p i) (first-void i h) refl t l)
 
+module _ (p : ℕ → Bool) where
+  -- some number passes, or all fail
+  pub some-elim : (n : ℕ) → some p n ≡ true → (i : ℕ) × (i < n) × (p i ≡ true)
+  unfolding some
+  some-elim n e = let l : first p n < n = ltb-true (first p n) n e in (first p n, l, first-passes p n l)
+
+  pub some-intro : (n i : ℕ) → i < n → p i ≡ true → some p n ≡ true
+  unfolding some
+  some-intro n i l t =
+      caseB (ltb (first p n) n) (λ e. e) (λ f. contra t (first-below p n i (omega (arith, ltb-false (first p n) n f))))
+
+  pub some-void : (n : ℕ) → ((i : ℕ) → i < n → p i ≡ false) → some p n ≡ false
+  some-void n h = caseB (some p n) (λ t. let (i, l, e) = some-elim n t in contra e (h i l)) (λ f. f)
+
+  pub some-none : (n i : ℕ) → some p n ≡ false → i < n → p i ≡ false
+  some-none n i e l = caseB (p i) (λ t. contra (some-intro n i l t) e) (λ f. f)
+
 pub first-cong : (p q : ℕ → Bool) (n : ℕ) → ((i : ℕ) → i < n → p i ≡ q i) → first p n ≡ first q n
 unfolding first
 first-cong p q zero h = refl
 first-cong p q (suc n) h = rw (first-cong p q n (λ i l. h i (omega arith)), h n (omega arith))
+
+pub some-cong : (p q : ℕ → Bool) (n : ℕ) → ((i : ℕ) → i < n → p i ≡ q i) → some p n ≡ some q n
+unfolding some
+some-cong p q n h = rw (first-cong p q n h)
 
 pub ruleset first-laws = (first-none, first-more, first-hit, first-all)
 

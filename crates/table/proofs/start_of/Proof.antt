@@ -1,4 +1,4 @@
-use Rattle.table.proofs.Places.{start-is, start-past}
+use Rattle.table.proofs.Places.{start-is, start-past, start-low}
 use borrow.Author.Needs.{needs}
 use Rattle.table.proofs.start_of.Statement.{statement}
 use Rattle.table.proofs.start_of.Tie as tie
@@ -9,5 +9,5 @@ start-of-spec =
     (tie.spec
     (λ c κs. search needs)
     (λ c κs. search needs)
-    (λ c. search (start-is, start-past))
-    (λ c. search (start-is, start-past)))
+    (λ c. (search start-is, search start-low))
+    (λ c. (search start-past, search needs)))

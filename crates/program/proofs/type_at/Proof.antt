@@ -1,0 +1,13 @@
+use Rattle.rules.specs.Program.{typeAt}
+use borrow.Author.Needs.{needs}
+use Rattle.program.proofs.type_at.Statement.{statement}
+use Rattle.program.proofs.type_at.Tie as tie
+
+pub type-at-spec : {M : Type 1} → statement M
+unfolding typeAt
+type-at-spec =
+    tie.close
+    (tie.spec
+    (λ c κs. search needs)
+    (λ c κs. search needs)
+    (λ c. (cc, search needs)))

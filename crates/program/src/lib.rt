@@ -1,0 +1,155 @@
+// What a table says of the node at which a thread stands, read with the thread's slots, and the search for a partner.
+ghost use mathlib.Core.Path.{_≡_};
+ghost use Prim.Native.Nat.{_+_, _≤_, _<_};
+ghost use Rattle.table.specs.Table.{tableOf};
+ghost use Rattle.table.specs.Layout.{start, definitionOf, slotType};
+ghost use Rattle.table.specs.declared.Part.the-variants.{Nodes};
+ghost use Rattle.table.specs.Index.{Indexed};
+ghost use Rattle.state.specs.State.{view, thread, slotOf};
+ghost use Rattle.rules.specs.Program.{typeAt, channelSlot, blank, branchAt, nextOf, childOf, actOf, guardHolds, assigned, opposite};
+use rules::Act;
+use rules::Direction;
+use table::Part;
+
+// The definition of node n.
+pub fn definition_of(table: &[u8], index: &[u32], n: u32) -> u32
+    requires { ⌜ Indexed (tableOf (now table)) (now index) ⌝ }
+    ensures { λ r. ⌜ r ≡ definitionOf (tableOf (now (table .entry))) n ⌝ }
+{
+    table::owner_of(table, index, Part::Nodes, n as usize)
+}
+
+// The type of slot k of definition d, and of slot k at node n.
+pub fn slot_type(table: &[u8], index: &[u32], d: u32, k: u32) -> u32
+    requires { ⌜ Indexed (tableOf (now table)) (now index) ⌝ }
+    ensures { λ r. ⌜ r ≡ slotType (tableOf (now (table .entry))) d k ⌝ }
+    ensures { λ r. ⌜ r < 65536 ⌝ }
+{
+    let place = table::start_of(table, index, Part::Slots, d) as usize + k as usize;
+    table::cell(table, table::slot_row(table) + place, 1)
+}
+
+pub fn type_at(table: &[u8], index: &[u32], n: u32, k: u32) -> u32
+    requires { ⌜ Indexed (tableOf (now table)) (now index) ⌝ }
+    ensures { λ r. ⌜ r ≡ typeAt (tableOf (now (table .entry))) n k ⌝ }
+    ensures { λ r. ⌜ r < 65536 ⌝ }
+{
+    slot_type(table, index, definition_of(table, index, n), k)
+}
+
+// Whether slot k of definition d is a channel slot.
+pub fn channel_slot(table: &[u8], index: &[u32], d: u32, k: u32) -> bool
+    requires { ⌜ Indexed (tableOf (now table)) (now index) ⌝ }
+    ensures { λ r. ⌜ r ≡ channelSlot (tableOf (now (table .entry))) d k ⌝ }
+{
+    if k < table::slots_of(table, d) {
+        return slot_type(table, index, d, k) != 0;
+    }
+    false
+}
+
+// What slot k of definition d has while it is unwritten.
+pub fn blank_of(table: &[u8], index: &[u32], d: u32, k: u32) -> u32
+    requires { ⌜ Indexed (tableOf (now table)) (now index) ⌝ }
+    ensures { λ r. ⌜ r ≡ blank (tableOf (now (table .entry))) d k ⌝ }
+{
+    if channel_slot(table, index, d, k) {
+        return 4294967295;
+    }
+    0
+}
+
+// The row of branch i of node n.
+pub fn branch_at(table: &[u8], index: &[u32], n: u32, i: u32) -> usize
+    requires { ⌜ Indexed (tableOf (now table)) (now index) ⌝ }
+    ensures { λ r. ⌜ r ≡ branchAt (tableOf (now (table .entry))) n i ⌝ }
+{
+    let place = table::start_of(table, index, Part::Branches, n) as usize + i as usize;
+    table::branch_row(table) + place
+}
+
+// The node that number x of the definition of node n is.
+fn node_within(table: &[u8], index: &[u32], n: u32, x: u32) -> u32
+    requires { ⌜ Indexed (tableOf (now table)) (now index) ⌝ }
+    requires { ⌜ x < 65536 ⌝ }
+    ensures { λ r. ⌜ r ≡ start (tableOf (now (table .entry))) Nodes (definitionOf (tableOf (now (table .entry))) n) + x ⌝ }
+{
+    table::start_of(table, index, Part::Nodes, definition_of(table, index, n)) + x
+}
+
+// The nodes to which the branch in a row, of node n, leads on: itself and its child.
+pub fn next_of(table: &[u8], index: &[u32], n: u32, row: usize) -> u32
+    requires { ⌜ Indexed (tableOf (now table)) (now index) ⌝ }
+    ensures { λ r. ⌜ r ≡ nextOf (tableOf (now (table .entry))) n row ⌝ }
+{
+    node_within(table, index, n, table::cell(table, row, 8))
+}
+
+pub fn child_of(table: &[u8], index: &[u32], n: u32, row: usize) -> u32
+    requires { ⌜ Indexed (tableOf (now table)) (now index) ⌝ }
+    ensures { λ r. ⌜ r ≡ childOf (tableOf (now (table .entry))) n row ⌝ }
+{
+    node_within(table, index, n, table::cell(table, row, 9))
+}
+
+// What the branch in a row does.
+pub fn act_of(table: &[u8], row: usize) -> Act
+    ensures { λ r. ⌜ r ≡ actOf (tableOf (now (table .entry))) row ⌝ }
+{
+    match table::cell(table, row, 4) {
+        1 => Act::Meeting(Direction::Out),
+        2 => Act::Meeting(Direction::In),
+        3 => Act::New,
+        4 => Act::Spawn,
+        0 => Act::Tau,
+        _ => Act::Assignment,
+    }
+}
+
+// Slot k of thread t.
+pub fn slot(state: &[u8], t: u32, k: u32) -> u32
+    ensures { λ r. ⌜ r ≡ slotOf (thread (view (now (state .entry))) t) k ⌝ }
+{
+    state::thread_word(state, t as usize, 2 + k as usize)
+}
+
+// Whether the guard of the branch in a row is true of thread t.
+pub fn guard_holds(table: &[u8], row: usize, state: &[u8], t: u32) -> bool
+    ensures { λ r. ⌜ r ≡ guardHolds (tableOf (now (table .entry))) row (thread (view (now (state .entry))) t) ⌝ }
+{
+    let kind = table::cell(table, row, 1);
+    if kind == 0 {
+        return true;
+    }
+    let left = slot(state, t, table::cell(table, row, 2));
+    let right = table::cell(table, row, 3);
+    match kind {
+        1 => left == numbers::widen(right),
+        2 => numbers::below(left, numbers::widen(right)),
+        3 => left == slot(state, t, right),
+        _ => numbers::below(left, slot(state, t, right)),
+    }
+}
+
+// What the assignment in a row gives thread t.
+pub fn assigned_value(table: &[u8], row: usize, state: &[u8], t: u32) -> u32
+    ensures { λ r. ⌜ r ≡ assigned (tableOf (now (table .entry))) row (thread (view (now (state .entry))) t) ⌝ }
+{
+    let first = table::cell(table, row, 6);
+    let second = table::cell(table, row, 7);
+    match table::cell(table, row, 4) {
+        5 => numbers::widen(first),
+        6 => numbers::add(slot(state, t, first), slot(state, t, second)),
+        _ => numbers::subtract(slot(state, t, first), slot(state, t, second)),
+    }
+}
+
+// The side that answers a direction.
+pub fn opposite_of(d: Direction) -> Direction
+    ensures { λ r. ⌜ r ≡ opposite d ⌝ }
+{
+    match d {
+        Direction::Out => Direction::In,
+        Direction::In => Direction::Out,
+    }
+}

@@ -1,0 +1,216 @@
+-- The calls of the engine: their grounds in order, their answers, and the bytes that they leave.
+use Prim.Native.Nat.{ℕ, zero, suc}
+use mathlib.Core.Bool.{Bool, not, _&&_, cond}
+use mathlib.Core.List.{List}
+use lib.Dec.{ltb, eqb}
+use lib.ListN.{length}
+use Rattle.table.specs.Table.{Table, tableOf, ports}
+use Rattle.loader.specs.Load.{tableLength, accepted}
+use Rattle.state.specs.State.{State, maxThreads, stateLength, view, stateBytes, turn, thread, standsAt, isReady, withMark}
+use Rattle.rules.specs.Start.{started}
+use Rattle.rules.specs.Offers.{partnerOf}
+use Rattle.rules.specs.Moves.{around, oneUp, move, perform, valueBy, metByBench}
+use Rattle.rules.specs.Sound.{sound}
+use Rattle.rules.specs.declared.Direction.the-variants.{Out, In}
+use Rattle.rules.specs.declared.Partner.{Partner}
+use Rattle.rules.specs.declared.Partner.the-variants.{Nobody, At}
+use Rattle.rules.specs.declared.Move.{Move}
+use Rattle.rules.specs.declared.Move.the-variants.{Ends, Calls, Waits, Goes, Creates, Spawns, Meets, LacksThread, LacksChannel}
+use Rattle.rules.specs.declared.Refusal.{Refusal}
+use Rattle.rules.specs.declared.Refusal.the-variants as Ground
+use Rattle.rules.specs.declared.Admission.{Admission}
+use Rattle.rules.specs.declared.Admission.the-variants as Admission
+use Rattle.rules.specs.declared.Deed.{Deed}
+use Rattle.rules.specs.declared.Deed.the-variants.{Ended, Called, Waited, Took, TookWith}
+use Rattle.rules.specs.declared.Started.{Started}
+use Rattle.rules.specs.declared.Started.the-variants as Started
+use Rattle.rules.specs.declared.Stepped.{Stepped}
+use Rattle.rules.specs.declared.Stepped.the-variants as Stepped
+use Rattle.rules.specs.declared.Given.{Given}
+use Rattle.rules.specs.declared.Given.the-variants as Given
+use Rattle.rules.specs.declared.Taken.{Taken}
+use Rattle.rules.specs.declared.Taken.the-variants as Taken
+use Rattle.rules.specs.declared.Reason.{Reason}
+use Rattle.rules.specs.declared.Reason.the-variants.{AllDone, NoneReady, LackedThread, LackedChannel}
+use Rattle.rules.specs.declared.Turn.{Turn}
+use Rattle.rules.specs.declared.Turn.the-variants.{Went, Stopped}
+use Rattle.rules.specs.declared.Ran.{Ran}
+use Rattle.rules.specs.declared.Ran.the-variants as Ran
+
+-- an answer, and the bytes of the state's buffer
+pub record Outcome (A : Type 0) : Type 0 where
+  pub answer : A
+  pub state : List ℕ
+
+abbrev pub outcome : {A : Type 0} → A → List ℕ → Outcome A
+outcome a b = record { answer = a; state = b }
+
+-- ---- grounds 8, 9 and 10, in this order, of a table's buffer and a state's buffer
+module _ (table state : List ℕ) where
+  unfoldable pub lengthsRight : Bool
+  lengthsRight = eqb (length table) tableLength && eqb (length state) stateLength
+
+  -- start has no ground 10
+  unfoldable pub startAdmission : Admission
+  startAdmission = cond lengthsRight (cond (accepted table) Admission.Admitted (Admission.Refused Ground.Table)) (Admission.Refused Ground.Length)
+
+  unfoldable pub admission : Admission
+  admission =
+      cond lengthsRight
+      (cond (accepted table)
+      (cond (sound (tableOf table) (view state)) Admission.Admitted (Admission.Refused Ground.State))
+      (Admission.Refused Ground.Table))
+      (Admission.Refused Ground.Length)
+
+-- ---- start
+unfoldable pub startBy : Admission → List ℕ → List ℕ → Outcome Started
+startBy (Admission.Refused r) table state = outcome (Started.Refused r) state
+startBy Admission.Admitted table state = outcome Started.Done (stateBytes (started (tableOf table)))
+
+unfoldable pub startCall : List ℕ → List ℕ → Outcome Started
+startCall table state = startBy (startAdmission table state) table state
+
+-- ---- step
+
+-- what a move from node n is answered with
+unfoldable pub stepAnswer : ℕ → Move → Stepped
+stepAnswer n Ends = Stepped.Done n Ended
+stepAnswer n Calls = Stepped.Done n Called
+stepAnswer n Waits = Stepped.Done n Waited
+stepAnswer n (Goes i) = Stepped.Done n (Took i)
+stepAnswer n (Creates i c) = Stepped.Done n (Took i)
+stepAnswer n (Spawns i u) = Stepped.Done n (TookWith i u)
+stepAnswer n (Meets i u j) = Stepped.Done n (TookWith i u)
+stepAnswer n LacksThread = Stepped.Refused Ground.ThreadRow
+stepAnswer n LacksChannel = Stepped.Refused Ground.ChannelRow
+
+-- a step that is refused leaves the bytes as they were
+unfoldable pub stepEnd : Stepped → List ℕ → State → Outcome Stepped
+stepEnd (Stepped.Done n d) state s = outcome (Stepped.Done n d) (stateBytes s)
+stepEnd (Stepped.Refused r) state s = outcome (Stepped.Refused r) state
+
+-- ground 11: the thread number is above 63, or the thread is not ready
+unfoldable pub canStep : State → ℕ → Bool
+canStep s t = ltb t maxThreads && isReady (thread s t)
+
+unfoldable pub stepBy : Admission → List ℕ → List ℕ → ℕ → Outcome Stepped
+stepBy (Admission.Refused r) table state t = outcome (Stepped.Refused r) state
+stepBy Admission.Admitted table state t =
+    cond (canStep (view state) t)
+    (stepEnd (stepAnswer (standsAt (thread (view state) t)) (move (tableOf table) (view state) t)) state
+    (perform (tableOf table) (view state) t (move (tableOf table) (view state) t)))
+    (outcome (Stepped.Refused Ground.Thread) state)
+
+unfoldable pub stepCall : List ℕ → List ℕ → ℕ → Outcome Stepped
+stepCall table state t = stepBy (admission table state) table state t
+
+-- ---- give and take: meetings with the bench, which is no thread and so has the number past the last
+abbrev pub bench : ℕ
+bench = maxThreads
+
+unfoldable pub givenTo : Partner → List ℕ → List ℕ → ℕ → Outcome Given
+givenTo Nobody table state v = outcome Given.Nobody state
+givenTo (At u j) table state v = outcome (Given.Met u) (stateBytes (metByBench (tableOf table) (view state) u j v))
+
+-- ground 12: the port is not below P
+unfoldable pub giveBy : Admission → List ℕ → List ℕ → ℕ → ℕ → Outcome Given
+giveBy (Admission.Refused r) table state p v = outcome (Given.Refused r) state
+giveBy Admission.Admitted table state p v =
+    cond (ltb p (ports (tableOf table)))
+    (givenTo (partnerOf (tableOf table) (view state) bench In p) table state v)
+    (outcome (Given.Refused Ground.Port) state)
+
+-- v is the number's 32-bit pattern
+unfoldable pub giveCall : List ℕ → List ℕ → ℕ → ℕ → Outcome Given
+giveCall table state p v = giveBy (admission table state) table state p v
+
+unfoldable pub takenFrom : Partner → List ℕ → List ℕ → Outcome Taken
+takenFrom Nobody table state = outcome Taken.Nobody state
+takenFrom (At u j) table state =
+    outcome (Taken.Met u (valueBy (tableOf table) (thread (view state) u) j)) (stateBytes (metByBench (tableOf table) (view state) u j 0))
+
+unfoldable pub takeBy : Admission → List ℕ → List ℕ → ℕ → Outcome Taken
+takeBy (Admission.Refused r) table state p = outcome (Taken.Refused r) state
+takeBy Admission.Admitted table state p =
+    cond (ltb p (ports (tableOf table)))
+    (takenFrom (partnerOf (tableOf table) (view state) bench Out p) table state)
+    (outcome (Taken.Refused Ground.Port) state)
+
+unfoldable pub takeCall : List ℕ → List ℕ → ℕ → Outcome Taken
+takeCall table state p = takeBy (admission table state) table state p
+
+-- ---- run
+
+-- the first ready thread from the turn upward and around
+unfoldable pub isReadyThread : State → ℕ → Bool
+isReadyThread s t = isReady (thread s t)
+
+unfoldable pub nextReady : State → ℕ
+nextReady s = around maxThreads (turn s) (isReadyThread s)
+
+-- the turn moves one past thread t
+unfoldable pub pastTurn : State → ℕ → State
+pastTurn s t = withMark s 2 (oneUp maxThreads t)
+
+unfoldable pub turnBy : ℕ → Move → Turn
+turnBy t Ends = Went
+turnBy t Calls = Went
+turnBy t Waits = Went
+turnBy t (Goes i) = Went
+turnBy t (Creates i c) = Went
+turnBy t (Spawns i u) = Went
+turnBy t (Meets i u j) = Went
+turnBy t LacksThread = Stopped (LackedThread t)
+turnBy t LacksChannel = Stopped (LackedChannel t)
+
+-- how far a run came: its steps, why it ended, and the state
+pub record Course : Type 0 where
+  pub steps : ℕ
+  pub reason : Reason
+  pub state : State
+
+abbrev pub course : ℕ → Reason → State → Course
+course n r s = record { steps = n; reason = r; state = s }
+
+-- one step more, before all of it
+unfoldable pub oneMore : Course → Course
+oneMore k = course (suc (k .steps)) (k .reason) (k .state)
+
+-- what one turn came to, and the state after it
+pub record Turned : Type 0 where
+  pub turn : Turn
+  pub state : State
+
+abbrev pub turned : Turn → State → Turned
+turned w s = record { turn = w; state = s }
+
+-- a turn that went is a step, and the run goes on; else it ends there
+unfoldable pub onward : Turn → State → (State → Course) → Course
+onward Went s rest = oneMore (rest s)
+onward (Stopped r) s rest = course 0 r s
+
+module _ (tb : Table) where
+  -- thread t's turn: its step and, where a row is lacking, none
+  unfoldable pub turnEnd : State → ℕ → Turn → Turned
+  turnEnd s t Went = turned Went (pastTurn (perform tb s t (move tb s t)) t)
+  turnEnd s t (Stopped r) = turned (Stopped r) (pastTurn s t)
+
+  unfoldable pub takeTurn : State → Turned
+  takeTurn s =
+      cond (ltb (nextReady s) maxThreads)
+      (turnEnd s (nextReady s) (turnBy (nextReady s) (move tb s (nextReady s))))
+      (turned (Stopped NoneReady) s)
+
+  -- at most n steps
+  unfoldable pub courseOf : ℕ → State → Course
+  courseOf zero s = course 0 AllDone s
+  courseOf (suc n) s = onward (takeTurn s .turn) (takeTurn s .state) (courseOf n)
+
+unfoldable pub runBy : Admission → List ℕ → List ℕ → ℕ → Outcome Ran
+runBy (Admission.Refused r) table state n = outcome (Ran.Refused r) state
+runBy Admission.Admitted table state n =
+    outcome (Ran.Done (courseOf (tableOf table) n (view state) .steps) (courseOf (tableOf table) n (view state) .reason))
+    (stateBytes (courseOf (tableOf table) n (view state) .state))
+
+unfoldable pub runCall : List ℕ → List ℕ → ℕ → Outcome Ran
+runCall table state n = runBy (admission table state) table state n

@@ -1,0 +1,102 @@
+-- What a table says of the nodes at which threads stand. Nodes are counted over the whole file, slots and branches within their definition and
+-- their choice.
+use Prim.Native.Nat.{ℕ, _+_}
+use mathlib.Core.Bool.{Bool, true, false, not, _&&_, cond}
+use mathlib.Core.List.{List}
+use lib.Dec.{ltb, eqb}
+use Rattle.numbers.specs.Rows.{at}
+use Rattle.numbers.specs.Signed.{lower, sum, difference, widened}
+use Rattle.table.specs.Table.{Table, nodeRow, branchRow, slotCount}
+use Rattle.table.specs.Layout.{start, definitionOf, slotType}
+use Rattle.table.specs.declared.Part.the-variants.{Nodes, Branches}
+use Rattle.state.specs.State.{slotOf, minusOne}
+use Rattle.rules.specs.declared.Direction.{Direction}
+use Rattle.rules.specs.declared.Direction.the-variants.{Out, In}
+use Rattle.rules.specs.declared.Act.{Act}
+use Rattle.rules.specs.declared.Act.the-variants.{Tau, Meeting, New, Spawn, Assignment}
+
+module _ (tb : Table) where
+  -- ---- slots
+
+  -- the type of slot k at node n
+  unfoldable pub typeAt : ℕ → ℕ → ℕ
+  typeAt n k = slotType tb (definitionOf tb n) k
+
+  -- slot k of definition d is a channel slot: one of its slots, of a type other than 0
+  unfoldable pub channelSlot : ℕ → ℕ → Bool
+  channelSlot d k = ltb k (slotCount tb d) && not (eqb (slotType tb d k) 0)
+
+  -- what an unwritten slot has: -1 for a channel, 0 for a number and past the definition's slots
+  unfoldable pub blank : ℕ → ℕ → ℕ
+  blank d k = cond (channelSlot d k) minusOne 0
+
+  -- ---- nodes: 0 end, 1 choice, 2 call
+
+  abbrev pub kindOf : ℕ → ℕ
+  kindOf n = at tb (nodeRow tb + n) 1
+
+  -- of a call: the definition that is called, and the slot that gives parameter k
+  abbrev pub callee : ℕ → ℕ
+  callee n = at tb (nodeRow tb + n) 2
+
+  abbrev pub argument : ℕ → ℕ → ℕ
+  argument n k = at tb (nodeRow tb + n) (3 + k)
+
+  -- ---- branches
+
+  -- the row of branch i of node n
+  unfoldable pub branchAt : ℕ → ℕ → ℕ
+  branchAt n i = branchRow tb + (start tb Branches n + i)
+
+  -- the node to which the branch in row r, of node n, leads on, and that of its child
+  unfoldable pub nextOf : ℕ → ℕ → ℕ
+  nextOf n r = start tb Nodes (definitionOf tb n) + at tb r 8
+
+  unfoldable pub childOf : ℕ → ℕ → ℕ
+  childOf n r = start tb Nodes (definitionOf tb n) + at tb r 9
+
+  module _ (r : ℕ) where
+    -- the fields a, b and c of the branch in row r
+    abbrev pub fieldA : ℕ
+    fieldA = at tb r 5
+
+    abbrev pub fieldB : ℕ
+    fieldB = at tb r 6
+
+    abbrev pub fieldC : ℕ
+    fieldC = at tb r 7
+
+    unfoldable pub actOf : Act
+    actOf =
+        cond (eqb (at tb r 4) 1) (Meeting Out)
+        (cond (eqb (at tb r 4) 2) (Meeting In)
+        (cond (eqb (at tb r 4) 3) New
+        (cond (eqb (at tb r 4) 4) Spawn
+        (cond (eqb (at tb r 4) 0) Tau Assignment))))
+
+    -- whether its guard is true of a thread's row: always; slot equals constant; slot below constant; two slots equal; first slot below second
+    unfoldable pub guardHolds : List ℕ → Bool
+    guardHolds row =
+        cond (eqb (at tb r 1) 0) true
+        (cond (eqb (at tb r 1) 1) (eqb (slotOf row (at tb r 2)) (widened (at tb r 3)))
+        (cond (eqb (at tb r 1) 2) (lower (slotOf row (at tb r 2)) (widened (at tb r 3)))
+        (cond (eqb (at tb r 1) 3) (eqb (slotOf row (at tb r 2)) (slotOf row (at tb r 3)))
+        (lower (slotOf row (at tb r 2)) (slotOf row (at tb r 3))))))
+
+    -- what an assignment gives: the constant b, the sum of slots b and c, or their difference, taken back into range (`Signed.antt`: `sum-wraps`)
+    unfoldable pub assigned : List ℕ → ℕ
+    assigned row =
+        cond (eqb (at tb r 4) 5) (widened fieldB)
+        (cond (eqb (at tb r 4) 6) (sum (slotOf row fieldB) (slotOf row fieldC))
+        (difference (slotOf row fieldB) (slotOf row fieldC)))
+
+-- the side that answers a direction
+unfoldable pub opposite : Direction → Direction
+opposite Out = In
+opposite In = Out
+
+unfoldable pub same : Direction → Direction → Bool
+same Out Out = true
+same Out In = false
+same In Out = false
+same In In = true

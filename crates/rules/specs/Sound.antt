@@ -1,0 +1,82 @@
+-- The states that are sound for a table: one test for each thing that document 01 asks of a sound state, in its order.
+use Prim.Native.Nat.{ℕ, _+_}
+use mathlib.Core.Bool.{Bool, true, false, not, _&&_, _||_, cond}
+use mathlib.Core.List.{List}
+use lib.Dec.{ltb, leb, eqb}
+use lib.ListN.{getD}
+use Rattle.numbers.specs.Rows.{at}
+use Rattle.numbers.specs.Search.{every}
+use Rattle.table.specs.Table.{Table, nodes, ports, slotCount}
+use Rattle.table.specs.Layout.{definitionOf, branchCount, slotType}
+use Rattle.flow.specs.Flow.{mayLack}
+use Rattle.state.specs.State.{State, maxThreads, maxChannels, threadWords, rowSlots, minusOne, threadMark, channelMark, turn, thread, status, standsAt, slotOf, inUse, isWaiting, typeIn}
+use Rattle.rules.specs.Program.{channelSlot, kindOf}
+use Rattle.rules.specs.Holding.{countOf, waiters}
+use Rattle.rules.specs.Moves.{ahead}
+
+-- the marks and the turn are in range
+unfoldable pub marksInRange : State → Bool
+marksInRange s = ltb (threadMark s) maxThreads && (ltb (channelMark s) maxChannels && ltb (turn s) maxThreads)
+
+-- a free row is all 0
+unfoldable pub freeZero : List ℕ → Bool
+freeZero row = inUse row || every (λ k. eqb (getD row k 0) 0) threadWords
+
+module _ (tb : Table) where
+  -- the status and, of a thread, the node are in range
+  unfoldable pub rowInRange : List ℕ → Bool
+  rowInRange row = leb (status row) 2 && (not (inUse row) || ltb (standsAt row) (nodes tb))
+
+  -- slots past the definition's are 0
+  unfoldable pub spareZero : List ℕ → Bool
+  spareZero row =
+      not (inUse row) || every (λ k. ltb k (slotCount tb (definitionOf tb (standsAt row))) || eqb (slotOf row k) 0) rowSlots
+
+  module _ (s : State) where
+    -- channel slot k of a thread has -1 or a channel in use of the slot's type; a number slot may have any number
+    unfoldable pub slotTyped : List ℕ → ℕ → Bool
+    slotTyped row k =
+        not (channelSlot tb (definitionOf tb (standsAt row)) k)
+        || (eqb (slotOf row k) minusOne
+        || (ltb (slotOf row k) maxChannels && eqb (typeIn s (slotOf row k)) (slotType tb (definitionOf tb (standsAt row)) k)))
+
+    unfoldable pub slotsTyped : List ℕ → Bool
+    slotsTyped row = not (inUse row) || every (slotTyped row) rowSlots
+
+  -- a channel slot is filled if it is a parameter or is written on every path to the node: no path to the node leaves it unwritten
+  unfoldable pub slotFilled : List ℕ → ℕ → Bool
+  slotFilled row k =
+      not (channelSlot tb (definitionOf tb (standsAt row)) k) || (mayLack tb (standsAt row) k || not (eqb (slotOf row k) minusOne))
+
+  unfoldable pub slotsFilled : List ℕ → Bool
+  slotsFilled row = not (inUse row) || every (slotFilled row) rowSlots
+
+  module _ (s : State) where
+    -- the counts of channel c are true, and it is in use exactly when its count is above 0
+    unfoldable pub countTrue : ℕ → Bool
+    countTrue c =
+        eqb (at (s .channels) c 1) (countOf tb (s .threads) c)
+        && (eqb (at (s .channels) c 2) (waiters tb (s .threads) c)
+        && cond (eqb (typeIn s c) 0) (eqb (at (s .channels) c 1) 0) (ltb 0 (at (s .channels) c 1)))
+
+    -- the ports are in use, of type 1
+    unfoldable pub portTyped : ℕ → Bool
+    portTyped c = eqb (typeIn s c) 1
+
+    -- a waiting thread stands at a choice of which no branch could go ahead (a spawn or a new with a true guard could, row or no row)
+    unfoldable pub waitsRightly : ℕ → Bool
+    waitsRightly t =
+        not (isWaiting (thread s t))
+        || (eqb (kindOf tb (standsAt (thread s t))) 1 && every (λ i. not (ahead tb s t i)) (branchCount tb (standsAt (thread s t))))
+
+    unfoldable pub sound : Bool
+    sound =
+        marksInRange s
+        && (every (λ t. rowInRange (thread s t)) maxThreads
+        && (every (λ t. freeZero (thread s t)) maxThreads
+        && (every (λ t. spareZero (thread s t)) maxThreads
+        && (every (λ t. slotsTyped s (thread s t)) maxThreads
+        && (every (λ t. slotsFilled (thread s t)) maxThreads
+        && (every countTrue maxChannels
+        && (every portTyped (ports tb)
+        && every waitsRightly maxThreads)))))))

@@ -1,0 +1,17 @@
+use Rattle.state.specs.State.Laws.{places}
+use borrow.Author.Needs.{needs}
+use Rattle.state.proofs.put_channel.Statement.{statement}
+use Rattle.state.proofs.put_channel.Tie as tie
+
+pub put-channel-spec : {M : Type 1} → statement M
+put-channel-spec =
+    tie.close
+    (tie.spec
+    (λ c. search needs)
+    (λ c. search needs)
+    (λ c. search needs)
+    (λ c κs. search needs)
+    (λ c. search needs)
+    (λ c. search places)
+    (λ c. search places)
+    (λ c. search places))

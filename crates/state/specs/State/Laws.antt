@@ -1,0 +1,140 @@
+-- What a read and a store of a word mean for the state. Assumes nothing.
+use Prim.Native.Nat.{ℕ, _+_, _*_, _%_, _<_, _≤_}
+use native.Mathlib.Omega.{arith}
+use mathlib.Core.Path.{_≡_, refl, sym, _∙_, ap}
+use mathlib.Core.List.{List, _++_}
+use native.Mathlib.Nat.{min-eq-left}
+use lib.ListN.{length, getD, set, take, drop, length-take, length-drop, take-append-drop, List·getD-eq-default}
+use lib.Seq.{take-all, drop-drop, getD-take, getD-drop, take-set-lt, take-set-le, drop-set-lt, drop-set-add, set-out}
+use Rattle.numbers.specs.Bytes.{words}
+use Rattle.numbers.specs.Bytes.Laws.{joined-rows, encode-numbers, length-numbers}
+use Rattle.numbers.specs.Rows.{rows, at}
+use Rattle.state.specs.State.{State, stateOf, stateBytes, view, thread, channel, withMark, withThread, withChannel, stateLength}
+use Rattle.numbers.specs.Rows.Laws.{length-rows, length-row, at-in, at-out, at-row-out, rows-put, rows-past, put-out, put-row-out}
+
+module _ (b : List ℕ) where
+  -- ---- shape
+  pub length-threads : length (view b .threads) ≡ 64
+  unfolding stateOf
+  length-threads = length-rows 64 18 (drop 3 (words b))
+
+  pub length-channels : length (view b .channels) ≡ 128
+  unfolding stateOf
+  length-channels = length-rows 128 3 (drop 1155 (words b))
+
+  -- ---- reads
+  pub mark-is : (i r : ℕ) → r ≡ getD (words b) i 0 → i < 3 → r ≡ getD (view b .marks) i 0
+  unfolding stateOf
+  mark-is i r e h = rw (getD-take 3 (words b) i 0 h) e
+
+  pub mark-out : (i : ℕ) → 3 ≤ i → 0 ≡ getD (view b .marks) i 0
+  unfolding stateOf
+  mark-out i h = sym (List·getD-eq-default (take 3 (words b)) 0 (omega (arith, length-take 3 (words b))))
+
+  pub thread-is : (t k r : ℕ) → r ≡ getD (words b) (3 + t * 18 + k) 0 → t < 64 → k < 18 → r ≡ at (view b .threads) t k
+  unfolding stateOf
+  thread-is t k r e h j =
+      let f : 3 + t * 18 + k ≡ 3 + (t * 18 + k) = omega arith in
+      rw (at-in 64 18 (drop 3 (words b)) t k h j, getD-drop 3 (words b) (t * 18 + k) 0, ← f) e
+
+  pub thread-out : (t k : ℕ) → t < 64 → 18 ≤ k → 0 ≡ at (view b .threads) t k
+  unfolding stateOf
+  thread-out t k h j = sym (at-out 64 18 (drop 3 (words b)) t k h j)
+
+  pub thread-row-out : (t k : ℕ) → 64 ≤ t → 0 ≡ at (view b .threads) t k
+  unfolding stateOf
+  thread-row-out t k h = sym (at-row-out 64 18 (drop 3 (words b)) t k h)
+
+  pub channel-is : (t k r : ℕ) → r ≡ getD (words b) (1155 + t * 3 + k) 0 → t < 128 → k < 3 → r ≡ at (view b .channels) t k
+  unfolding stateOf
+  channel-is t k r e h j =
+      let f : 1155 + t * 3 + k ≡ 1155 + (t * 3 + k) = omega arith in
+      rw (at-in 128 3 (drop 1155 (words b)) t k h j, getD-drop 1155 (words b) (t * 3 + k) 0, ← f) e
+
+  pub channel-out : (t k : ℕ) → t < 128 → 3 ≤ k → 0 ≡ at (view b .channels) t k
+  unfolding stateOf
+  channel-out t k h j = sym (at-out 128 3 (drop 1155 (words b)) t k h j)
+
+  pub channel-row-out : (t k : ℕ) → 128 ≤ t → 0 ≡ at (view b .channels) t k
+  unfolding stateOf
+  channel-row-out t k h = sym (at-row-out 128 3 (drop 1155 (words b)) t k h)
+
+  -- ---- stores: b′ is what b became
+  pub mark-put : (b′ : List ℕ) (i v : ℕ) → words b′ ≡ set (words b) i v → i < 3 → view b′ ≡ withMark (view b) i v
+  unfolding stateOf withMark
+  mark-put b′ i v e h =
+      let m : i < 1155 = omega arith in
+      rw (e, take-set-lt 3 (words b) i v h, drop-set-lt 3 (words b) i v h, drop-set-lt 1155 (words b) i v m)
+
+  pub mark-kept : (i v : ℕ) → 3 ≤ i → view b ≡ withMark (view b) i v
+  unfolding stateOf withMark
+  mark-kept i v h = rw (set-out (take 3 (words b)) i v (omega (arith, length-take 3 (words b))))
+
+  pub thread-put : (b′ : List ℕ) (t k v : ℕ) → words b′ ≡ set (words b) (3 + t * 18 + k) v → t < 64 → k < 18 → view b′ ≡ withThread (view b) t (set (thread (view b) t) k v)
+  unfolding stateOf withThread
+  thread-put b′ t k v e h j =
+      let f : 3 + t * 18 + k ≡ 3 + (t * 18 + k) = omega arith in
+      let low : 3 ≤ 3 + (t * 18 + k) = omega arith in
+      let high : 3 + (t * 18 + k) < 1155 = omega arith in
+      rw (e, f, take-set-le 3 (words b) (3 + (t * 18 + k)) v low, drop-set-lt 1155 (words b) (3 + (t * 18 + k)) v high, drop-set-add 3 (words b) (t * 18 + k) v, rows-put 64 18 (drop 3 (words b)) t k v h j)
+
+  pub thread-kept : (t k v : ℕ) → t < 64 → 18 ≤ k → view b ≡ withThread (view b) t (set (thread (view b) t) k v)
+  unfolding stateOf withThread
+  thread-kept t k v h j = rw (put-out 64 18 (drop 3 (words b)) t k v h j)
+
+  pub thread-row-kept : (t k v : ℕ) → 64 ≤ t → view b ≡ withThread (view b) t (set (thread (view b) t) k v)
+  unfolding stateOf withThread
+  thread-row-kept t k v h = rw (put-row-out 64 18 (drop 3 (words b)) t k v h)
+
+  pub channel-put : (b′ : List ℕ) (t k v : ℕ) → words b′ ≡ set (words b) (1155 + t * 3 + k) v → t < 128 → k < 3 → view b′ ≡ withChannel (view b) t (set (channel (view b) t) k v)
+  unfolding stateOf withChannel
+  channel-put b′ t k v e h j =
+      let f : 1155 + t * 3 + k ≡ 1155 + (t * 3 + k) = omega arith in
+      let g : 1155 + (t * 3 + k) ≡ 3 + (1152 + (t * 3 + k)) = omega arith in
+      let low : 3 ≤ 1155 + (t * 3 + k) = omega arith in
+      let past : 64 * 18 ≤ 1152 + (t * 3 + k) = omega arith in
+      let th : rows 64 18 (drop 3 (set (words b) (1155 + (t * 3 + k)) v)) ≡ rows 64 18 (drop 3 (words b)) =
+      rw (g, drop-set-add 3 (words b) (1152 + (t * 3 + k)) v) (rows-past 64 18 (drop 3 (words b)) (1152 + (t * 3 + k)) v past) in
+      rw (e, f, take-set-le 3 (words b) (1155 + (t * 3 + k)) v low, th, drop-set-add 1155 (words b) (t * 3 + k) v, rows-put 128 3 (drop 1155 (words b)) t k v h j)
+
+  pub channel-kept : (t k v : ℕ) → t < 128 → 3 ≤ k → view b ≡ withChannel (view b) t (set (channel (view b) t) k v)
+  unfolding stateOf withChannel
+  channel-kept t k v h j = rw (put-out 128 3 (drop 1155 (words b)) t k v h j)
+
+  pub channel-row-kept : (t k v : ℕ) → 128 ≤ t → view b ≡ withChannel (view b) t (set (channel (view b) t) k v)
+  unfolding stateOf withChannel
+  channel-row-kept t k v h = rw (put-row-out 128 3 (drop 1155 (words b)) t k v h)
+
+pub ruleset places = (mark-is, mark-out, thread-is, thread-out, thread-row-out, channel-is, channel-out, channel-row-out, mark-put, mark-kept, thread-put, thread-kept, thread-row-kept, channel-put, channel-kept, channel-row-kept)
+
+-- ---- the bytes of a state
+
+-- in three parts
+parts : (l : List ℕ) (a b c : ℕ) → length l ≤ a + b + c → take a l ++ (take b (drop a l) ++ take c (drop (a + b) l)) ≡ l
+parts l a b c h =
+    rw (take-all c (drop (a + b) l) (omega (arith, length-drop (a + b) l)), ← drop-drop b a l, take-append-drop b (drop a l), take-append-drop a l)
+
+-- a buffer of the right length is the bytes of the state that it holds
+pub bytes-view : (b : List ℕ) → length b ≡ stateLength → ((i : ℕ) → getD b i 0 < 256) → stateBytes (view b) ≡ b
+unfolding stateBytes stateOf
+bytes-view b h f =
+    rw (joined-rows 64 18 (drop 3 (words b)), joined-rows 128 3 (drop 1155 (words b)), parts (words b) 3 1152 384 (omega (arith, length-numbers 4 b)))
+    (encode-numbers 4 b (omega arith) f)
+
+-- ---- the rows of a buffer of the right length are of their lengths
+
+module _ (b : List ℕ) (e : length b ≡ stateLength) where
+  few-words : length (words b) ≡ 1539
+  few-words = length-numbers 4 b ∙ rw e
+
+  pub length-marks : length (view b .marks) ≡ 3
+  unfolding stateOf
+  length-marks = length-take 3 (words b) ∙ min-eq-left (omega (arith, few-words))
+
+  pub length-thread : (t : ℕ) → t < 64 → length (thread (view b) t) ≡ 18
+  unfolding stateOf
+  length-thread t h = length-row 64 18 (drop 3 (words b)) t h (omega (arith, few-words, length-drop 3 (words b)))
+
+  pub length-channel : (c : ℕ) → c < 128 → length (channel (view b) c) ≡ 3
+  unfolding stateOf
+  length-channel c h = length-row 128 3 (drop 1155 (words b)) c h (omega (arith, few-words, length-drop 1155 (words b)))
