@@ -1,5 +1,5 @@
 -- What a ready thread does: which move it makes, what the move writes, and the state after it.
-use Prim.Native.Nat.{ℕ, suc}
+use Prim.Native.Nat.{ℕ, suc, _+_}
 use mathlib.Core.Bool.{Bool, true, false, not, _&&_, cond}
 use mathlib.Core.List.{List, _∷_}
 use lib.Dec.{ltb, leb, eqb}
@@ -113,7 +113,7 @@ waitingRow row = 2 ∷ standsAt row ∷ slotsOf row
 
 -- a row with v in slot k
 unfoldable pub stored : List ℕ → ℕ → ℕ → List ℕ
-stored row k v = set row (suc (suc k)) v
+stored row k v = set row (2 + k) v
 
 -- the row after a meeting: the receiver has v in its slot b
 unfoldable pub met : Direction → List ℕ → ℕ → ℕ → ℕ → List ℕ
@@ -166,6 +166,12 @@ module _ (tb : Table) where
     unfoldable pub typeBy : ℕ
     typeBy = typeAt tb (standsAt row) (fieldA tb rowOf)
 
+  -- thread t, which goes on after its branch i, and its child u, ready at the child's node with the same slots
+  unfoldable pub spawnedBy : State → ℕ → ℕ → ℕ → State
+  spawnedBy s t i u =
+      withThread (withThread s t (resumed (thread s t) (nextOf tb (standsAt (thread s t)) (rowOf (thread s t) i))))
+      u (resumed (thread s t) (childOf tb (standsAt (thread s t)) (rowOf (thread s t) i)))
+
   module _ (s : State) (t : ℕ) where
     -- all that is read is read in the state before the move
     unfoldable pub written : Move → State
@@ -176,9 +182,7 @@ module _ (tb : Table) where
     written (Goes i) = withThread s t (goneBy (thread s t) i)
     written (Creates i c) =
         withMark (typed (withThread s t (createdBy (thread s t) i c)) c (typeBy (thread s t) i)) 1 (oneUp maxChannels c)
-    written (Spawns i u) =
-        withMark (withThread (withThread s t (resumed (thread s t) (nextOf tb (standsAt (thread s t)) (rowOf (thread s t) i))))
-        u (resumed (thread s t) (childOf tb (standsAt (thread s t)) (rowOf (thread s t) i)))) 0 (oneUp maxThreads u)
+    written (Spawns i u) = withMark (spawnedBy s t i u) 0 (oneUp maxThreads u)
     written (Meets i u j) =
         withThread (withThread s t (metBy (thread s t) i (valueBy (thread s u) j))) u (metBy (thread s u) j (valueBy (thread s t) i))
     written LacksThread = s

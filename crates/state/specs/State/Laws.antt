@@ -2,10 +2,11 @@
 use Prim.Native.Nat.{ℕ, _+_, _*_, _%_, _<_, _≤_}
 use native.Mathlib.Omega.{arith}
 use mathlib.Core.Path.{_≡_, refl, sym, _∙_, ap}
-use mathlib.Core.List.{List, _++_}
+use mathlib.Core.List.{List, [], _++_}
+use mathlib.Core.Logic.{_≢_}
 use native.Mathlib.Nat.{min-eq-left}
-use lib.ListN.{length, getD, set, take, drop, length-take, length-drop, take-append-drop, List·getD-eq-default}
-use lib.Seq.{take-all, drop-drop, getD-take, getD-drop, take-set-lt, take-set-le, drop-set-lt, drop-set-add, set-out}
+use lib.ListN.{length, getD, set, take, drop, length-take, length-drop, length-set, take-append-drop, List·getD-eq-default}
+use lib.Seq.{getD-set-same, getD-set-other, set-set, take-all, drop-drop, getD-take, getD-drop, take-set-lt, take-set-le, drop-set-lt, drop-set-add, set-out}
 use Rattle.numbers.specs.Bytes.{words}
 use Rattle.numbers.specs.Bytes.Laws.{joined-rows, encode-numbers, length-numbers}
 use Rattle.numbers.specs.Rows.{rows, at}
@@ -138,3 +139,23 @@ module _ (b : List ℕ) (e : length b ≡ stateLength) where
   pub length-channel : (c : ℕ) → c < 128 → length (channel (view b) c) ≡ 3
   unfolding stateOf
   length-channel c h = length-row 128 3 (drop 1155 (words b)) c h (omega (arith, few-words, length-drop 1155 (words b)))
+
+-- ---- rows replaced and read
+
+module _ (s : State) (t : ℕ) (row : List ℕ) where
+  pub thread-same : t < length (s .threads) → thread (withThread s t row) t ≡ row
+  unfolding withThread
+  thread-same h = getD-set-same (s .threads) t row [] h
+
+  pub thread-other : (u : ℕ) → u ≢ t → thread (withThread s t row) u ≡ thread s u
+  unfolding withThread
+  thread-other u n = getD-set-other (s .threads) t u row [] n
+
+  -- the row written last stays
+  pub thread-twice : (row′ : List ℕ) → withThread (withThread s t row) t row′ ≡ withThread s t row′
+  unfolding withThread
+  thread-twice row′ = rw (set-set (s .threads) t row row′)
+
+  pub threads-with : length (withThread s t row .threads) ≡ length (s .threads)
+  unfolding withThread
+  threads-with = length-set (s .threads) t row

@@ -1,0 +1,210 @@
+// What a branch that is taken writes: alone, with a partner, with a new channel, with a child.
+ghost use mathlib.Core.Path.{_≡_};
+ghost use mathlib.Core.Logic.{_≢_};
+ghost use Prim.Native.Nat.{_<_, _≤_};
+ghost use lib.ListN.{length};
+ghost use Rattle.table.specs.Table.{tableOf};
+ghost use Rattle.table.specs.Index.{Indexed};
+ghost use Rattle.state.specs.State.{view, thread, stateLength, withThread};
+ghost use Rattle.rules.specs.Program.{actOf};
+ghost use Rattle.rules.specs.Moves.{met, gone, goneBy, createdBy, metBy, rowOf, valueBy, typeBy, sideOf, oneUp, typed, spawnedBy, written};
+ghost use Rattle.rules.specs.declared.Move.the-variants.{Creates, Spawns, Meets};
+use rules::Act;
+use rules::Direction;
+
+const ROW_SLOTS: usize = 16;
+
+const MAX_THREADS: u32 = 64;
+
+const MAX_CHANNELS: u32 = 128;
+
+// The direction of an act.
+fn side_of(act: Act) -> Direction
+    ensures { λ r. ⌜ r ≡ sideOf act ⌝ }
+{
+    match act {
+        Act::Tau => Direction::Out,
+        Act::Meeting(d) => d,
+        Act::New => Direction::Out,
+        Act::Spawn => Direction::Out,
+        Act::Assignment => Direction::Out,
+    }
+}
+
+// The row of branch i of the node at which thread t stands.
+fn row_of(table: &[u8], index: &[u32], state: &[u8], t: u32, i: u32) -> usize
+    requires { ⌜ Indexed (tableOf (now table)) (now index) ⌝ }
+    ensures { λ r. ⌜ r ≡ rowOf (tableOf (now (table .entry))) (thread (view (now (state .entry))) t) i ⌝ }
+{
+    program::branch_at(table, index, writes::stands_at(state, t), i)
+}
+
+// What thread t gives at a meeting by its branch i.
+pub fn value_by(table: &[u8], index: &[u32], state: &[u8], t: u32, i: u32) -> u32
+    requires { ⌜ Indexed (tableOf (now table)) (now index) ⌝ }
+    ensures { λ r. ⌜ r ≡ valueBy (tableOf (now (table .entry))) (thread (view (now (state .entry))) t) i ⌝ }
+{
+    program::slot(state, t, table::cell(table, row_of(table, index, state, t, i), 6))
+}
+
+// Thread t goes on at a node after a meeting: a receiver has v in its slot.
+fn go_on(state: &mut [u8], t: u32, d: Direction, node: u32, slot: u32, v: u32)
+    requires { ⌜ length (now state) ≡ stateLength ⌝ }
+    requires { ⌜ t < 64 ⌝ }
+    ensures { λ _. ⌜ view (now (state .exit)) ≡ withThread (view (now (state .entry))) t (met d (thread (view (now (state .entry))) t) node slot v) ⌝ }
+{
+    writes::resume(state, t, node);
+    match d {
+        Direction::Out => {}
+        Direction::In => writes::store(state, t, slot, v),
+    }
+}
+
+// Thread t goes on after a meeting by its branch i with somebody who gives v.
+pub fn write_met(table: &[u8], index: &[u32], state: &mut [u8], t: u32, i: u32, v: u32)
+    requires { ⌜ Indexed (tableOf (now table)) (now index) ⌝ }
+    requires { ⌜ length (now state) ≡ stateLength ⌝ }
+    requires { ⌜ t < 64 ⌝ }
+    ensures { λ _. ⌜ view (now (state .exit)) ≡ withThread (view (now (state .entry))) t (metBy (tableOf (now (table .entry))) (thread (view (now (state .entry))) t) i v) ⌝ }
+{
+    let node = writes::stands_at(state, t);
+    let row = program::branch_at(table, index, node, i);
+    let next = program::next_of(table, index, node, row);
+    let slot = table::cell(table, row, 6);
+    go_on(state, t, side_of(program::act_of(table, row)), next, slot, v);
+}
+
+// Threads t and u go on after the meeting of their branches i and j, at which t is given x and u is given y.
+fn write_both(table: &[u8], index: &[u32], state: &mut [u8], t: u32, i: u32, x: u32, u: u32, j: u32, y: u32)
+    requires { ⌜ Indexed (tableOf (now table)) (now index) ⌝ }
+    requires { ⌜ length (now state) ≡ stateLength ⌝ }
+    requires { ⌜ t < 64 ⌝ }
+    requires { ⌜ u < 64 ⌝ }
+    requires { ⌜ u ≢ t ⌝ }
+    ensures { λ _. ⌜ view (now (state .exit)) ≡ withThread (withThread (view (now (state .entry))) t (metBy (tableOf (now (table .entry))) (thread (view (now (state .entry))) t) i x)) u (metBy (tableOf (now (table .entry))) (thread (view (now (state .entry))) u) j y) ⌝ }
+{
+    write_met(table, index, state, t, i, x);
+    write_met(table, index, state, u, j, y);
+}
+
+// The same, with what they give each other.
+pub fn write_meeting(table: &[u8], index: &[u32], state: &mut [u8], t: u32, i: u32, u: u32, j: u32)
+    requires { ⌜ Indexed (tableOf (now table)) (now index) ⌝ }
+    requires { ⌜ length (now state) ≡ stateLength ⌝ }
+    requires { ⌜ t < 64 ⌝ }
+    requires { ⌜ u < 64 ⌝ }
+    requires { ⌜ u ≢ t ⌝ }
+    ensures { λ _. ⌜ view (now (state .exit)) ≡ written (tableOf (now (table .entry))) (view (now (state .entry))) t (Meets i u j) ⌝ }
+{
+    let own = value_by(table, index, state, t, i);
+    let other = value_by(table, index, state, u, j);
+    write_both(table, index, state, t, i, other, u, j, own);
+}
+
+// Thread t goes on after an act of its own: an assignment stores v in its slot.
+fn go_alone(state: &mut [u8], t: u32, act: Act, node: u32, slot: u32, v: u32)
+    requires { ⌜ length (now state) ≡ stateLength ⌝ }
+    requires { ⌜ t < 64 ⌝ }
+    ensures { λ _. ⌜ view (now (state .exit)) ≡ withThread (view (now (state .entry))) t (gone act (thread (view (now (state .entry))) t) node slot v) ⌝ }
+{
+    writes::resume(state, t, node);
+    match act {
+        Act::Tau => {}
+        Act::Meeting(_) => {}
+        Act::New => {}
+        Act::Spawn => {}
+        Act::Assignment => writes::store(state, t, slot, v),
+    }
+}
+
+// Thread t goes on after its branch i, a tau or an assignment.
+pub fn write_gone(table: &[u8], index: &[u32], state: &mut [u8], t: u32, i: u32)
+    requires { ⌜ Indexed (tableOf (now table)) (now index) ⌝ }
+    requires { ⌜ length (now state) ≡ stateLength ⌝ }
+    requires { ⌜ t < 64 ⌝ }
+    ensures { λ _. ⌜ view (now (state .exit)) ≡ withThread (view (now (state .entry))) t (goneBy (tableOf (now (table .entry))) (thread (view (now (state .entry))) t) i) ⌝ }
+{
+    let node = writes::stands_at(state, t);
+    let row = program::branch_at(table, index, node, i);
+    let next = program::next_of(table, index, node, row);
+    let slot = table::cell(table, row, 5);
+    let v = program::assigned_value(table, row, state, t);
+    go_alone(state, t, program::act_of(table, row), next, slot, v);
+}
+
+// Thread t's branch i has made channel c.
+fn write_holder(table: &[u8], index: &[u32], state: &mut [u8], t: u32, i: u32, c: u32)
+    requires { ⌜ Indexed (tableOf (now table)) (now index) ⌝ }
+    requires { ⌜ length (now state) ≡ stateLength ⌝ }
+    requires { ⌜ t < 64 ⌝ }
+    ensures { λ _. ⌜ view (now (state .exit)) ≡ withThread (view (now (state .entry))) t (createdBy (tableOf (now (table .entry))) (thread (view (now (state .entry))) t) i c) ⌝ }
+{
+    let node = writes::stands_at(state, t);
+    let row = program::branch_at(table, index, node, i);
+    let next = program::next_of(table, index, node, row);
+    let slot = table::cell(table, row, 5);
+    writes::resume(state, t, next);
+    writes::store(state, t, slot, c);
+}
+
+// The type of the channel that thread t's branch i makes.
+fn type_by(table: &[u8], index: &[u32], state: &[u8], t: u32, i: u32) -> u32
+    requires { ⌜ Indexed (tableOf (now table)) (now index) ⌝ }
+    ensures { λ r. ⌜ r ≡ typeBy (tableOf (now (table .entry))) (thread (view (now (state .entry))) t) i ⌝ }
+{
+    let node = writes::stands_at(state, t);
+    program::type_at(table, index, node, table::cell(table, program::branch_at(table, index, node, i), 5))
+}
+
+// Thread t makes channel c by its branch i, and the channels' mark moves one past it.
+pub fn write_creation(table: &[u8], index: &[u32], state: &mut [u8], t: u32, i: u32, c: u32)
+    requires { ⌜ Indexed (tableOf (now table)) (now index) ⌝ }
+    requires { ⌜ length (now state) ≡ stateLength ⌝ }
+    requires { ⌜ t < 64 ⌝ }
+    requires { ⌜ c < 128 ⌝ }
+    ensures { λ _. ⌜ view (now (state .exit)) ≡ written (tableOf (now (table .entry))) (view (now (state .entry))) t (Creates i c) ⌝ }
+{
+    let kind = type_by(table, index, state, t, i);
+    write_holder(table, index, state, t, i, c);
+    state::put_channel(state, c as usize, 0, kind);
+    state::put_mark(state, 1, one_past(MAX_CHANNELS, c));
+}
+
+// One past number i of n: past the last comes 0.
+pub fn one_past(n: u32, i: u32) -> u32
+    requires { ⌜ i < n ⌝ }
+    ensures { λ r. ⌜ r ≡ oneUp n i ⌝ }
+{
+    if i + 1 == n {
+        return 0;
+    }
+    i + 1
+}
+
+// Thread t's branch i makes the child u: both go on with the slots of t.
+fn write_child(table: &[u8], index: &[u32], state: &mut [u8], t: u32, i: u32, u: u32)
+    requires { ⌜ Indexed (tableOf (now table)) (now index) ⌝ }
+    requires { ⌜ length (now state) ≡ stateLength ⌝ }
+    requires { ⌜ t < 64 ⌝ }
+    requires { ⌜ u < 64 ⌝ }
+    ensures { λ _. ⌜ view (now (state .exit)) ≡ spawnedBy (tableOf (now (table .entry))) (view (now (state .entry))) t i u ⌝ }
+{
+    let mut slots = [0u32; ROW_SLOTS];
+    writes::copy_slots(state, t, &mut slots);
+    let node = writes::stands_at(state, t);
+    let row = program::branch_at(table, index, node, i);
+    writes::resume(state, t, program::next_of(table, index, node, row));
+    writes::put_row(state, u, 1, program::child_of(table, index, node, row), &slots);
+}
+
+// The same, and the threads' mark moves one past the child.
+pub fn write_spawn(table: &[u8], index: &[u32], state: &mut [u8], t: u32, i: u32, u: u32)
+    requires { ⌜ Indexed (tableOf (now table)) (now index) ⌝ }
+    requires { ⌜ length (now state) ≡ stateLength ⌝ }
+    requires { ⌜ t < 64 ⌝ }
+    requires { ⌜ u < 64 ⌝ }
+    ensures { λ _. ⌜ view (now (state .exit)) ≡ written (tableOf (now (table .entry))) (view (now (state .entry))) t (Spawns i u) ⌝ }
+{
+    write_child(table, index, state, t, i, u);
+    state::put_mark(state, 0, one_past(MAX_THREADS, u));
+}

@@ -1,0 +1,13 @@
+use Rattle.writes.specs.Rows.Laws.{head-written}
+use borrow.Author.Needs.{needs}
+use Rattle.writes.proofs.put_head.Statement.{statement}
+use Rattle.writes.proofs.put_head.Tie as tie
+
+pub put-head-spec : {M : Type 1} → statement M
+put-head-spec =
+    tie.close
+    (tie.spec
+    (λ c κs. search needs)
+    (λ c κs. search needs)
+    (λ c. search needs)
+    (λ c. search head-written))

@@ -1,0 +1,16 @@
+use Rattle.writes.specs.Rows.Laws.{start-written}
+use borrow.Author.Needs.{needs}
+use Rattle.writes.proofs.write_start.Statement.{statement}
+use Rattle.writes.proofs.write_start.Tie as tie
+
+pub write-start-spec : {M : Type 1} → statement M
+write-start-spec =
+    tie.close
+    (tie.spec
+    (λ c. search needs)
+    (λ c κs. search needs)
+    (λ c κs. search needs)
+    (λ c. search needs)
+    (λ c κs. search needs)
+    (λ c. search needs)
+    (λ c. search start-written))

@@ -1,0 +1,177 @@
+// What each move writes into the thread rows. The channel rows are settled by those who call.
+ghost use mathlib.Core.Path.{_≡_};
+ghost use mathlib.Core.List.{[], _∷_};
+ghost use Prim.Native.Nat.{_<_, _≤_};
+ghost use lib.ListN.{length, getD, set, replicate};
+ghost use Rattle.numbers.specs.Search.{tabulate};
+ghost use Rattle.table.specs.Table.{tableOf};
+ghost use Rattle.table.specs.Index.{Indexed};
+ghost use Rattle.state.specs.State.{view, thread, standsAt, slotOf, slotsOf, stateLength, rowSlots, withThread, withMark};
+ghost use Rattle.rules.specs.Program.{blank, callee, argument};
+ghost use Rattle.rules.specs.Start.{freeRow, entered};
+ghost use Rattle.rules.specs.Moves.{resumed, waitingRow, stored, met, goneBy, createdBy, metBy, valueBy, typeBy, sideOf, oneUp, written};
+ghost use Rattle.rules.specs.declared.Move.the-variants.{Calls, Spawns};
+ghost use Rattle.writes.specs.Rows.{reslotted, entryAt, callAt, portAt};
+use rules::Act;
+use rules::Direction;
+use table::Part;
+
+// The slots of a row.
+const ROW_SLOTS: u32 = 16;
+
+// The node at which thread t stands.
+pub fn stands_at(state: &[u8], t: u32) -> u32
+    ensures { λ r. ⌜ r ≡ standsAt (thread (view (now (state .entry))) t) ⌝ }
+{
+    state::thread_word(state, t as usize, 1)
+}
+
+// Thread t gets a status and a node; its slots stay.
+fn put_head(state: &mut [u8], t: u32, status: u32, node: u32)
+    requires { ⌜ length (now state) ≡ stateLength ⌝ }
+    requires { ⌜ t < 64 ⌝ }
+    ensures { λ _. ⌜ view (now (state .exit)) ≡ withThread (view (now (state .entry))) t (status ∷ node ∷ slotsOf (thread (view (now (state .entry))) t)) ⌝ }
+{
+    state::put_thread(state, t as usize, 0, status);
+    state::put_thread(state, t as usize, 1, node);
+}
+
+// Slot k of thread t gets v.
+pub fn store(state: &mut [u8], t: u32, k: u32, v: u32)
+    ensures { λ _. ⌜ view (now (state .exit)) ≡ withThread (view (now (state .entry))) t (stored (thread (view (now (state .entry))) t) k v) ⌝ }
+{
+    state::put_thread(state, t as usize, 2 + k as usize, v);
+}
+
+// Thread t goes on, ready, at a node; or it waits where it stands.
+pub fn resume(state: &mut [u8], t: u32, node: u32)
+    requires { ⌜ length (now state) ≡ stateLength ⌝ }
+    requires { ⌜ t < 64 ⌝ }
+    ensures { λ _. ⌜ view (now (state .exit)) ≡ withThread (view (now (state .entry))) t (resumed (thread (view (now (state .entry))) t) node) ⌝ }
+{
+    put_head(state, t, 1, node);
+}
+
+pub fn write_waiting(state: &mut [u8], t: u32)
+    requires { ⌜ length (now state) ≡ stateLength ⌝ }
+    requires { ⌜ t < 64 ⌝ }
+    ensures { λ _. ⌜ view (now (state .exit)) ≡ withThread (view (now (state .entry))) t (waitingRow (thread (view (now (state .entry))) t)) ⌝ }
+{
+    let node = stands_at(state, t);
+    put_head(state, t, 2, node);
+}
+
+// Thread t's slots; its status and its node stay.
+fn put_slots(state: &mut [u8], t: u32, slots: &[u32])
+    requires { ⌜ length (now state) ≡ stateLength ⌝ }
+    requires { ⌜ t < 64 ⌝ }
+    requires { ⌜ length (now slots) ≡ rowSlots ⌝ }
+    ensures { λ _. ⌜ view (now (state .exit)) ≡ withThread (view (now (state .entry))) t (reslotted (thread (view (now (state .entry))) t) (now (slots .entry))) ⌝ }
+{
+    for k in 0..ROW_SLOTS {
+        let v = numbers::cell_at(slots, k as usize);
+        store(state, t, k, v);
+    }
+}
+
+// All of thread t's row: a status, a node and sixteen slots.
+pub fn put_row(state: &mut [u8], t: u32, status: u32, node: u32, slots: &[u32])
+    requires { ⌜ length (now state) ≡ stateLength ⌝ }
+    requires { ⌜ t < 64 ⌝ }
+    requires { ⌜ length (now slots) ≡ rowSlots ⌝ }
+    ensures { λ _. ⌜ view (now (state .exit)) ≡ withThread (view (now (state .entry))) t (status ∷ node ∷ now (slots .entry)) ⌝ }
+{
+    put_head(state, t, status, node);
+    put_slots(state, t, slots);
+}
+
+// Thread t's row is free.
+pub fn write_free(state: &mut [u8], t: u32)
+    requires { ⌜ length (now state) ≡ stateLength ⌝ }
+    requires { ⌜ t < 64 ⌝ }
+    ensures { λ _. ⌜ view (now (state .exit)) ≡ withThread (view (now (state .entry))) t freeRow ⌝ }
+{
+    let slots = [0u32; 16];
+    put_row(state, t, 0, 0, &slots);
+}
+
+// The slots of thread t.
+pub fn copy_slots(state: &[u8], t: u32, slots: &mut [u32])
+    requires { ⌜ length (now state) ≡ stateLength ⌝ }
+    requires { ⌜ t < 64 ⌝ }
+    requires { ⌜ now slots ≡ replicate rowSlots 0 ⌝ }
+    ensures { λ _. ⌜ now (slots .exit) ≡ slotsOf (thread (view (now (state .entry))) t) ⌝ }
+{
+    for k in 0..ROW_SLOTS {
+        numbers::put_cell(slots, k as usize, program::slot(state, t, k));
+    }
+}
+
+// Slot k as definition d is entered: a parameter is given, any other slot is blank.
+fn entry_at(table: &[u8], index: &[u32], d: u32, k: u32, given: u32) -> u32
+    requires { ⌜ Indexed (tableOf (now table)) (now index) ⌝ }
+    ensures { λ r. ⌜ r ≡ entryAt (tableOf (now (table .entry))) d given k ⌝ }
+{
+    if k < table::parameters_of(table, d) {
+        return given;
+    }
+    program::blank_of(table, index, d, k)
+}
+
+// Slot k as the call at thread t's node enters definition d.
+fn call_slot(table: &[u8], index: &[u32], state: &[u8], t: u32, d: u32, k: u32) -> u32
+    requires { ⌜ Indexed (tableOf (now table)) (now index) ⌝ }
+    ensures { λ r. ⌜ r ≡ callAt (tableOf (now (table .entry))) (thread (view (now (state .entry))) t) d k ⌝ }
+{
+    let row = table::node_row(table) + stands_at(state, t) as usize;
+    let given = program::slot(state, t, table::cell(table, row, 3 + k as usize));
+    entry_at(table, index, d, k, given)
+}
+
+// All slots with which the call at thread t's node enters definition d, read before any is written.
+fn call_slots(table: &[u8], index: &[u32], state: &[u8], t: u32, d: u32, slots: &mut [u32])
+    requires { ⌜ Indexed (tableOf (now table)) (now index) ⌝ }
+    requires { ⌜ now slots ≡ replicate rowSlots 0 ⌝ }
+    ensures { λ _. ⌜ now (slots .exit) ≡ tabulate rowSlots (callAt (tableOf (now (table .entry))) (thread (view (now (state .entry))) t) d) ⌝ }
+{
+    for k in 0..ROW_SLOTS {
+        numbers::put_cell(slots, k as usize, call_slot(table, index, state, t, d, k));
+    }
+}
+
+// The slots with which thread 0 starts: parameter k is port k.
+fn port_slots(table: &[u8], index: &[u32], slots: &mut [u32])
+    requires { ⌜ Indexed (tableOf (now table)) (now index) ⌝ }
+    requires { ⌜ now slots ≡ replicate rowSlots 0 ⌝ }
+    ensures { λ _. ⌜ now (slots .exit) ≡ tabulate rowSlots (portAt (tableOf (now (table .entry)))) ⌝ }
+{
+    for k in 0..ROW_SLOTS {
+        numbers::put_cell(slots, k as usize, entry_at(table, index, 0, k, k));
+    }
+}
+
+// Thread t makes the call at its node.
+pub fn write_call(table: &[u8], index: &[u32], state: &mut [u8], t: u32)
+    requires { ⌜ Indexed (tableOf (now table)) (now index) ⌝ }
+    requires { ⌜ length (now state) ≡ stateLength ⌝ }
+    requires { ⌜ t < 64 ⌝ }
+    ensures { λ _. ⌜ view (now (state .exit)) ≡ written (tableOf (now (table .entry))) (view (now (state .entry))) t Calls ⌝ }
+{
+    let mut slots = [0u32; 16];
+    let d = table::cell(table, table::node_row(table) + stands_at(state, t) as usize, 2);
+    call_slots(table, index, state, t, d, &mut slots);
+    let node = table::start_of(table, index, Part::Nodes, d);
+    put_row(state, t, 1, node, &slots);
+}
+
+// Thread 0 enters definition 0 with the ports.
+pub fn write_start(table: &[u8], index: &[u32], state: &mut [u8])
+    requires { ⌜ Indexed (tableOf (now table)) (now index) ⌝ }
+    requires { ⌜ length (now state) ≡ stateLength ⌝ }
+    ensures { λ _. ⌜ view (now (state .exit)) ≡ withThread (view (now (state .entry))) 0 (entered (tableOf (now (table .entry))) 0 (λ k. k)) ⌝ }
+{
+    let mut slots = [0u32; 16];
+    port_slots(table, index, &mut slots);
+    let node = table::start_of(table, index, Part::Nodes, 0);
+    put_row(state, 0, 1, node, &slots);
+}
