@@ -1,0 +1,96 @@
+-- One law for each way out of the functions that move the counts. Assumes nothing.
+use Prim.Native.Nat.{ℕ, zero, suc, _+_, _<_, _≤_}
+use native.Mathlib.Omega.{arith}
+use native.Mathlib.Numerals.{add-one}
+use mathlib.Core.Path.{_≡_, refl}
+use mathlib.Core.List.{List, [], _∷_}
+use lib.ListN.{length, getD, set}
+use lib.Seq.{set-out, set-set, getD-set-same}
+use mir.Syntax.{w8, w64}
+use mir.Val.{Fits}
+use mir.Facts.{fits-widen}
+use Rattle.numbers.specs.Count.{bit}
+use Rattle.numbers.specs.Rows.{at}
+use Rattle.numbers.specs.Signed.{sum, difference}
+use Rattle.table.specs.Table.{Table}
+use Rattle.state.specs.State.{State, view, stateLength, thread, channel, isWaiting, withChannel, withChannels}
+use Rattle.state.specs.State.Laws.{length-channels, length-channel}
+use Rattle.rules.specs.Holding.{channelRow}
+use Rattle.counts.specs.Own.{ownList}
+use Rattle.counts.specs.Shift.{rowCounted, shiftRow, shiftTo, channelShifted, shiftedTo, shifted, rowEntered, rowLeft}
+
+-- put_counts: three stores, and two, make a row
+three : (r : List ℕ) (a n w : ℕ) → length r ≡ 3 → set (set (set r 0 a) 1 n) 2 w ≡ a ∷ n ∷ w ∷ []
+three [] a n w e = absurd (omega arith)
+three (x ∷ []) a n w e = absurd (omega arith)
+three (x ∷ y ∷ []) a n w e = absurd (omega arith)
+three (x ∷ y ∷ z ∷ []) a n w e = refl
+three (x ∷ y ∷ z ∷ u ∷ r) a n w e = absurd (omega arith)
+
+two : (r : List ℕ) (n w : ℕ) → length r ≡ 3 → set (set r 1 n) 2 w ≡ getD r 0 0 ∷ n ∷ w ∷ []
+two [] n w e = absurd (omega arith)
+two (x ∷ r) n w e = three (x ∷ r) x n w e
+
+held-row : (ty n w : ℕ) → (n ≡ 0 → ⊥) → ty ∷ n ∷ w ∷ [] ≡ channelRow ty n w
+unfolding channelRow
+held-row ty zero w h = absurd (h refl)
+held-row ty (suc n) w h = refl
+
+-- a store in a row that was stored in
+put-put : (chs : List (List ℕ)) (c k v : ℕ) (r : List ℕ) → c < length chs → set (set chs c r) c (set (getD (set chs c r) c []) k v) ≡ set chs c (set r k v)
+put-put chs c k v r h = rw (getD-set-same chs c r [] h, set-set chs c r (set r k v))
+
+module _ (b : List ℕ) (c n w : ℕ) (s₁ s₂ : State) (e : length b ≡ stateLength) (h : c < 128) where
+  pub counts-put : (n ≡ 0 → ⊥) → s₁ ≡ withChannel (view b) c (set (channel (view b) c) 1 n) → s₂ ≡ withChannel s₁ c (set (channel s₁ c) 2 w) → s₂ ≡ rowCounted (view b) c n w
+  unfolding withChannel rowCounted withChannels
+  counts-put z f g =
+      let i : c < length (view b .channels) = omega (arith, length-channels b) in
+      rw (g, f, put-put (view b .channels) c 2 w (set (channel (view b) c) 1 n) i, two (channel (view b) c) n w (length-channel b e c h), held-row (at (view b .channels) c 0) n w z)
+
+  pub counts-free : (s₃ : State) → n ≡ 0 → s₁ ≡ withChannel (view b) c (set (channel (view b) c) 0 0) → s₂ ≡ withChannel s₁ c (set (channel s₁ c) 1 0) → s₃ ≡ withChannel s₂ c (set (channel s₂ c) 2 0)
+      → s₃ ≡ rowCounted (view b) c n w
+  unfolding withChannel rowCounted withChannels channelRow
+  counts-free s₃ z f g k =
+      let i : c < length (view b .channels) = omega (arith, length-channels b) in
+      let r = channel (view b) c in
+      rw (k, g, f, z, put-put (view b .channels) c 1 0 (set r 0 0) i, put-put (view b .channels) c 2 0 (set (set r 0 0) 1 0) i, three r 0 0 0 (length-channel b e c h))
+
+pub ruleset puts = (counts-put, counts-free)
+
+-- shift: n and w are the counts that the row has, a and b those that it gets
+pub shift-in : (s s₂ : State) (c dn dw n w a b : ℕ) → s₂ ≡ rowCounted s c a b → a ≡ sum n dn → b ≡ sum w dw → n ≡ at (s .channels) c 1 → w ≡ at (s .channels) c 2 → s₂ ≡ channelShifted s c dn dw
+unfolding rowCounted channelShifted shiftRow
+shift-in s s₂ c dn dw n w a b k g h e f = rw (k, g, h, e, f)
+
+pub shift-out : (b : List ℕ) (c dn dw : ℕ) → 128 ≤ c → view b ≡ channelShifted (view b) c dn dw
+unfolding channelShifted shiftRow withChannels
+shift-out b c dn dw h =
+    rw (set-out (view b .channels) c (channelRow (at (view b .channels) c 0) (sum (at (view b .channels) c 1) dn) (sum (at (view b .channels) c 2) dw)) (omega (arith, length-channels b)))
+
+-- shift_all
+pub byte-fits : (l : List ℕ) (i : ℕ) → ((j : ℕ) → Fits w8 (getD l j 0)) → Fits w64 (getD l i 0)
+byte-fits l i f = fits-widen tt (f i)
+
+module _ (s : State) (l : List ℕ) (dn dw : ℕ) where
+  pub shifts-none : s ≡ shiftedTo s l dn dw 0
+  unfolding shiftedTo shiftTo withChannels
+  shifts-none = refl
+
+  pub shifts-more : (s₁ s₂ : State) (k : ℕ) → s₁ ≡ shiftedTo s l dn dw k → s₂ ≡ channelShifted s₁ (getD l k 0) dn dw → s₂ ≡ shiftedTo s l dn dw (k + 1)
+  unfolding shiftedTo shiftTo channelShifted withChannels
+  shifts-more s₁ s₂ k e f = rw (f, e, add-one k)
+
+  pub shifts-all : (s₁ : State) (k : ℕ) → s₁ ≡ shiftedTo s l dn dw k → k ≤ length l → length l ≤ k → s₁ ≡ shifted s l dn dw
+  unfolding shifted
+  shifts-all s₁ k e h i = let q : k ≡ length l = omega arith in rw q at e
+
+pub ruleset shifts = (shifts-none, shifts-more, shifts-all)
+
+-- enter, leave
+pub enter-is : (tb : Table) (s s₂ : State) (t w : ℕ) (l : List ℕ) → s₂ ≡ shifted s l 1 w → l ≡ ownList tb (thread s t) → w ≡ bit (isWaiting (thread s t)) → s₂ ≡ rowEntered tb s t
+unfolding rowEntered
+enter-is tb s s₂ t w l g e f = rw (g, e, f)
+
+pub leave-is : (s s₂ : State) (w d : ℕ) (l : List ℕ) → s₂ ≡ shifted s l 4294967295 d → d ≡ difference 0 w → s₂ ≡ rowLeft s l w
+unfolding rowLeft
+leave-is s s₂ w d l f e = rw (f, e)

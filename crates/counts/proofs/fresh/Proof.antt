@@ -1,0 +1,14 @@
+use Rattle.counts.proofs.Listings.{freshes}
+use borrow.Author.Needs.{needs}
+use Rattle.counts.proofs.fresh.Statement.{statement}
+use Rattle.counts.proofs.fresh.Tie as tie
+
+pub fresh-spec : {M : Type 1} → statement M
+fresh-spec =
+    tie.close
+    (tie.spec
+    (λ c κs. search needs)
+    (λ c κs. search needs)
+    (λ c. search freshes)
+    (λ c. search freshes)
+    (λ c. search freshes))

@@ -1,0 +1,13 @@
+use Rattle.counts.proofs.Shifts.{leave-is}
+use borrow.Author.Needs.{needs}
+use Rattle.counts.proofs.leave.Statement.{statement}
+use Rattle.counts.proofs.leave.Tie as tie
+
+pub leave-spec : {M : Type 1} → statement M
+leave-spec =
+    tie.close
+    (tie.spec
+    (λ c κs. search needs)
+    (λ c κs. search needs)
+    (λ c. search needs)
+    (λ c. search leave-is))

@@ -1,0 +1,34 @@
+-- `counts::note` meets its contract. The loop: the own channels of the slots before the k-th are listed. Assumes nothing.
+use Prim.Native.Nat.{_≤_, _-_}
+use mathlib.Core.Path.{_≡_}
+use lib.ListN.{length}
+use borrow.Author.Needs.{needs}
+use Rattle.table.specs.Table.{tableOf}
+use Rattle.state.specs.State.{view, thread}
+use Rattle.counts.specs.Own.Listing.{listedTo}
+use Rattle.counts.proofs.Listings.{notes}
+use Rattle.counts.proofs.note.Statement.{statement}
+use Rattle.counts.proofs.note.Tie as tie
+
+abbrev Inv-loop : tie.InvT-loop
+Inv-loop table from n state t list₀ k₀ list k =
+    (k ≤ 16) × (length list ≡ length list₀) × (list ≡ listedTo (tableOf table) from n (thread (view state) t) list₀ k)
+
+abbrev μ-loop : tie.MeasureT-loop
+μ-loop table from n state t list₀ k₀ list k = 16 - k
+
+pub note-spec : {M : Type 1} → statement M
+note-spec =
+    tie.close
+    (tie.spec
+    Inv-loop
+    μ-loop
+    (λ c. search (notes, needs))
+    (λ c κs. search needs)
+    (λ c. search needs)
+    (λ c. search needs)
+    (λ c. search needs)
+    (λ c. search needs)
+    (λ c. search (notes, needs))
+    (λ c. search needs)
+    (λ c. search notes))

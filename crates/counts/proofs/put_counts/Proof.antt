@@ -1,0 +1,18 @@
+use Rattle.counts.proofs.Shifts.{puts}
+use borrow.Author.Needs.{needs}
+use Rattle.counts.proofs.put_counts.Statement.{statement}
+use Rattle.counts.proofs.put_counts.Tie as tie
+
+pub put-counts-spec : {M : Type 1} → statement M
+put-counts-spec =
+    tie.close
+    (tie.spec
+    (λ c κs. search needs)
+    (λ c κs. search needs)
+    (λ c κs. search needs)
+    (λ c. search needs)
+    (λ c. search puts)
+    (λ c κs. search needs)
+    (λ c κs. search needs)
+    (λ c. search needs)
+    (λ c. search puts))

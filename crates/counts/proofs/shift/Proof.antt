@@ -1,0 +1,18 @@
+use Rattle.counts.proofs.Shifts.{shift-in, shift-out}
+use borrow.Author.Needs.{needs}
+use Rattle.counts.proofs.shift.Statement.{statement}
+use Rattle.counts.proofs.shift.Tie as tie
+
+pub shift-spec : {M : Type 1} → statement M
+shift-spec =
+    tie.close
+    (tie.spec
+    (λ c. search needs)
+    (λ c κs. search needs)
+    (λ c κs. search needs)
+    (λ c κs. search needs)
+    (λ c κs. search needs)
+    (λ c κs. search needs)
+    (λ c. search needs)
+    (λ c. search (shift-in, shift-out))
+    (λ c. search (shift-in, shift-out)))

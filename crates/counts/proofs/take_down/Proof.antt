@@ -1,0 +1,18 @@
+use Rattle.counts.proofs.Listings.{taken-list, taken-weight}
+use borrow.Author.Needs.{needs}
+use Rattle.counts.proofs.take_down.Statement.{statement}
+use Rattle.counts.proofs.take_down.Tie as tie
+
+pub take-down-spec : {M : Type 1} → statement M
+take-down-spec =
+    tie.close
+    (tie.spec
+    (λ c κs. search needs)
+    (λ c κs. search needs)
+    (λ c κs. search needs)
+    (λ c κs. search needs)
+    (λ c κs. search needs)
+    (λ c κs. search needs)
+    (λ c κs. search needs)
+    (λ c. search needs)
+    (λ c. (search taken-list, search taken-weight)))

@@ -1,0 +1,4 @@
+pub mod General
+pub mod Own
+pub mod Shift
+pub mod Upkeep

@@ -1,0 +1,226 @@
+// The channel rows of a state kept in step with the thread rows that a move writes. Before the writes the channels of each row that will change are
+// listed; after them every new row is entered and then every old one left, so that no channel is freed that a new row holds.
+ghost use mathlib.Core.Path.{_≡_};
+ghost use Prim.Native.Nat.{_+_, _≤_, _<_};
+ghost use lib.ListN.{length};
+ghost use lib.Dec.{eqb};
+ghost use Rattle.numbers.specs.Count.{bit};
+ghost use Rattle.table.specs.Table.{tableOf, slotRow};
+ghost use Rattle.table.specs.Layout.{start};
+ghost use Rattle.table.specs.declared.Part.the-variants.{Slots};
+ghost use Rattle.table.specs.Index.{Indexed};
+ghost use Rattle.state.specs.State.{view, stateLength, thread, isWaiting};
+ghost use Rattle.counts.specs.Own.{ownList};
+ghost use Rattle.counts.specs.Own.Listing.{channelIn, listed, ownBy, listedTo, room};
+ghost use Rattle.counts.specs.Shift.{rowCounted, channelShifted, shifted, rowEntered, rowLeft, settledOne, settledTwo, settledNew};
+use table::Part;
+
+const CHANNELS: u32 = 128;
+
+const NO_CHANNEL: u8 = 128;
+
+const ROW_SLOTS: u32 = 16;
+
+const MINUS_ONE: u32 = 4294967295;
+
+// The channel in slot k of thread t, the types of whose slots stand from a row of the table on; 128 where there is none.
+fn channel_in(table: &[u8], from: usize, state: &[u8], t: u32, k: u32) -> u8
+    requires { ⌜ from ≤ 12713792 ⌝ }
+    ensures { λ r. ⌜ r ≡ channelIn (tableOf (now (table .entry))) from (thread (view (now (state .entry))) t) k ⌝ }
+{
+    if table::cell(table, from + k as usize, 1) == 0 {
+        return NO_CHANNEL;
+    }
+    let c = program::slot(state, t, k);
+    if c < CHANNELS {
+        return c as u8;
+    }
+    NO_CHANNEL
+}
+
+// Whether one of the first n entries of a list is c.
+fn is_listed(list: &[u8], n: u32, c: u8) -> bool
+    requires { ⌜ n ≤ length (now list) ⌝ }
+    ensures { λ r. ⌜ r ≡ listed (now (list .entry)) n c ⌝ }
+{
+    for i in 0..n {
+        if list[i as usize] == c {
+            return true;
+        }
+    }
+    false
+}
+
+// The channel that slot k of thread t is the first of its n slots to hold; 128 where there is none. The list has those of the slots before.
+fn fresh(table: &[u8], from: usize, n: u32, state: &[u8], t: u32, list: &[u8], k: u32) -> u8
+    requires { ⌜ from ≤ 12713792 ⌝ }
+    requires { ⌜ k ≤ length (now list) ⌝ }
+    ensures { λ r. ⌜ r ≡ ownBy (tableOf (now (table .entry))) from n (thread (view (now (state .entry))) t) (now (list .entry)) k ⌝ }
+{
+    if k < n {
+        let c = channel_in(table, from, state, t, k);
+        if is_listed(list, k, c) {
+            return NO_CHANNEL;
+        }
+        return c;
+    }
+    NO_CHANNEL
+}
+
+// The channels of thread t's n slots are listed, each once.
+fn note(table: &[u8], from: usize, n: u32, state: &[u8], t: u32, list: &mut [u8])
+    requires { ⌜ from ≤ 12713792 ⌝ }
+    requires { ⌜ length (now list) ≡ 16 ⌝ }
+    ensures { λ _. ⌜ now (list .exit) ≡ listedTo (tableOf (now (table .entry))) from n (thread (view (now (state .entry))) t) (now (list .entry)) 16 ⌝ }
+{
+    for k in 0..ROW_SLOTS {
+        let c = fresh(table, from, n, state, t, list, k);
+        list[k as usize] = c;
+    }
+}
+
+// Where the types of a definition's slots begin in the table.
+fn types_from(table: &[u8], index: &[u32], d: u32) -> usize
+    requires { ⌜ Indexed (tableOf (now table)) (now index) ⌝ }
+    ensures { λ r. ⌜ r ≡ slotRow (tableOf (now (table .entry))) + start (tableOf (now (table .entry))) Slots d ⌝ }
+    ensures { λ r. ⌜ r ≤ 12713792 ⌝ }
+{
+    table::slot_row(table) + table::start_of(table, index, Part::Slots, d) as usize
+}
+
+// How many slots a row of this status has, by its definition: none where it is free.
+fn slots_in(table: &[u8], status: u32, d: u32) -> u32
+    ensures { λ r. ⌜ r ≡ room (tableOf (now (table .entry))) status d ⌝ }
+{
+    if status == 0 {
+        return 0;
+    }
+    table::slots_of(table, d)
+}
+
+// What a row of this status adds to a channel's count of waiting holders.
+fn weight(status: u32) -> u32
+    ensures { λ r. ⌜ r ≡ bit (eqb status 2) ⌝ }
+{
+    if status == 2 {
+        return 1;
+    }
+    0
+}
+
+// The channels that thread t holds, each once, and what it adds to their counts of waiting holders.
+pub fn take_down(table: &[u8], index: &[u32], state: &[u8], t: u32, list: &mut [u8]) -> u32
+    requires { ⌜ Indexed (tableOf (now table)) (now index) ⌝ }
+    requires { ⌜ length (now list) ≡ 16 ⌝ }
+    ensures { λ _. ⌜ now (list .exit) ≡ ownList (tableOf (now (table .entry))) (thread (view (now (state .entry))) t) ⌝ }
+    ensures { λ r. ⌜ r ≡ bit (isWaiting (thread (view (now (state .entry))) t)) ⌝ }
+{
+    let status = state::thread_word(state, t as usize, 0);
+    let d = program::definition_of(table, index, state::thread_word(state, t as usize, 1));
+    let from = types_from(table, index, d);
+    let n = slots_in(table, status, d);
+    note(table, from, n, state, t, list);
+    weight(status)
+}
+
+// Channel c has n holders, w of them waiting: without holders it is freed.
+fn put_counts(state: &mut [u8], c: usize, n: u32, w: u32)
+    requires { ⌜ length (now state) ≡ stateLength ⌝ }
+    requires { ⌜ c < 128 ⌝ }
+    ensures { λ _. ⌜ view (now (state .exit)) ≡ rowCounted (view (now (state .entry))) c n w ⌝ }
+{
+    if n == 0 {
+        state::put_channel(state, c, 0, 0);
+        state::put_channel(state, c, 1, 0);
+        state::put_channel(state, c, 2, 0);
+        return;
+    }
+    state::put_channel(state, c, 1, n);
+    state::put_channel(state, c, 2, w);
+}
+
+// Channel c's counts go up by dn and dw, around the end; at 0 it is freed.
+fn shift(state: &mut [u8], c: usize, dn: u32, dw: u32)
+    requires { ⌜ length (now state) ≡ stateLength ⌝ }
+    ensures { λ _. ⌜ view (now (state .exit)) ≡ channelShifted (view (now (state .entry))) c dn dw ⌝ }
+{
+    if c < CHANNELS as usize {
+        let n = numbers::add(state::channel_word(state, c, 1), dn);
+        let w = numbers::add(state::channel_word(state, c, 2), dw);
+        put_counts(state, c, n, w);
+    }
+}
+
+// ... those of every channel of a list.
+fn shift_all(state: &mut [u8], list: &[u8], dn: u32, dw: u32)
+    requires { ⌜ length (now state) ≡ stateLength ⌝ }
+    ensures { λ _. ⌜ view (now (state .exit)) ≡ shifted (view (now (state .entry))) (now (list .entry)) dn dw ⌝ }
+{
+    for i in 0..list.len() {
+        shift(state, list[i] as usize, dn, dw);
+    }
+}
+
+// Thread t's row has been written: it is counted at each channel that it holds.
+fn enter(table: &[u8], index: &[u32], state: &mut [u8], t: u32)
+    requires { ⌜ Indexed (tableOf (now table)) (now index) ⌝ }
+    requires { ⌜ length (now state) ≡ stateLength ⌝ }
+    ensures { λ _. ⌜ view (now (state .exit)) ≡ rowEntered (tableOf (now (table .entry))) (view (now (state .entry))) t ⌝ }
+{
+    let mut list = [0u8; 16];
+    let w = take_down(table, index, state, t, &mut list);
+    shift_all(state, &list, 1, w);
+}
+
+// A row that held the channels of a list and added w to their counts of waiting holders is gone: channels that nobody holds are freed.
+fn leave(state: &mut [u8], list: &[u8], w: u32)
+    requires { ⌜ length (now state) ≡ stateLength ⌝ }
+    ensures { λ _. ⌜ view (now (state .exit)) ≡ rowLeft (view (now (state .entry))) (now (list .entry)) w ⌝ }
+{
+    let dw = numbers::subtract(0, w);
+    shift_all(state, list, MINUS_ONE, dw);
+}
+
+// Thread t's row has been written, and the row before it was taken down.
+pub fn settle_one(table: &[u8], index: &[u32], state: &mut [u8], t: u32, old: &[u8], w: u32)
+    requires { ⌜ Indexed (tableOf (now table)) (now index) ⌝ }
+    requires { ⌜ length (now state) ≡ stateLength ⌝ }
+    ensures { λ _. ⌜ view (now (state .exit)) ≡ settledOne (tableOf (now (table .entry))) (view (now (state .entry))) t (now (old .entry)) w ⌝ }
+{
+    enter(table, index, state, t);
+    leave(state, old, w);
+}
+
+// The rows of threads t and u have been written, and the rows before them were taken down.
+pub fn settle_two(
+    table: &[u8],
+    index: &[u32],
+    state: &mut [u8],
+    t: u32,
+    u: u32,
+    old: &[u8],
+    w: u32,
+    mate: &[u8],
+    m: u32,
+)
+    requires { ⌜ Indexed (tableOf (now table)) (now index) ⌝ }
+    requires { ⌜ length (now state) ≡ stateLength ⌝ }
+    ensures { λ _. ⌜ view (now (state .exit)) ≡ settledTwo (tableOf (now (table .entry))) (view (now (state .entry))) t u (now (old .entry)) w (now (mate .entry)) m ⌝ }
+{
+    enter(table, index, state, t);
+    enter(table, index, state, u);
+    leave(state, old, w);
+    leave(state, mate, m);
+}
+
+// Thread t's row and the type of channel c, which was free, have been written, and the row before was taken down. Where the new row does not hold c
+// it is free again.
+pub fn settle_new(table: &[u8], index: &[u32], state: &mut [u8], t: u32, c: u32, old: &[u8], w: u32)
+    requires { ⌜ Indexed (tableOf (now table)) (now index) ⌝ }
+    requires { ⌜ length (now state) ≡ stateLength ⌝ }
+    ensures { λ _. ⌜ view (now (state .exit)) ≡ settledNew (tableOf (now (table .entry))) (view (now (state .entry))) t c (now (old .entry)) w ⌝ }
+{
+    enter(table, index, state, t);
+    shift(state, c as usize, 0, 0);
+    leave(state, old, w);
+}

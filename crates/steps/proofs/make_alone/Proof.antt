@@ -1,0 +1,16 @@
+use Rattle.steps.specs.Made.Laws.{alone-made, alone-writable}
+use borrow.Author.Needs.{needs}
+use Rattle.steps.proofs.make_alone.Statement.{statement}
+use Rattle.steps.proofs.make_alone.Tie as tie
+
+pub make-alone-spec : {M : Type 1} → statement M
+make-alone-spec =
+    tie.close
+    (tie.spec
+    (λ c. search needs)
+    (λ c κs. search needs)
+    (λ c κs. (search, (search needs, (search, search alone-writable))))
+    (λ c. search needs)
+    (λ c κs. search needs)
+    (λ c. search needs)
+    (λ c. search alone-made))

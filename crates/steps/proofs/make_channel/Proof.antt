@@ -1,0 +1,16 @@
+use Rattle.steps.specs.Made.Laws.{creation-made, creation-writable}
+use borrow.Author.Needs.{needs}
+use Rattle.steps.proofs.make_channel.Statement.{statement}
+use Rattle.steps.proofs.make_channel.Tie as tie
+
+pub make-channel-spec : {M : Type 1} → statement M
+make-channel-spec =
+    tie.close
+    (tie.spec
+    (λ c. search needs)
+    (λ c κs. search needs)
+    (λ c κs. (search, (search needs, (search, search creation-writable))))
+    (λ c. search needs)
+    (λ c κs. search needs)
+    (λ c. search needs)
+    (λ c. search creation-made))

@@ -1,0 +1,16 @@
+use Rattle.steps.specs.Made.Laws.{met-made}
+use borrow.Author.Needs.{needs}
+use Rattle.steps.proofs.make_met.Statement.{statement}
+use Rattle.steps.proofs.make_met.Tie as tie
+
+pub make-met-spec : {M : Type 1} → statement M
+make-met-spec =
+    tie.close
+    (tie.spec
+    (λ c. search needs)
+    (λ c κs. search needs)
+    (λ c κs. search needs)
+    (λ c. search needs)
+    (λ c κs. search needs)
+    (λ c. search needs)
+    (λ c. search met-made))

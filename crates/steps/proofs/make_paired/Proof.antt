@@ -1,0 +1,18 @@
+use Rattle.steps.specs.Made.Laws.{paired-made}
+use borrow.Author.Needs.{needs}
+use Rattle.steps.proofs.make_paired.Statement.{statement}
+use Rattle.steps.proofs.make_paired.Tie as tie
+
+pub make-paired-spec : {M : Type 1} → statement M
+make-paired-spec =
+    tie.close
+    (tie.spec
+    (λ c. search needs)
+    (λ c κs. search needs)
+    (λ c. search needs)
+    (λ c κs. search needs)
+    (λ c. search needs)
+    (λ c. search needs)
+    (λ c κs. (search, (search needs, (search, search))))
+    (λ c. search needs)
+    (λ c. search paired-made))

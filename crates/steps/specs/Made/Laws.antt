@@ -1,0 +1,173 @@
+-- What the moves write is one row, two rows, or a row and a new channel, so that the upkeep of the counts settles it. Assumes nothing.
+use Prim.Native.Nat.{ℕ, _<_}
+use mathlib.Core.Path.{_≡_, refl, sym, _∙_, ap}
+use mathlib.Core.Logic.{_≢_}
+use mathlib.Core.List.{List}
+use lib.ListN.{length}
+use Rattle.numbers.specs.Count.{bit}
+use Rattle.table.specs.Table.{Table}
+use Rattle.state.specs.State.{State, view, thread, isWaiting, withMark, withThread}
+use Rattle.state.specs.State.Laws.{length-threads}
+use Rattle.rules.specs.Holding.{settled}
+use Rattle.rules.specs.Moves.{written, perform, spawnedBy, metBy, metByBench}
+use Rattle.rules.specs.declared.Move.{Move}
+use Rattle.rules.specs.declared.Move.the-variants.{Ends, Calls, Waits, Goes, Creates, Spawns, Meets, LacksThread, LacksChannel}
+use Rattle.counts.specs.Own.{ownList}
+use Rattle.counts.specs.Shift.{settledOne, settledTwo, settledNew}
+use Rattle.counts.specs.Upkeep.{one-settled, two-settled, new-settled, settled-mark, two-mark, new-mark, settled-again}
+use Rattle.steps.specs.Made.{Writable, Alone, Paired, Creation, made}
+
+-- a mark that is moved besides changes nothing in this
+module _ (tb : Table) (s : State) (i v : ℕ) where
+  new-marked : (t x : ℕ) (l : List ℕ) (w : ℕ) → settledNew tb s t x l w ≡ settled tb s → settledNew tb (withMark s i v) t x l w ≡ settled tb (withMark s i v)
+  new-marked t x l w e = new-mark tb s i v t x l w ∙ rw e (sym (settled-mark tb s i v))
+
+  two-marked : (t x : ℕ) (l : List ℕ) (w : ℕ) (l′ : List ℕ) (w′ : ℕ) → settledTwo tb s t x l w l′ w′ ≡ settled tb s
+      → settledTwo tb (withMark s i v) t x l w l′ w′ ≡ settled tb (withMark s i v)
+  two-marked t x l w l′ w′ e = two-mark tb s i v t x l w l′ w′ ∙ rw e (sym (settled-mark tb s i v))
+
+module _ (tb : Table) (b : List ℕ) (e : settled tb (view b) ≡ view b) (t : ℕ) (h : t < 64) where
+  one : (row : List ℕ) → settledOne tb (withThread (view b) t row) t (ownList tb (thread (view b) t)) (bit (isWaiting (thread (view b) t))) ≡ settled tb (withThread (view b) t row)
+  one row = one-settled tb (view b) (length-threads b) e t h row
+
+  alone-settled : (m : Move) → Alone m → settledOne tb (written tb (view b) t m) t (ownList tb (thread (view b) t)) (bit (isWaiting (thread (view b) t))) ≡ settled tb (written tb (view b) t m)
+  unfolding written Alone
+  alone-settled Ends a = one _
+  alone-settled Calls a = one _
+  alone-settled Waits a = one _
+  alone-settled (Goes i) a = one _
+  alone-settled (Creates i c) a = absurd a
+  alone-settled (Spawns i u) a = absurd a
+  alone-settled (Meets i u j) a = absurd a
+  alone-settled LacksThread a = absurd a
+  alone-settled LacksChannel a = absurd a
+
+  creation-settled : (x : ℕ) (m : Move) → Creation x m
+      → settledNew tb (written tb (view b) t m) t x (ownList tb (thread (view b) t)) (bit (isWaiting (thread (view b) t))) ≡ settled tb (written tb (view b) t m)
+  unfolding written Creation
+  creation-settled x Ends a = absurd a
+  creation-settled x Calls a = absurd a
+  creation-settled x Waits a = absurd a
+  creation-settled x (Goes i) a = absurd a
+  creation-settled x (Creates i c) (q, a) =
+      rw q (new-marked tb _ 1 _ t x _ _ (new-settled tb (view b) (length-threads b) e t h _ x _ a))
+  creation-settled x (Spawns i u) a = absurd a
+  creation-settled x (Meets i u j) a = absurd a
+  creation-settled x LacksThread a = absurd a
+  creation-settled x LacksChannel a = absurd a
+
+  paired-settled : (x : ℕ) (m : Move) → Paired t x m
+      → settledTwo tb (written tb (view b) t m) t x (ownList tb (thread (view b) t)) (bit (isWaiting (thread (view b) t))) (ownList tb (thread (view b) x)) (bit (isWaiting (thread (view b) x)))
+      ≡ settled tb (written tb (view b) t m)
+  unfolding written spawnedBy Paired
+  paired-settled x Ends a = absurd a
+  paired-settled x Calls a = absurd a
+  paired-settled x Waits a = absurd a
+  paired-settled x (Goes i) a = absurd a
+  paired-settled x (Creates i c) a = absurd a
+  paired-settled x (Spawns i u) (q, l, n) =
+      rw q (two-marked tb _ 0 _ t x _ _ _ _ (two-settled tb (view b) (length-threads b) e t h _ x l n _))
+  paired-settled x (Meets i u j) (q, l, n) = rw q (two-settled tb (view b) (length-threads b) e t h _ x l n _)
+  paired-settled x LacksThread a = absurd a
+  paired-settled x LacksChannel a = absurd a
+
+  -- ---- the code's way out: s₁ after the writes, s₂ after the upkeep
+
+  module _ (m : Move) (s₁ s₂ : State) (l : List ℕ) (w : ℕ) where
+    pub alone-made : s₂ ≡ settledOne tb s₁ t l w → s₁ ≡ written tb (view b) t m → l ≡ ownList tb (thread (view b) t) → w ≡ bit (isWaiting (thread (view b) t)) → Alone m
+        → s₂ ≡ perform tb (view b) t m
+    unfolding perform
+    alone-made f g i j a = f ∙ rw (g, i, j) (alone-settled m a)
+
+    pub creation-made : (x : ℕ) → s₂ ≡ settledNew tb s₁ t x l w → s₁ ≡ written tb (view b) t m → l ≡ ownList tb (thread (view b) t) → w ≡ bit (isWaiting (thread (view b) t)) → Creation x m
+        → s₂ ≡ perform tb (view b) t m
+    unfolding perform
+    creation-made x f g i j a = f ∙ rw (g, i, j) (creation-settled x m a)
+
+  pub paired-made : (m : Move) (s₁ : State) (x : ℕ) (l : List ℕ) (w : ℕ) (l′ : List ℕ) (w′ : ℕ) → s₁ ≡ settledTwo tb (written tb (view b) t m) t x l w l′ w′
+      → l ≡ ownList tb (thread (view b) t) → w ≡ bit (isWaiting (thread (view b) t)) → l′ ≡ ownList tb (thread (view b) x) → w′ ≡ bit (isWaiting (thread (view b) x)) → Paired t x m
+      → s₁ ≡ perform tb (view b) t m
+  unfolding perform
+  paired-made m s₁ x l w l′ w′ f i j k n a = f ∙ rw (i, j, k, n) (paired-settled x m a)
+
+  pub met-made : (s₁ s₂ : State) (l : List ℕ) (w j v : ℕ) → s₂ ≡ settledOne tb s₁ t l w → s₁ ≡ withThread (view b) t (metBy tb (thread (view b) t) j v)
+      → l ≡ ownList tb (thread (view b) t) → w ≡ bit (isWaiting (thread (view b) t)) → s₂ ≡ metByBench tb (view b) t j v
+  unfolding metByBench
+  met-made s₁ s₂ l w j v f g i k = f ∙ rw (g, i, k) (one _)
+
+-- ---- arms
+
+module _ (t : ℕ) (m : Move) where
+  pub writable-channel : (i c : ℕ) → m ≡ Creates i c → Writable t m → c < 128
+  unfolding Writable
+  writable-channel i c e a = rw e at a
+
+  pub writable-child : (i u : ℕ) → m ≡ Spawns i u → Writable t m → u < 64
+  unfolding Writable
+  writable-child i u e a = let z : Writable t (Spawns i u) = rw e at a in z .0
+
+  pub writable-other : (i u j : ℕ) → m ≡ Meets i u j → Writable t m → u < 64
+  unfolding Writable
+  writable-other i u j e a = let z : Writable t (Meets i u j) = rw e at a in z .0
+
+  pub writable-apart : (i u j : ℕ) → m ≡ Meets i u j → Writable t m → u ≢ t
+  unfolding Writable
+  writable-apart i u j e a = let z : Writable t (Meets i u j) = rw e at a in z .1
+
+  pub writable-aside : (i u : ℕ) → m ≡ Spawns i u → Writable t m → u ≢ t
+  unfolding Writable
+  writable-aside i u e a = let z : Writable t (Spawns i u) = rw e at a in z .1
+
+  -- a move of one row, from the arm of a match
+  pub alone-from : (n : Move) → m ≡ n → Alone n → Alone m
+  alone-from n e a = rw e a
+
+pub alone-writable : (t : ℕ) (m : Move) → Alone m → Writable t m
+unfolding Writable Alone
+alone-writable t Ends a = tt
+alone-writable t Calls a = tt
+alone-writable t Waits a = tt
+alone-writable t (Goes i) a = tt
+alone-writable t (Creates i c) a = absurd a
+alone-writable t (Spawns i u) a = absurd a
+alone-writable t (Meets i u j) a = absurd a
+alone-writable t LacksThread a = absurd a
+alone-writable t LacksChannel a = absurd a
+
+pub creation-writable : (t x : ℕ) (m : Move) → Creation x m → Writable t m
+unfolding Writable Creation
+creation-writable t x Ends a = absurd a
+creation-writable t x Calls a = absurd a
+creation-writable t x Waits a = absurd a
+creation-writable t x (Goes i) a = absurd a
+creation-writable t x (Creates i c) (q, l) = rw q l
+creation-writable t x (Spawns i u) a = absurd a
+creation-writable t x (Meets i u j) a = absurd a
+creation-writable t x LacksThread a = absurd a
+creation-writable t x LacksChannel a = absurd a
+
+pub paired-writable : (t x : ℕ) (m : Move) → Paired t x m → Writable t m
+unfolding Writable Paired
+paired-writable t x Ends a = absurd a
+paired-writable t x Calls a = absurd a
+paired-writable t x Waits a = absurd a
+paired-writable t x (Goes i) a = absurd a
+paired-writable t x (Creates i c) a = absurd a
+paired-writable t x (Spawns i u) (q, l, n) = rw q (l, n)
+paired-writable t x (Meets i u j) (q, l, n) = rw q (l, n)
+paired-writable t x LacksThread a = absurd a
+paired-writable t x LacksChannel a = absurd a
+
+-- an arm of the match that writes, and of the one that makes
+module _ (tb : Table) (s s₁ : State) (t : ℕ) (m n : Move) (e : m ≡ n) where
+  pub written-arm : s₁ ≡ written tb s t n → s₁ ≡ written tb s t m
+  written-arm f = rw e f
+
+  pub made-arm : s₁ ≡ perform tb s t m → perform tb s t n ≡ made tb s t n → s₁ ≡ made tb s t m
+  made-arm f g = f ∙ rw e g
+
+  pub made-anew : s₁ ≡ perform tb s t n → perform tb s t n ≡ made tb s t n → s₁ ≡ made tb s t m
+  made-anew f g = f ∙ rw e g
+
+  pub lacking-arm : s₁ ≡ made tb s t n → s₁ ≡ made tb s t m
+  lacking-arm f = rw e f

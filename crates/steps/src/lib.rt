@@ -1,0 +1,141 @@
+// A move made: what it writes, and the channel rows settled. Each function asks that the channel rows are settled before it, and leaves them so.
+ghost use mathlib.Core.Path.{_≡_};
+ghost use mathlib.Core.Logic.{_≢_};
+ghost use Prim.Native.Nat.{_<_};
+ghost use lib.ListN.{length};
+ghost use Rattle.table.specs.Table.{tableOf};
+ghost use Rattle.table.specs.Index.{Indexed};
+ghost use Rattle.state.specs.State.{view, stateLength};
+ghost use Rattle.rules.specs.Holding.{settled};
+ghost use Rattle.rules.specs.Moves.{written, perform, metByBench};
+ghost use Rattle.counts.specs.Shift.{settledTwo};
+ghost use Rattle.steps.specs.Made.{Writable, Alone, Paired, Creation, made};
+use rules::Move;
+
+const ROW_SLOTS: usize = 16;
+
+// What a move of thread t writes.
+fn write_move(table: &[u8], index: &[u32], state: &mut [u8], t: u32, m: Move)
+    requires { ⌜ Indexed (tableOf (now table)) (now index) ⌝ }
+    requires { ⌜ length (now state) ≡ stateLength ⌝ }
+    requires { ⌜ t < 64 ⌝ }
+    requires { ⌜ Writable t m ⌝ }
+    ensures { λ _. ⌜ view (now (state .exit)) ≡ written (tableOf (now (table .entry))) (view (now (state .entry))) t m ⌝ }
+{
+    match m {
+        Move::Ends => writes::write_free(state, t),
+        Move::Calls => writes::write_call(table, index, state, t),
+        Move::Waits => writes::write_waiting(state, t),
+        Move::Goes(i) => branches::write_gone(table, index, state, t, i),
+        Move::Creates(i, c) => branches::write_creation(table, index, state, t, i, c),
+        Move::Spawns(i, u) => branches::write_spawn(table, index, state, t, i, u),
+        Move::Meets(i, u, j) => branches::write_meeting(table, index, state, t, i, u, j),
+        Move::LacksThread => {}
+        Move::LacksChannel => {}
+    }
+}
+
+// A move that changes the row of thread t alone.
+fn make_alone(table: &[u8], index: &[u32], state: &mut [u8], t: u32, m: Move)
+    requires { ⌜ Indexed (tableOf (now table)) (now index) ⌝ }
+    requires { ⌜ length (now state) ≡ stateLength ⌝ }
+    requires { ⌜ t < 64 ⌝ }
+    requires { ⌜ settled (tableOf (now table)) (view (now state)) ≡ view (now state) ⌝ }
+    requires { ⌜ Alone m ⌝ }
+    ensures { λ _. ⌜ view (now (state .exit)) ≡ perform (tableOf (now (table .entry))) (view (now (state .entry))) t m ⌝ }
+{
+    let mut old = [0u8; ROW_SLOTS];
+    let waits = counts::take_down(table, index, state, t, &mut old);
+    write_move(table, index, state, t, m);
+    counts::settle_one(table, index, state, t, &old, waits);
+}
+
+// A move that also makes channel c.
+fn make_channel(table: &[u8], index: &[u32], state: &mut [u8], t: u32, c: u32, m: Move)
+    requires { ⌜ Indexed (tableOf (now table)) (now index) ⌝ }
+    requires { ⌜ length (now state) ≡ stateLength ⌝ }
+    requires { ⌜ t < 64 ⌝ }
+    requires { ⌜ settled (tableOf (now table)) (view (now state)) ≡ view (now state) ⌝ }
+    requires { ⌜ Creation c m ⌝ }
+    ensures { λ _. ⌜ view (now (state .exit)) ≡ perform (tableOf (now (table .entry))) (view (now (state .entry))) t m ⌝ }
+{
+    let mut old = [0u8; ROW_SLOTS];
+    let waits = counts::take_down(table, index, state, t, &mut old);
+    write_move(table, index, state, t, m);
+    counts::settle_new(table, index, state, t, c, &old, waits);
+}
+
+// A move that changes the rows of threads t and u, which have been taken down.
+fn make_noted(
+    table: &[u8],
+    index: &[u32],
+    state: &mut [u8],
+    t: u32,
+    u: u32,
+    m: Move,
+    old: &[u8],
+    waits: u32,
+    other: &[u8],
+    awaits: u32,
+)
+    requires { ⌜ Indexed (tableOf (now table)) (now index) ⌝ }
+    requires { ⌜ length (now state) ≡ stateLength ⌝ }
+    requires { ⌜ t < 64 ⌝ }
+    requires { ⌜ Paired t u m ⌝ }
+    ensures { λ _. ⌜ view (now (state .exit)) ≡ settledTwo (tableOf (now (table .entry))) (written (tableOf (now (table .entry))) (view (now (state .entry))) t m) t u (now (old .entry)) waits (now (other .entry)) awaits ⌝ }
+{
+    write_move(table, index, state, t, m);
+    counts::settle_two(table, index, state, t, u, old, waits, other, awaits);
+}
+
+// A move that changes the rows of threads t and u.
+fn make_paired(table: &[u8], index: &[u32], state: &mut [u8], t: u32, u: u32, m: Move)
+    requires { ⌜ Indexed (tableOf (now table)) (now index) ⌝ }
+    requires { ⌜ length (now state) ≡ stateLength ⌝ }
+    requires { ⌜ t < 64 ⌝ }
+    requires { ⌜ settled (tableOf (now table)) (view (now state)) ≡ view (now state) ⌝ }
+    requires { ⌜ Paired t u m ⌝ }
+    ensures { λ _. ⌜ view (now (state .exit)) ≡ perform (tableOf (now (table .entry))) (view (now (state .entry))) t m ⌝ }
+{
+    let mut old = [0u8; ROW_SLOTS];
+    let mut other = [0u8; ROW_SLOTS];
+    let waits = counts::take_down(table, index, state, t, &mut old);
+    let awaits = counts::take_down(table, index, state, u, &mut other);
+    make_noted(table, index, state, t, u, m, &old, waits, &other, awaits);
+}
+
+// A move of thread t; one that lacks a row changes nothing.
+pub fn make_move(table: &[u8], index: &[u32], state: &mut [u8], t: u32, m: Move)
+    requires { ⌜ Indexed (tableOf (now table)) (now index) ⌝ }
+    requires { ⌜ length (now state) ≡ stateLength ⌝ }
+    requires { ⌜ t < 64 ⌝ }
+    requires { ⌜ settled (tableOf (now table)) (view (now state)) ≡ view (now state) ⌝ }
+    requires { ⌜ Writable t m ⌝ }
+    ensures { λ _. ⌜ view (now (state .exit)) ≡ made (tableOf (now (table .entry))) (view (now (state .entry))) t m ⌝ }
+{
+    match m {
+        Move::Ends => make_alone(table, index, state, t, m),
+        Move::Calls => make_alone(table, index, state, t, m),
+        Move::Waits => make_alone(table, index, state, t, m),
+        Move::Goes(_) => make_alone(table, index, state, t, m),
+        Move::Creates(i, c) => make_channel(table, index, state, t, c, Move::Creates(i, c)),
+        Move::Spawns(i, u) => make_paired(table, index, state, t, u, Move::Spawns(i, u)),
+        Move::Meets(i, u, j) => make_paired(table, index, state, t, u, Move::Meets(i, u, j)),
+        Move::LacksThread => {}
+        Move::LacksChannel => {}
+    }
+}
+
+// Thread u, met through its branch j by somebody who gives v, goes on.
+pub fn make_met(table: &[u8], index: &[u32], state: &mut [u8], u: u32, j: u32, v: u32)
+    requires { ⌜ Indexed (tableOf (now table)) (now index) ⌝ }
+    requires { ⌜ length (now state) ≡ stateLength ⌝ }
+    requires { ⌜ u < 64 ⌝ }
+    requires { ⌜ settled (tableOf (now table)) (view (now state)) ≡ view (now state) ⌝ }
+    ensures { λ _. ⌜ view (now (state .exit)) ≡ metByBench (tableOf (now (table .entry))) (view (now (state .entry))) u j v ⌝ }
+{
+    let mut old = [0u8; ROW_SLOTS];
+    let waits = counts::take_down(table, index, state, u, &mut old);
+    branches::write_met(table, index, state, u, j, v);
+    counts::settle_one(table, index, state, u, &old, waits);
+}
