@@ -1,31 +1,20 @@
 -- One law for each way out of the functions that write a taken branch. Assumes nothing.
-use Prim.Native.Nat.{ℕ, suc, _+_, _<_}
+use Prim.Native.Nat.{ℕ, _<_}
 use native.Mathlib.Omega.{arith}
-use native.Mathlib.Numerals.{add-one}
-use mathlib.Core.Path.{_≡_, refl, sym, _∙_, ap}
+use mathlib.Core.Path.{_≡_, _∙_, ap}
 use mathlib.Core.Logic.{_≢_}
 use mathlib.Core.List.{List}
-use borrow.Author.Tests.{eq-eqb, ne-eqb}
 use Rattle.numbers.specs.Rows.{at}
 use Rattle.table.specs.Table.{Table}
 use Rattle.state.specs.State.{State, view, thread, standsAt, withThread}
 use Rattle.state.specs.State.Laws.{length-threads, thread-same, thread-other, thread-twice}
 use Rattle.rules.specs.Program.{branchAt, nextOf}
-use Rattle.rules.specs.Moves.{oneUp, resumed, stored, met, gone, sideOf, createdBy, metBy, valueBy, written}
+use Rattle.rules.specs.Moves.{resumed, stored, met, gone, sideOf, createdBy, metBy, valueBy, written}
 use Rattle.rules.specs.declared.Move.the-variants.{Meets}
 use Rattle.rules.specs.declared.Direction.{Direction}
 use Rattle.rules.specs.declared.Direction.the-variants.{Out, In}
 use Rattle.rules.specs.declared.Act.{Act}
 use Rattle.rules.specs.declared.Act.the-variants.{Tau, Meeting, New, Spawn, Assignment}
-
-module _ (n i : ℕ) where
-  pub past-last : i + 1 ≡ n → 0 ≡ oneUp n i
-  unfolding oneUp
-  past-last e = rw (eq-eqb (suc i) n (sym (add-one i) ∙ e))
-
-  pub past-one : (i + 1 ≡ n → ⊥) → i + 1 ≡ oneUp n i
-  unfolding oneUp
-  past-one h = rw (ne-eqb (suc i) n (λ q. h (add-one i ∙ q))) (add-one i)
 
 pub side-arm : (r : Direction) (a b : Act) → a ≡ b → r ≡ sideOf b → r ≡ sideOf a
 side-arm r a b e f = rw e f

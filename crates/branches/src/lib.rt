@@ -7,7 +7,7 @@ ghost use Rattle.table.specs.Table.{tableOf};
 ghost use Rattle.table.specs.Index.{Indexed};
 ghost use Rattle.state.specs.State.{view, thread, stateLength, withThread};
 ghost use Rattle.rules.specs.Program.{actOf};
-ghost use Rattle.rules.specs.Moves.{met, gone, goneBy, createdBy, metBy, rowOf, valueBy, typeBy, sideOf, oneUp, typed, spawnedBy, written};
+ghost use Rattle.rules.specs.Moves.{met, gone, goneBy, createdBy, metBy, rowOf, valueBy, typeBy, sideOf, typed, spawnedBy, written};
 ghost use Rattle.rules.specs.declared.Move.the-variants.{Creates, Spawns, Meets};
 use rules::Act;
 use rules::Direction;
@@ -167,18 +167,7 @@ pub fn write_creation(table: &[u8], index: &[u32], state: &mut [u8], t: u32, i: 
     let kind = type_by(table, index, state, t, i);
     write_holder(table, index, state, t, i, c);
     state::put_channel(state, c as usize, 0, kind);
-    state::put_mark(state, 1, one_past(MAX_CHANNELS, c));
-}
-
-// One past number i of n: past the last comes 0.
-pub fn one_past(n: u32, i: u32) -> u32
-    requires { ⌜ i < n ⌝ }
-    ensures { λ r. ⌜ r ≡ oneUp n i ⌝ }
-{
-    if i + 1 == n {
-        return 0;
-    }
-    i + 1
+    state::put_mark(state, 1, moves::one_up(MAX_CHANNELS, c));
 }
 
 // Thread t's branch i makes the child u: both go on with the slots of t.
@@ -206,5 +195,5 @@ pub fn write_spawn(table: &[u8], index: &[u32], state: &mut [u8], t: u32, i: u32
     ensures { λ _. ⌜ view (now (state .exit)) ≡ written (tableOf (now (table .entry))) (view (now (state .entry))) t (Spawns i u) ⌝ }
 {
     write_child(table, index, state, t, i, u);
-    state::put_mark(state, 0, one_past(MAX_THREADS, u));
+    state::put_mark(state, 0, moves::one_up(MAX_THREADS, u));
 }

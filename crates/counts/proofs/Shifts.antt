@@ -17,7 +17,7 @@ use Rattle.state.specs.State.{State, view, stateLength, thread, channel, isWait
 use Rattle.state.specs.State.Laws.{length-channels, length-channel}
 use Rattle.rules.specs.Holding.{channelRow}
 use Rattle.counts.specs.Own.{ownList}
-use Rattle.counts.specs.Shift.{rowCounted, shiftRow, shiftTo, channelShifted, shiftedTo, shifted, rowEntered, rowLeft}
+use Rattle.counts.specs.Shift.{rowCounted, shiftRow, shiftTo, channelShifted, shiftedTo, shifted, rowEntered, rowLeft, settledOne, settledTwo, settledNew}
 
 -- put_counts: three stores, and two, make a row
 three : (r : List ℕ) (a n w : ℕ) → length r ≡ 3 → set (set (set r 0 a) 1 n) 2 w ≡ a ∷ n ∷ w ∷ []
@@ -94,3 +94,24 @@ enter-is tb s s₂ t w l g e f = rw (g, e, f)
 pub leave-is : (s s₂ : State) (w d : ℕ) (l : List ℕ) → s₂ ≡ shifted s l 4294967295 d → d ≡ difference 0 w → s₂ ≡ rowLeft s l w
 unfolding rowLeft
 leave-is s s₂ w d l f e = rw (f, e)
+
+-- enter_both, leave_both
+pub entered-both : (tb : Table) (s s₁ s₂ : State) (t u : ℕ) → s₁ ≡ rowEntered tb s t → s₂ ≡ rowEntered tb s₁ u → s₂ ≡ rowEntered tb (rowEntered tb s t) u
+entered-both tb s s₁ s₂ t u e f = rw (f, e)
+
+pub left-both : (s s₁ s₂ : State) (l : List ℕ) (w : ℕ) (l′ : List ℕ) (w′ : ℕ) → s₁ ≡ rowLeft s l w → s₂ ≡ rowLeft s₁ l′ w′ → s₂ ≡ rowLeft (rowLeft s l w) l′ w′
+left-both s s₁ s₂ l w l′ w′ e f = rw (f, e)
+
+-- settle_one, settle_new, settle_two
+module _ (tb : Table) (s s₁ s₂ : State) (t : ℕ) (l : List ℕ) (w : ℕ) where
+  pub settle-one-is : s₁ ≡ rowEntered tb s t → s₂ ≡ rowLeft s₁ l w → s₂ ≡ settledOne tb s t l w
+  unfolding settledOne
+  settle-one-is e f = rw (f, e)
+
+  pub settle-new-is : (s₃ : State) (c : ℕ) → s₁ ≡ rowEntered tb s t → s₂ ≡ channelShifted s₁ c 0 0 → s₃ ≡ rowLeft s₂ l w → s₃ ≡ settledNew tb s t c l w
+  unfolding settledNew
+  settle-new-is s₃ c e f g = rw (g, f, e)
+
+  pub settle-two-is : (u : ℕ) (l′ : List ℕ) (w′ : ℕ) → s₁ ≡ rowEntered tb (rowEntered tb s t) u → s₂ ≡ rowLeft (rowLeft s₁ l w) l′ w′ → s₂ ≡ settledTwo tb s t u l w l′ w′
+  unfolding settledTwo
+  settle-two-is u l′ w′ e f = rw (f, e)

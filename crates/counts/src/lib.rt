@@ -181,6 +181,24 @@ fn leave(state: &mut [u8], list: &[u8], w: u32)
     shift_all(state, list, MINUS_ONE, dw);
 }
 
+// The new rows of two threads are entered, and their old rows left.
+fn enter_both(table: &[u8], index: &[u32], state: &mut [u8], t: u32, u: u32)
+    requires { ⌜ Indexed (tableOf (now table)) (now index) ⌝ }
+    requires { ⌜ length (now state) ≡ stateLength ⌝ }
+    ensures { λ _. ⌜ view (now (state .exit)) ≡ rowEntered (tableOf (now (table .entry))) (rowEntered (tableOf (now (table .entry))) (view (now (state .entry))) t) u ⌝ }
+{
+    enter(table, index, state, t);
+    enter(table, index, state, u);
+}
+
+fn leave_both(state: &mut [u8], old: &[u8], w: u32, mate: &[u8], m: u32)
+    requires { ⌜ length (now state) ≡ stateLength ⌝ }
+    ensures { λ _. ⌜ view (now (state .exit)) ≡ rowLeft (rowLeft (view (now (state .entry))) (now (old .entry)) w) (now (mate .entry)) m ⌝ }
+{
+    leave(state, old, w);
+    leave(state, mate, m);
+}
+
 // Thread t's row has been written, and the row before it was taken down.
 pub fn settle_one(table: &[u8], index: &[u32], state: &mut [u8], t: u32, old: &[u8], w: u32)
     requires { ⌜ Indexed (tableOf (now table)) (now index) ⌝ }
@@ -207,10 +225,8 @@ pub fn settle_two(
     requires { ⌜ length (now state) ≡ stateLength ⌝ }
     ensures { λ _. ⌜ view (now (state .exit)) ≡ settledTwo (tableOf (now (table .entry))) (view (now (state .entry))) t u (now (old .entry)) w (now (mate .entry)) m ⌝ }
 {
-    enter(table, index, state, t);
-    enter(table, index, state, u);
-    leave(state, old, w);
-    leave(state, mate, m);
+    enter_both(table, index, state, t, u);
+    leave_both(state, old, w, mate, m);
 }
 
 // Thread t's row and the type of channel c, which was free, have been written, and the row before was taken down. Where the new row does not hold c

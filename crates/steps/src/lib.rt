@@ -5,14 +5,20 @@ ghost use Prim.Native.Nat.{_<_};
 ghost use lib.ListN.{length};
 ghost use Rattle.table.specs.Table.{tableOf};
 ghost use Rattle.table.specs.Index.{Indexed};
-ghost use Rattle.state.specs.State.{view, stateLength};
+ghost use mathlib.Core.Bool.{true};
+ghost use Rattle.state.specs.State.{view, thread, isReady, stateLength};
 ghost use Rattle.rules.specs.Holding.{settled};
-ghost use Rattle.rules.specs.Moves.{written, perform, metByBench};
+ghost use Rattle.rules.specs.Moves.{move, written, perform, metByBench};
+ghost use Rattle.rules.specs.Calls.{turnBy, Turned, turnEnd, takeTurn};
 ghost use Rattle.counts.specs.Shift.{settledTwo};
 ghost use Rattle.steps.specs.Made.{Writable, Alone, Paired, Creation, made};
 use rules::Move;
+use rules::Reason;
+use rules::Turn;
 
 const ROW_SLOTS: usize = 16;
+
+const MAX_THREADS: u32 = 64;
 
 // What a move of thread t writes.
 fn write_move(table: &[u8], index: &[u32], state: &mut [u8], t: u32, m: Move)
@@ -138,4 +144,66 @@ pub fn make_met(table: &[u8], index: &[u32], state: &mut [u8], u: u32, j: u32, v
     let waits = counts::take_down(table, index, state, u, &mut old);
     branches::write_met(table, index, state, u, j, v);
     counts::settle_one(table, index, state, u, &old, waits);
+}
+
+// Thread t, which is ready, makes its move; the move is answered.
+pub fn step_ready(table: &[u8], index: &[u32], state: &mut [u8], t: u32) -> Move
+    requires { ⌜ Indexed (tableOf (now table)) (now index) ⌝ }
+    requires { ⌜ length (now state) ≡ stateLength ⌝ }
+    requires { ⌜ t < 64 ⌝ }
+    requires { ⌜ settled (tableOf (now table)) (view (now state)) ≡ view (now state) ⌝ }
+    requires { ⌜ isReady (thread (view (now state)) t) ≡ true ⌝ }
+    ensures { λ r. ⌜ r ≡ move (tableOf (now (table .entry))) (view (now (state .entry))) t ⌝ }
+    ensures { λ _. ⌜ view (now (state .exit)) ≡ made (tableOf (now (table .entry))) (view (now (state .entry))) t (move (tableOf (now (table .entry))) (view (now (state .entry))) t) ⌝ }
+{
+    let m = moves::decide(table, index, state, t);
+    make_move(table, index, state, t, m);
+    m
+}
+
+// What a move of thread t comes to in a run.
+fn turn_by(t: u32, m: Move) -> Turn
+    ensures { λ r. ⌜ r ≡ turnBy t m ⌝ }
+{
+    match m {
+        Move::Ends => Turn::Went,
+        Move::Calls => Turn::Went,
+        Move::Waits => Turn::Went,
+        Move::Goes(_) => Turn::Went,
+        Move::Creates(_, _) => Turn::Went,
+        Move::Spawns(_, _) => Turn::Went,
+        Move::Meets(_, _, _) => Turn::Went,
+        Move::LacksThread => Turn::Stopped(Reason::LackedThread(t)),
+        Move::LacksChannel => Turn::Stopped(Reason::LackedChannel(t)),
+    }
+}
+
+// Thread t, which is ready, has its turn, and the turn moves past it.
+fn turn_of(table: &[u8], index: &[u32], state: &mut [u8], t: u32) -> Turn
+    requires { ⌜ Indexed (tableOf (now table)) (now index) ⌝ }
+    requires { ⌜ length (now state) ≡ stateLength ⌝ }
+    requires { ⌜ t < 64 ⌝ }
+    requires { ⌜ settled (tableOf (now table)) (view (now state)) ≡ view (now state) ⌝ }
+    requires { ⌜ isReady (thread (view (now state)) t) ≡ true ⌝ }
+    ensures { λ r. ⌜ _≡_ {A = Turned} (record { turn = r; state = view (now (state .exit)) }) (turnEnd (tableOf (now (table .entry))) (view (now (state .entry))) t (turnBy t (move (tableOf (now (table .entry))) (view (now (state .entry))) t))) ⌝ }
+    ensures { λ _. ⌜ settled (tableOf (now (table .entry))) (view (now (state .exit))) ≡ view (now (state .exit)) ⌝ }
+{
+    let m = step_ready(table, index, state, t);
+    state::put_mark(state, 2, moves::one_up(MAX_THREADS, t));
+    turn_by(t, m)
+}
+
+// The next ready thread has its turn.
+pub fn take_turn(table: &[u8], index: &[u32], state: &mut [u8]) -> Turn
+    requires { ⌜ Indexed (tableOf (now table)) (now index) ⌝ }
+    requires { ⌜ length (now state) ≡ stateLength ⌝ }
+    requires { ⌜ settled (tableOf (now table)) (view (now state)) ≡ view (now state) ⌝ }
+    ensures { λ r. ⌜ _≡_ {A = Turned} (record { turn = r; state = view (now (state .exit)) }) (takeTurn (tableOf (now (table .entry))) (view (now (state .entry)))) ⌝ }
+    ensures { λ _. ⌜ settled (tableOf (now (table .entry))) (view (now (state .exit))) ≡ view (now (state .exit)) ⌝ }
+{
+    let t = moves::next_ready(state);
+    if t < MAX_THREADS {
+        return turn_of(table, index, state, t);
+    }
+    Turn::Stopped(Reason::NoneReady)
 }

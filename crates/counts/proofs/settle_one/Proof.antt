@@ -1,14 +1,13 @@
-use Rattle.counts.specs.Shift.{settledOne}
+use Rattle.counts.proofs.Shifts.{settle-one-is}
 use borrow.Author.Needs.{needs}
 use Rattle.counts.proofs.settle_one.Statement.{statement}
 use Rattle.counts.proofs.settle_one.Tie as tie
 
 pub settle-one-spec : {M : Type 1} → statement M
-unfolding settledOne
 settle-one-spec =
     tie.close
     (tie.spec
     (λ c κs. search needs)
     (λ c κs. search needs)
     (λ c. search needs)
-    (λ c. cc))
+    (λ c. search settle-one-is))

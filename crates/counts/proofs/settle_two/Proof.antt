@@ -1,16 +1,13 @@
-use Rattle.counts.specs.Shift.{settledTwo}
+use Rattle.counts.proofs.Shifts.{settle-two-is}
 use borrow.Author.Needs.{needs}
 use Rattle.counts.proofs.settle_two.Statement.{statement}
 use Rattle.counts.proofs.settle_two.Tie as tie
 
 pub settle-two-spec : {M : Type 1} → statement M
-unfolding settledTwo
 settle-two-spec =
     tie.close
     (tie.spec
     (λ c κs. search needs)
     (λ c κs. search needs)
-    (λ c κs. search needs)
-    (λ c κs. search needs)
     (λ c. search needs)
-    (λ c. cc))
+    (λ c. search settle-two-is))

@@ -14,5 +14,5 @@ shift-spec =
     (λ c κs. search needs)
     (λ c κs. search needs)
     (λ c. search needs)
-    (λ c. search (shift-in, shift-out))
-    (λ c. search (shift-in, shift-out)))
+    (λ c. search shift-in)
+    (λ c. search shift-out))

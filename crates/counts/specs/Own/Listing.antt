@@ -1,4 +1,4 @@
--- The steps by which the code lists the channels of a row: these definitions serve its proof. `Listing/Laws.antt` shows that they come to `ownList`.
+-- The steps by which the code lists the channels of a row. These definitions serve the proofs alone: `Listing/Laws.antt` shows that they come to `ownList`.
 pub mod Laws
 use Prim.Native.Nat.{ℕ, zero, suc, _+_}
 use mathlib.Core.Bool.{Bool, _&&_, cond}

@@ -1,17 +1,25 @@
 -- What the moves write is one row, two rows, or a row and a new channel, so that the upkeep of the counts settles it. Assumes nothing.
-use Prim.Native.Nat.{ℕ, _<_}
+use Prim.Native.Nat.{ℕ, _<_, _≤_}
 use mathlib.Core.Path.{_≡_, refl, sym, _∙_, ap}
 use mathlib.Core.Logic.{_≢_}
 use mathlib.Core.List.{List}
+use mathlib.Core.Bool.{true}
+use borrow.Author.Tests.{lt-ltb, le-ltb}
 use lib.ListN.{length}
 use Rattle.numbers.specs.Count.{bit}
 use Rattle.table.specs.Table.{Table}
-use Rattle.state.specs.State.{State, view, thread, isWaiting, withMark, withThread}
+use Rattle.state.specs.State.{State, view, thread, maxThreads, isReady, isWaiting, withMark, withThread}
 use Rattle.state.specs.State.Laws.{length-threads}
 use Rattle.rules.specs.Holding.{settled}
-use Rattle.rules.specs.Moves.{written, perform, spawnedBy, metBy, metByBench}
+use Rattle.rules.specs.Moves.{oneUp, move, written, perform, spawnedBy, metBy, metByBench}
 use Rattle.rules.specs.declared.Move.{Move}
 use Rattle.rules.specs.declared.Move.the-variants.{Ends, Calls, Waits, Goes, Creates, Spawns, Meets, LacksThread, LacksChannel}
+use Rattle.rules.specs.Calls.{nextReady, pastTurn, turnBy, Turned, turned, turnEnd, takeTurn}
+use Rattle.rules.specs.declared.Reason.the-variants.{NoneReady}
+use Rattle.rules.specs.declared.Turn.{Turn}
+use Rattle.rules.specs.declared.Turn.the-variants.{Went, Stopped}
+use Rattle.moves.specs.Around.{next-ready-in}
+use Rattle.moves.specs.Decided.{meets-partner, spawns-free, spawns-other, creates-free}
 use Rattle.counts.specs.Own.{ownList}
 use Rattle.counts.specs.Shift.{settledOne, settledTwo, settledNew}
 use Rattle.counts.specs.Upkeep.{one-settled, two-settled, new-settled, settled-mark, two-mark, new-mark, settled-again}
@@ -171,3 +179,76 @@ module _ (tb : Table) (s s₁ : State) (t : ℕ) (m n : Move) (e : m ≡ n) wher
 
   pub lacking-arm : s₁ ≡ made tb s t n → s₁ ≡ made tb s t m
   lacking-arm f = rw e f
+
+-- ---- the move that a ready thread makes
+
+module _ (tb : Table) (s : State) (t : ℕ) (r : isReady (thread s t) ≡ true) where
+  decided-writable : (m : Move) → move tb s t ≡ m → Writable t m
+  unfolding Writable
+  decided-writable Ends e = tt
+  decided-writable Calls e = tt
+  decided-writable Waits e = tt
+  decided-writable (Goes i) e = tt
+  decided-writable (Creates i c) e = creates-free tb s t i c e .0
+  decided-writable (Spawns i u) e = (spawns-free tb s t i u e .0, spawns-other tb s t i u e r)
+  decided-writable (Meets i u j) e = meets-partner tb s t i u j e
+  decided-writable LacksThread e = tt
+  decided-writable LacksChannel e = tt
+
+  pub move-writable : (m : Move) → m ≡ move tb s t → Writable t m
+  move-writable m e = decided-writable m (sym e)
+
+-- after a move the channel rows are settled
+module _ (tb : Table) (s : State) (e : settled tb s ≡ s) (t : ℕ) where
+  made-settled : (m : Move) → settled tb (made tb s t m) ≡ made tb s t m
+  unfolding made perform
+  made-settled Ends = settled-again tb (written tb s t Ends)
+  made-settled Calls = settled-again tb (written tb s t Calls)
+  made-settled Waits = settled-again tb (written tb s t Waits)
+  made-settled (Goes i) = settled-again tb (written tb s t (Goes i))
+  made-settled (Creates i c) = settled-again tb (written tb s t (Creates i c))
+  made-settled (Spawns i u) = settled-again tb (written tb s t (Spawns i u))
+  made-settled (Meets i u j) = settled-again tb (written tb s t (Meets i u j))
+  made-settled LacksThread = e
+  made-settled LacksChannel = e
+
+  pub turn-settled : (s₁ s₂ : State) (v : ℕ) (m : Move) → s₂ ≡ withMark s₁ 2 v → s₁ ≡ made tb s t m → settled tb s₂ ≡ s₂
+  turn-settled s₁ s₂ v m f g = rw (f, g) (settled-mark tb (made tb s t m) 2 v ∙ ap (λ (x : State). withMark x 2 v) (made-settled m))
+
+pub made-read : (tb : Table) (s s₁ : State) (t : ℕ) (m : Move) → s₁ ≡ made tb s t m → m ≡ move tb s t → s₁ ≡ made tb s t (move tb s t)
+made-read tb s s₁ t m e f = e ∙ rw f
+
+-- ---- a turn
+
+module _ (tb : Table) (s : State) (t : ℕ) where
+  made-turn : (m n : Move) → n ≡ m → move tb s t ≡ n → turned (turnBy t m) (pastTurn (made tb s t m) t) ≡ turnEnd tb s t (turnBy t m)
+  unfolding turnBy turnEnd made
+  made-turn Ends n f e = rw (e, f)
+  made-turn Calls n f e = rw (e, f)
+  made-turn Waits n f e = rw (e, f)
+  made-turn (Goes i) n f e = rw (e, f)
+  made-turn (Creates i c) n f e = rw (e, f)
+  made-turn (Spawns i u) n f e = rw (e, f)
+  made-turn (Meets i u j) n f e = rw (e, f)
+  made-turn LacksThread n f e = refl
+  made-turn LacksChannel n f e = refl
+
+  pub turn-ends : (m : Move) (s₁ s₂ : State) (w : Turn) (v : ℕ) → s₂ ≡ withMark s₁ 2 v → s₁ ≡ made tb s t (move tb s t) → m ≡ move tb s t → v ≡ oneUp maxThreads t → w ≡ turnBy t m
+      → turned w s₂ ≡ turnEnd tb s t (turnBy t (move tb s t))
+  unfolding pastTurn
+  turn-ends m s₁ s₂ w v f g h i j = rw (f, g, i, j, h) (made-turn (move tb s t) (move tb s t) refl refl)
+
+pub turn-arm : (r : Turn) (t : ℕ) (m n : Move) → m ≡ n → r ≡ turnBy t n → r ≡ turnBy t m
+turn-arm r t m n e f = rw e f
+
+module _ (tb : Table) (s : State) (t : ℕ) (e : t ≡ nextReady s) where
+  pub next-turn : (k : Turned) → k ≡ turnEnd tb s t (turnBy t (move tb s t)) → t < 64 → k ≡ takeTurn tb s
+  unfolding takeTurn
+  next-turn k f h = rw (← e, lt-ltb t 64 h) f
+
+  pub no-turn : 64 ≤ t → turned (Stopped NoneReady) s ≡ takeTurn tb s
+  unfolding takeTurn
+  no-turn h = rw (← e, le-ltb t 64 h)
+
+pub next-is-ready : (s : State) (t : ℕ) → t ≡ nextReady s → t < 64 → isReady (thread s t) ≡ true
+next-is-ready s t e h = rw e (next-ready-in s (rw e at h))

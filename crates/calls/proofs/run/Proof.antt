@@ -1,0 +1,42 @@
+-- `calls::run` meets its contract. The loop: the whole run is i steps, and then the run of what is left from the state now. Assumes nothing.
+use Prim.Native.Nat.{ℕ, _≤_, _-_}
+use mathlib.Core.Path.{_≡_}
+use lib.ListN.{length, getD}
+use mir.Syntax.{w8}
+use mir.Val.{Fits}
+use Rattle.table.specs.Table.{tableOf}
+use Rattle.state.specs.State.{view}
+use Rattle.rules.specs.Holding.{settled}
+use Rattle.rules.specs.Calls.{courseOf}
+use Rattle.calls.specs.Course.{after, course-none, course-more}
+use Rattle.calls.proofs.Laws.{run-stopped, run-all}
+use borrow.Author.Needs.{needs}
+use Rattle.calls.proofs.run.Statement.{statement}
+use Rattle.calls.proofs.run.Tie as tie
+
+abbrev Inv-loop : tie.InvT-loop
+Inv-loop table index state₀ n i₀ state i =
+    (i ≤ n) × (length state ≡ length state₀) × (settled (tableOf table) (view state) ≡ view state) × ((j : ℕ) → Fits w8 (getD state j 0))
+    × (courseOf (tableOf table) n (view state₀) ≡ after i (courseOf (tableOf table) (n - i) (view state)))
+
+abbrev μ-loop : tie.MeasureT-loop
+μ-loop table index state₀ n i₀ state i = n - i
+
+pub run-spec : {M : Type 1} → statement M
+run-spec =
+    tie.close
+    (tie.spec
+    Inv-loop
+    μ-loop
+    (λ c. (search needs, search needs, search needs, search needs, search course-none))
+    (λ c κs. (search, (search needs, search)))
+    (λ c. search needs)
+    (λ c. search needs)
+    (λ c. search needs)
+    (λ c. search needs)
+    (λ c. run-stopped _ _ _ _ (search needs) (search) (search needs) _ (view (c .before .before .before .before .before .before .before .before .loop .state)) (c .before .before .before .before .before .take-turn .result) _ (search) (search) (search) (search needs))
+    (λ c. search needs)
+    (λ c. search needs)
+    (λ c. (search needs, search needs, search needs, search needs, search course-more))
+    (λ c. search needs)
+    (λ c. run-all _ _ _ _ (search needs) (search) (search needs) (c .before .loop .i) (search) (search needs) (search needs)))

@@ -1,0 +1,21 @@
+use Rattle.calls.proofs.Laws.{take-refused, take-nobody, take-met}
+use Rattle.moves.specs.Partners.{partner-below}
+use borrow.Author.Needs.{needs}
+use Rattle.calls.proofs.take.Statement.{statement}
+use Rattle.calls.proofs.take.Tie as tie
+
+pub take-spec : {M : Type 1} → statement M
+take-spec =
+    tie.close
+    (tie.spec
+    (λ c κs. search needs)
+    (λ c. search take-refused)
+    (λ c κs. search needs)
+    (λ c. search needs)
+    (λ c. search needs)
+    (λ c κs. search needs)
+    (λ c κs. (search, (search, (search partner-below, search))))
+    (λ c. search needs)
+    (λ c. search (take-nobody, take-met))
+    (λ c. search needs)
+    (λ c. search (take-nobody, take-met)))

@@ -1,0 +1,13 @@
+use Rattle.counts.proofs.Shifts.{left-both}
+use borrow.Author.Needs.{needs}
+use Rattle.counts.proofs.leave_both.Statement.{statement}
+use Rattle.counts.proofs.leave_both.Tie as tie
+
+pub leave-both-spec : {M : Type 1} → statement M
+leave-both-spec =
+    tie.close
+    (tie.spec
+    (λ c κs. search needs)
+    (λ c κs. search needs)
+    (λ c. search needs)
+    (λ c. search left-both))

@@ -1,0 +1,15 @@
+use Rattle.moves.proofs.Choice.{branch-row, branch-true, branch-false}
+use borrow.Author.Needs.{needs}
+use Rattle.moves.proofs.branch_move.Statement.{statement}
+use Rattle.moves.proofs.branch_move.Tie as tie
+
+pub branch-move-spec : {M : Type 1} → statement M
+branch-move-spec =
+    tie.close
+    (tie.spec
+    (λ c κs. search needs)
+    (λ c κs. search needs)
+    (λ c κs. search needs)
+    (λ c κs. search (branch-row, needs))
+    (λ c. search (branch-true, branch-false))
+    (λ c. search (branch-true, branch-false)))

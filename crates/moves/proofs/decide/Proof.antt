@@ -1,0 +1,18 @@
+use Rattle.moves.proofs.Choice.{kinds}
+use borrow.Author.Needs.{needs}
+use Rattle.moves.proofs.decide.Statement.{statement}
+use Rattle.moves.proofs.decide.Tie as tie
+
+pub decide-spec : {M : Type 1} → statement M
+decide-spec =
+    tie.close
+    (tie.spec
+    (λ c κs. search needs)
+    (λ c κs. search needs)
+    (λ c. search needs)
+    (λ c. search needs)
+    (λ c κs. search needs)
+    (λ c κs. search needs)
+    (λ c. search kinds)
+    (λ c. search kinds)
+    (λ c. search kinds))

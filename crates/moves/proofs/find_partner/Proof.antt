@@ -1,0 +1,52 @@
+-- `moves::find_partner` meets its contract. The loops: no thread passed answers, and of this thread no branch passed offers. Assumes nothing.
+use Prim.Native.Nat.{_≤_, _-_}
+use mathlib.Core.Path.{_≡_}
+use borrow.Author.Needs.{needs}
+use Rattle.numbers.specs.Search.{first}
+use Rattle.numbers.specs.Search.Laws.{first-none}
+use Rattle.table.specs.Table.{tableOf}
+use Rattle.state.specs.State.{view, thread}
+use Rattle.rules.specs.Offers.{offersAt, answers}
+use Rattle.rules.specs.declared.Partner.the-variants.{Nobody}
+use Rattle.moves.proofs.Search.{no-channel, nobody-is, branch-passed, found-is, thread-passed}
+use Rattle.moves.proofs.find_partner.Statement.{statement}
+use Rattle.moves.proofs.find_partner.Tie as tie
+
+abbrev Inv-loop : tie.InvT-loop
+Inv-loop table index state t d c found₀ u n from i₀ found i =
+    (i ≤ n) × (first (offersAt (tableOf table) (thread (view state) u) d c) i ≡ i) × (found ≡ Nobody)
+
+abbrev μ-loop : tie.MeasureT-loop
+μ-loop table index state t d c found₀ u n from i₀ found i = n - i
+
+abbrev Inv-threads : tie.InvT-threads
+Inv-threads table index state t d c found₀ u₀ found u =
+    (u ≤ 64) × (first (answers (tableOf table) (view state) t d c) u ≡ u) × (found ≡ Nobody)
+
+abbrev μ-threads : tie.MeasureT-threads
+μ-threads table index state t d c found₀ u₀ found u = 64 - u
+
+pub find-partner-spec : {M : Type 1} → statement M
+find-partner-spec =
+    tie.close
+    (tie.spec
+    Inv-loop
+    μ-loop
+    Inv-threads
+    μ-threads
+    (λ c. search (no-channel, needs))
+    (λ c. search (first-none, needs))
+    (λ c κs. search needs)
+    (λ c κs. search needs)
+    (λ c. search (first-none, needs))
+    (λ c. search needs)
+    (λ c. search needs)
+    (λ c κs. search needs)
+    (λ c. search needs)
+    (λ c. search needs)
+    (λ c. search (branch-passed, needs))
+    (λ c. search needs)
+    (λ c. search needs)
+    (λ c. search (thread-passed, needs))
+    (λ c. search nobody-is)
+    (λ c. search found-is))

@@ -1,0 +1,12 @@
+use Rattle.rules.specs.Moves.{isFreeChannel}
+use borrow.Author.Needs.{needs}
+use Rattle.moves.proofs.is_free_channel.Statement.{statement}
+use Rattle.moves.proofs.is_free_channel.Tie as tie
+
+pub is-free-channel-spec : {M : Type 1} → statement M
+unfolding isFreeChannel
+is-free-channel-spec =
+    tie.close
+    (tie.spec
+    (λ c κs. search needs)
+    (λ c. cc))

@@ -1,0 +1,4 @@
+pub mod Tried
+pub mod Around
+pub mod Partners
+pub mod Decided

@@ -1,0 +1,71 @@
+-- What an offer and a partner that is found say of the state. Assumes nothing.
+use Prim.Native.Nat.{ℕ, _<_}
+use mathlib.Core.Path.{_≡_, refl, sym, _∙_}
+use mathlib.Core.Bool.{Bool, true, false, not, _&&_}
+use mathlib.Core.List.{List}
+use mathlib.Core.Logic.{_≢_}
+use lib.Dec.{ltb, eqb}
+use borrow.Author.Tests.{ltb-true, eq-eqb}
+use Rattle.numbers.specs.Search.{first, some}
+use Rattle.numbers.specs.Search.Laws.{caseB, contra, first-passes}
+use Rattle.table.specs.Table.{Table}
+use Rattle.table.specs.Layout.{branchCount}
+use Rattle.state.specs.State.{State, maxThreads, maxChannels, thread, standsAt, isWaiting}
+use Rattle.rules.specs.Offers.{offersAt, offeringBranch, offers, answers, answering, partnerOf}
+use Rattle.rules.specs.declared.Direction.{Direction}
+use Rattle.rules.specs.declared.Partner.{Partner}
+use Rattle.rules.specs.declared.Partner.the-variants.{Nobody, At}
+
+and-both : (a b : Bool) → (a && b) ≡ true → (a ≡ true) × (b ≡ true)
+and-both true b e = (refl, e)
+and-both false b e = contra e refl
+
+-- a thread that offers waits, on a channel, and its offering branch is one of its branches and offers
+pub offers-says : (tb : Table) (row : List ℕ) (d : Direction) (c : ℕ) → offers tb row d c ≡ true
+    → (c < maxChannels)
+    × (isWaiting row ≡ true)
+    × (offeringBranch tb row d c < branchCount tb (standsAt row))
+    × (offersAt tb row d c (offeringBranch tb row d c) ≡ true)
+unfolding offers some offeringBranch
+offers-says tb row d c e =
+    let n = branchCount tb (standsAt row) in
+    let p = offersAt tb row d c in
+    let (a, f) = and-both (ltb c maxChannels) (isWaiting row && ltb (first p n) n) e in
+    let (w, g) = and-both (isWaiting row) (ltb (first p n) n) f in
+    (ltb-true c maxChannels a, w, ltb-true (first p n) n g, first-passes p n (ltb-true (first p n) n g))
+
+module _ (tb : Table) (s : State) (t : ℕ) (d : Direction) (c : ℕ) where
+  -- thread u is another than t and offers d on c, first through its branch j
+  abbrev pub OffersBy : ℕ → ℕ → Type 0
+  OffersBy u j =
+      (u < maxThreads)
+      × (u ≢ t)
+      × (offers tb (thread s u) d c ≡ true)
+      × (j ≡ offeringBranch tb (thread s u) d c)
+      × (j < branchCount tb (standsAt (thread s u)))
+
+  -- what is said of an answer to the search
+  unfoldable Answered : Partner → Type 0
+  Answered Nobody = Unit {0}
+  Answered (At u j) = OffersBy u j
+
+  answering-in : answering tb s t d c < maxThreads → OffersBy (answering tb s t d c) (offeringBranch tb (thread s (answering tb s t d c)) d c)
+  unfolding answering answers
+  answering-in h =
+      let u = first (answers tb s t d c) maxThreads in
+      let (n, o) = and-both (not (eqb u t)) (offers tb (thread s u) d c) (first-passes (answers tb s t d c) maxThreads h) in
+      let (l, w, b, p) = offers-says tb (thread s u) d c o in
+      (h, (λ q. contra n (rw (eq-eqb u t q))), o, refl, b)
+
+  partner-answered : Answered (partnerOf tb s t d c)
+  unfolding partnerOf Answered
+  partner-answered =
+      caseB (ltb (answering tb s t d c) maxThreads) (λ a. rw a (answering-in (ltb-true (answering tb s t d c) maxThreads a))) (λ a. rw a tt)
+
+  pub partner-in : (u j : ℕ) → partnerOf tb s t d c ≡ At u j → OffersBy u j
+  unfolding Answered
+  partner-in u j e = let h : Answered (At u j) = rw e at partner-answered in h
+
+  -- its bound, as it is needed where p was answered and matched
+  pub partner-below : (p : Partner) (u j : ℕ) → p ≡ partnerOf tb s t d c → p ≡ At u j → u < maxThreads
+  partner-below p u j e f = let (l, o, a, b, g) = partner-in u j (sym e ∙ f) in l

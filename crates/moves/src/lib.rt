@@ -1,0 +1,315 @@
+// Which move a ready thread makes: the search for a partner, for a free row and for the next ready thread, and the choice of a branch.
+ghost use mathlib.Core.Path.{_≡_};
+ghost use Prim.Native.Nat.{_≤_, _<_};
+ghost use Rattle.table.specs.Table.{tableOf};
+ghost use Rattle.table.specs.Index.{Indexed};
+ghost use Rattle.state.specs.State.{view, thread, standsAt, slotOf};
+ghost use Rattle.rules.specs.Program.{branchAt, fieldA, actOf, opposite};
+ghost use Rattle.rules.specs.Offers.{meets?, offersIn, partnerOf};
+ghost use Rattle.rules.specs.Moves.{firstFrom, oneUp, isFreeThread, isFreeChannel, freeThread, freeChannel, meeting, creation, spawning, goesAhead, actMove, branchMove, choice, move};
+ghost use Rattle.rules.specs.Calls.{isReadyThread, nextReady};
+ghost use Rattle.moves.specs.Tried.{tried, firstRow};
+use rules::Act;
+use rules::Direction;
+use rules::Move;
+use rules::Partner;
+use table::Part;
+
+const THREADS: u32 = 64;
+
+const CHANNELS: u32 = 128;
+
+// Whether the branch in a row is a meeting of direction d.
+fn is_meeting(table: &[u8], row: usize, d: Direction) -> bool
+    ensures { λ r. ⌜ r ≡ meets? (actOf (tableOf (now (table .entry))) row) d ⌝ }
+{
+    let code = table::cell(table, row, 4);
+    match d {
+        Direction::Out => code == 1,
+        Direction::In => code == 2,
+    }
+}
+
+// Whether the branch in a row, of thread u, is a meeting of direction d on channel c, and its guard is true.
+fn offers_in(table: &[u8], row: usize, state: &[u8], u: u32, d: Direction, c: u32) -> bool
+    ensures { λ r. ⌜ r ≡ offersIn (tableOf (now (table .entry))) (thread (view (now (state .entry))) u) d c row ⌝ }
+{
+    if !is_meeting(table, row, d) {
+        return false;
+    }
+    if program::slot(state, u, table::cell(table, row, 5)) != c {
+        return false;
+    }
+    program::guard_holds(table, row, state, u)
+}
+
+// How many branches of thread u are tried for thread t: none of its own, and none of a thread that does not wait.
+fn branches_tried(table: &[u8], state: &[u8], t: u32, u: u32) -> u32
+    ensures { λ r. ⌜ r ≡ tried (tableOf (now (table .entry))) (view (now (state .entry))) t u ⌝ }
+{
+    if u == t {
+        return 0;
+    }
+    if state::thread_word(state, u as usize, 0) == 2 {
+        return table::branch_count(table, state::thread_word(state, u as usize, 1));
+    }
+    0
+}
+
+// The row of the first branch of thread u, of which n are tried; 0 where none is.
+fn first_row(table: &[u8], index: &[u32], state: &[u8], u: u32, n: u32) -> usize
+    requires { ⌜ Indexed (tableOf (now table)) (now index) ⌝ }
+    ensures { λ r. ⌜ r ≡ firstRow (tableOf (now (table .entry))) (view (now (state .entry))) u n ⌝ }
+    ensures { λ r. ⌜ r ≤ 12844864 ⌝ }
+{
+    if n == 0 {
+        return 0;
+    }
+    let node = state::thread_word(state, u as usize, 1);
+    table::branch_row(table) + table::start_of(table, index, Part::Branches, node) as usize
+}
+
+// The first waiting thread other than t that offers d on channel c, and the first of its branches that does.
+pub fn find_partner(
+    table: &[u8],
+    index: &[u32],
+    state: &[u8],
+    t: u32,
+    d: Direction,
+    c: u32,
+) -> Partner
+    requires { ⌜ Indexed (tableOf (now table)) (now index) ⌝ }
+    ensures { λ r. ⌜ r ≡ partnerOf (tableOf (now (table .entry))) (view (now (state .entry))) t d c ⌝ }
+{
+    if CHANNELS <= c {
+        return Partner::Nobody;
+    }
+    let mut found = Partner::Nobody;
+    'threads: for u in 0..THREADS {
+        let n = branches_tried(table, state, t, u);
+        let from = first_row(table, index, state, u, n);
+        for i in 0..n {
+            if offers_in(table, from + i as usize, state, u, d, c) {
+                found = Partner::At(u, i);
+                break 'threads;
+            }
+        }
+    }
+    found
+}
+
+// Whether row u of the threads is free, row c of the channels is, and thread u is ready.
+fn is_free_thread(state: &[u8], u: u32) -> bool
+    ensures { λ r. ⌜ r ≡ isFreeThread (view (now (state .entry))) u ⌝ }
+{
+    state::thread_word(state, u as usize, 0) == 0
+}
+
+fn is_free_channel(state: &[u8], c: u32) -> bool
+    ensures { λ r. ⌜ r ≡ isFreeChannel (view (now (state .entry))) c ⌝ }
+{
+    state::channel_word(state, c as usize, 0) == 0
+}
+
+fn is_ready_thread(state: &[u8], u: u32) -> bool
+    ensures { λ r. ⌜ r ≡ isReadyThread (view (now (state .entry))) u ⌝ }
+{
+    state::thread_word(state, u as usize, 0) == 1
+}
+
+// The first free row of the threads, of the channels, and the first ready thread, each going up from a number; one past the last where there is none.
+fn free_thread_from(state: &[u8], from: u32) -> u32
+    ensures { λ r. ⌜ r ≡ firstFrom 64 from (isFreeThread (view (now (state .entry)))) ⌝ }
+    ensures { λ r. ⌜ r ≤ 64 ⌝ }
+{
+    for u in from..THREADS {
+        if is_free_thread(state, u) {
+            return u;
+        }
+    }
+    THREADS
+}
+
+fn free_channel_from(state: &[u8], from: u32) -> u32
+    ensures { λ r. ⌜ r ≡ firstFrom 128 from (isFreeChannel (view (now (state .entry)))) ⌝ }
+    ensures { λ r. ⌜ r ≤ 128 ⌝ }
+{
+    for c in from..CHANNELS {
+        if is_free_channel(state, c) {
+            return c;
+        }
+    }
+    CHANNELS
+}
+
+fn ready_from(state: &[u8], from: u32) -> u32
+    ensures { λ r. ⌜ r ≡ firstFrom 64 from (isReadyThread (view (now (state .entry)))) ⌝ }
+    ensures { λ r. ⌜ r ≤ 64 ⌝ }
+{
+    for u in from..THREADS {
+        if is_ready_thread(state, u) {
+            return u;
+        }
+    }
+    THREADS
+}
+
+// The same around the end: from the mark, from the channels' mark, and from the turn.
+pub fn free_thread(state: &[u8]) -> u32
+    ensures { λ r. ⌜ r ≡ freeThread (view (now (state .entry))) ⌝ }
+    ensures { λ r. ⌜ r ≤ 64 ⌝ }
+{
+    let u = free_thread_from(state, state::mark(state, 0));
+    if u < THREADS {
+        return u;
+    }
+    free_thread_from(state, 0)
+}
+
+pub fn free_channel(state: &[u8]) -> u32
+    ensures { λ r. ⌜ r ≡ freeChannel (view (now (state .entry))) ⌝ }
+    ensures { λ r. ⌜ r ≤ 128 ⌝ }
+{
+    let c = free_channel_from(state, state::mark(state, 1));
+    if c < CHANNELS {
+        return c;
+    }
+    free_channel_from(state, 0)
+}
+
+pub fn next_ready(state: &[u8]) -> u32
+    ensures { λ r. ⌜ r ≡ nextReady (view (now (state .entry))) ⌝ }
+    ensures { λ r. ⌜ r ≤ 64 ⌝ }
+{
+    let u = ready_from(state, state::mark(state, 2));
+    if u < THREADS {
+        return u;
+    }
+    ready_from(state, 0)
+}
+
+// One past number i of n; past the last comes 0.
+pub fn one_up(n: u32, i: u32) -> u32
+    requires { ⌜ i < n ⌝ }
+    ensures { λ r. ⌜ r ≡ oneUp n i ⌝ }
+    ensures { λ r. ⌜ r < n ⌝ }
+{
+    let next = i + 1;
+    if next == n {
+        return 0;
+    }
+    next
+}
+
+// The move of thread t by branch i, in a row, that meets somebody, that makes a channel, and that makes a thread.
+fn meeting_move(
+    table: &[u8],
+    index: &[u32],
+    state: &[u8],
+    t: u32,
+    i: u32,
+    row: usize,
+    d: Direction,
+) -> Move
+    requires { ⌜ Indexed (tableOf (now table)) (now index) ⌝ }
+    ensures { λ r. ⌜ r ≡ meeting i (partnerOf (tableOf (now (table .entry))) (view (now (state .entry))) t (opposite d) (slotOf (thread (view (now (state .entry))) t) (fieldA (tableOf (now (table .entry))) row))) ⌝ }
+{
+    let c = program::slot(state, t, table::cell(table, row, 5));
+    let side = program::opposite_of(d);
+    match find_partner(table, index, state, t, side, c) {
+        Partner::Nobody => Move::Waits,
+        Partner::At(u, j) => Move::Meets(i, u, j),
+    }
+}
+
+fn creation_move(state: &[u8], i: u32) -> Move
+    ensures { λ r. ⌜ r ≡ creation i (freeChannel (view (now (state .entry)))) ⌝ }
+{
+    let made = free_channel(state);
+    if made < CHANNELS {
+        return Move::Creates(i, made);
+    }
+    Move::LacksChannel
+}
+
+fn spawning_move(state: &[u8], i: u32) -> Move
+    ensures { λ r. ⌜ r ≡ spawning i (freeThread (view (now (state .entry)))) ⌝ }
+{
+    let child = free_thread(state);
+    if child < THREADS {
+        return Move::Spawns(i, child);
+    }
+    Move::LacksThread
+}
+
+// The move of thread t by branch i, in a row, whose guard is true.
+fn act_move(table: &[u8], index: &[u32], state: &[u8], t: u32, i: u32, row: usize) -> Move
+    requires { ⌜ Indexed (tableOf (now table)) (now index) ⌝ }
+    requires { ⌜ row ≡ branchAt (tableOf (now table)) (standsAt (thread (view (now state)) t)) i ⌝ }
+    ensures { λ r. ⌜ r ≡ actMove (tableOf (now (table .entry))) (view (now (state .entry))) t i (actOf (tableOf (now (table .entry))) row) ⌝ }
+{
+    match program::act_of(table, row) {
+        Act::Tau => Move::Goes(i),
+        Act::Meeting(d) => meeting_move(table, index, state, t, i, row, d),
+        Act::New => creation_move(state, i),
+        Act::Spawn => spawning_move(state, i),
+        Act::Assignment => Move::Goes(i),
+    }
+}
+
+// The move of thread t by branch i alone: to wait where the guard is false.
+pub fn branch_move(table: &[u8], index: &[u32], state: &[u8], t: u32, i: u32) -> Move
+    requires { ⌜ Indexed (tableOf (now table)) (now index) ⌝ }
+    ensures { λ r. ⌜ r ≡ branchMove (tableOf (now (table .entry))) (view (now (state .entry))) t i ⌝ }
+{
+    let row = program::branch_at(table, index, state::thread_word(state, t as usize, 1), i);
+    if program::guard_holds(table, row, state, t) {
+        return act_move(table, index, state, t, i, row);
+    }
+    Move::Waits
+}
+
+// Whether a move by one branch goes ahead.
+pub fn goes_ahead(m: Move) -> bool
+    ensures { λ r. ⌜ r ≡ goesAhead m ⌝ }
+{
+    match m {
+        Move::Ends => true,
+        Move::Calls => true,
+        Move::Waits => false,
+        Move::Goes(_) => true,
+        Move::Creates(_, _) => true,
+        Move::Spawns(_, _) => true,
+        Move::Meets(_, _, _) => true,
+        Move::LacksThread => true,
+        Move::LacksChannel => true,
+    }
+}
+
+// The move of thread t at a choice: by the first branch that goes ahead, to wait where none does.
+fn choose(table: &[u8], index: &[u32], state: &[u8], t: u32) -> Move
+    requires { ⌜ Indexed (tableOf (now table)) (now index) ⌝ }
+    ensures { λ r. ⌜ r ≡ choice (tableOf (now (table .entry))) (view (now (state .entry))) t ⌝ }
+{
+    let n = table::branch_count(table, state::thread_word(state, t as usize, 1));
+    for i in 0..n {
+        let m = branch_move(table, index, state, t, i);
+        if goes_ahead(m) {
+            return m;
+        }
+    }
+    Move::Waits
+}
+
+// The move that thread t makes, if it is ready.
+pub fn decide(table: &[u8], index: &[u32], state: &[u8], t: u32) -> Move
+    requires { ⌜ Indexed (tableOf (now table)) (now index) ⌝ }
+    ensures { λ r. ⌜ r ≡ move (tableOf (now (table .entry))) (view (now (state .entry))) t ⌝ }
+{
+    let node = state::thread_word(state, t as usize, 1);
+    match table::cell(table, table::node_row(table) + node as usize, 1) {
+        1 => choose(table, index, state, t),
+        2 => Move::Calls,
+        _ => Move::Ends,
+    }
+}
