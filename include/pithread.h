@@ -1,14 +1,24 @@
 /*
- * pithread: loading of procedure files.
+ * pithread: an engine for test benches. It loads procedure files and runs their threads.
  *
- * A buffer is a pointer and its length in bytes. A call reads and writes inside the buffers that
- * it is given and nowhere else, keeps no pointer and allocates nothing; it takes about 25,000
- * bytes of stack. Buffers of one call must not overlap. A pointer must not be null, not even for a
- * length of 0.
+ * A bench keeps one table and one state. pithread_load writes the table of a procedure file,
+ * pithread_start writes the state in which its first thread is about to begin, and the other calls
+ * read the table and move the state on. Both are plain bytes: they may be copied, kept in a file
+ * and handed over again.
+ *
+ * What a caller owes. A buffer is a pointer and its length in bytes. The pointer is not null, not
+ * even for a length of 0, and so many bytes behind it may be read and, unless they are const,
+ * written. The buffers of one call do not overlap, and nobody else writes to them while it runs.
+ *
+ * What a call promises. Any bytes, lengths and numbers get an answer. A call reads and writes
+ * inside its buffers and nowhere else, keeps no pointer, allocates nothing and always ends. Its
+ * answer and what it writes follow from what it was given and from nothing else. A load takes
+ * about 25,000 bytes of stack.
  *
  * Every call answers a struct whose first number is 0 if the call was done, or else the number of
  * the ground on which it was refused. A refused call changes no buffer, and the other numbers of
- * its answer are 0 unless the ground gives them a value.
+ * its answer are 0, except that a load names a line. If several grounds apply, the answer is the
+ * lowest of them.
  */
 #ifndef PITHREAD_H
 #define PITHREAD_H
@@ -24,11 +34,58 @@ extern "C" {
 #define PITHREAD_LINE_BYTES 73
 #define PITHREAD_MOST_FILE_BYTES 63145
 #define PITHREAD_TABLE_BYTES 20760
+#define PITHREAD_STATE_BYTES 6156
 
-/* Grounds of a refusal. The first seven are faults of the file; if a file has several, the lowest
- * number is answered. */
+/*
+ * The words of a state, for a program that shows one. A word is a signed number of 32 bits, its
+ * lowest byte first; word w has the bytes 4 * w to 4 * w + 3.
+ *
+ * Three words stand alone: the thread row and the channel row at which the search for a free row
+ * begins, and the thread row at which the next run begins. Then come the thread rows, each with a
+ * status, a node (counted from 0 over the whole file) and the slots; then the channel rows, each
+ * with a type, the number of its holders (threads that have it in a slot, each counted once, and
+ * the bench for a port) and how many of these are waiting threads. Ports are the first channels.
+ *
+ * A slot of a channel type has the number of a channel, or -1 before it is written. Slots that the
+ * thread's definition does not have, and all words of a row that is free, are 0.
+ */
+#define PITHREAD_STATE_WORDS 1539
+#define PITHREAD_NEXT_THREAD 0
+#define PITHREAD_NEXT_CHANNEL 1
+#define PITHREAD_TURN 2
+
+/* Thread row t begins at word PITHREAD_THREAD_ROWS + PITHREAD_THREAD_WORDS * t. Then the words
+ * inside a row; there are PITHREAD_SLOTS slots, one word each. */
+#define PITHREAD_THREADS 64
+#define PITHREAD_THREAD_ROWS 3
+#define PITHREAD_THREAD_WORDS 18
+#define PITHREAD_THREAD_STATUS 0
+#define PITHREAD_THREAD_NODE 1
+#define PITHREAD_THREAD_SLOTS 2
+#define PITHREAD_SLOTS 16
+
+/* Channel row c begins at word PITHREAD_CHANNEL_ROWS + PITHREAD_CHANNEL_WORDS * c. Then the words
+ * inside a row. */
+#define PITHREAD_CHANNELS 128
+#define PITHREAD_CHANNEL_ROWS 1155
+#define PITHREAD_CHANNEL_WORDS 3
+#define PITHREAD_CHANNEL_TYPE 0
+#define PITHREAD_CHANNEL_HOLDERS 1
+#define PITHREAD_CHANNEL_WAITING 2
+
+/* The status of a thread row. A free channel row has type 0. */
+enum {
+    PITHREAD_FREE = 0,
+    PITHREAD_READY = 1,
+    PITHREAD_WAITING = 2
+};
+
+/* Grounds of a refusal, in the order in which they are tested. */
 enum {
     PITHREAD_DONE = 0,
+
+    /* Faults of the procedure file: 1 to 7, from pithread_load. */
+
     /* The file is empty, ends inside a line, or has more than 865 lines. */
     PITHREAD_FILE_LENGTH = 1,
     /* A field is not a number of its form, or a line does not end with a newline. */
@@ -43,15 +100,98 @@ enum {
     PITHREAD_READ = 6,
     /* No path leads to a node. */
     PITHREAD_UNREACHABLE = 7,
+
+    /* Faults of the program that calls: 8 to 12. */
+
     /* A buffer has the wrong length. */
-    PITHREAD_BUFFER_LENGTH = 8
+    PITHREAD_BUFFER_LENGTH = 8,
+    /* No procedure file has this table: it was not written by pithread_load, or changed since. */
+    PITHREAD_TABLE = 9,
+    /* The state is not a sound one for this table: say, pithread_start never wrote it, it belongs
+     * to another table, or something other than these calls changed it. */
+    PITHREAD_STATE = 10,
+    /* There is no such thread row, or its thread is not ready. */
+    PITHREAD_THREAD = 11,
+    /* The file has no such port. */
+    PITHREAD_PORT = 12,
+
+    /* The procedures have grown too large: 13 and 14, from pithread_step. The thread stays ready
+     * where it is and can be stepped again once a row is free. */
+
+    /* The step would start a thread, and all 64 thread rows are taken. */
+    PITHREAD_NO_THREAD_ROW = 13,
+    /* The step would make a channel, and all 128 channel rows are taken. It makes no difference
+     * that the step itself would give one up. */
+    PITHREAD_NO_CHANNEL_ROW = 14
 };
+
+/* What a step did. */
+enum {
+    /* The thread came to its end, and its row is free. */
+    PITHREAD_ENDED = 0,
+    /* The thread went on at the first node of the definition that it calls. */
+    PITHREAD_CALLED = 1,
+    /* No branch of the choice could go ahead: the thread waits for another thread or the bench. */
+    PITHREAD_WAITS = 2,
+    /* A branch of the choice was taken. */
+    PITHREAD_BRANCH = 3
+};
+
+/* Why a run came to its end. */
+enum {
+    /* It made as many steps as it was asked for. This is looked at first. */
+    PITHREAD_ALL_STEPS = 0,
+    /* No thread is ready: all have ended or wait. */
+    PITHREAD_NONE_READY = 1,
+    /* A thread would start another one, and all thread rows are taken (ground 13). */
+    PITHREAD_LACKED_THREAD_ROW = 2,
+    /* A thread would make a channel, and all channel rows are taken (ground 14). */
+    PITHREAD_LACKED_CHANNEL_ROW = 3
+};
+
+/* The number that stands for no thread, in the answer of a call that was done. */
+#define PITHREAD_NOBODY (-1)
 
 /* The answer of pithread_load. */
 typedef struct {
     int32_t refusal; /* 0, or a ground from 1 to 8 */
     int32_t line;    /* for the grounds 2 to 7 the first line at fault, counted from 1; else 0 */
 } pithread_loaded;
+
+/* The answer of pithread_start. */
+typedef struct {
+    int32_t refusal; /* 0, 8 or 9 */
+} pithread_started;
+
+/* The answer of pithread_step. */
+typedef struct {
+    int32_t refusal; /* 0, a ground from 8 to 11, 13 or 14 */
+    int32_t node;    /* where the thread stood before the step, counted from 0 over the whole file */
+    int32_t act;     /* what the step did: PITHREAD_ENDED to PITHREAD_BRANCH */
+    int32_t branch;  /* the branch taken, counted from 0 in its choice; 0 for the other acts */
+    int32_t partner; /* the thread that was met, or the one that was started; else PITHREAD_NOBODY */
+} pithread_stepped;
+
+/* The answer of pithread_give. */
+typedef struct {
+    int32_t refusal; /* 0, a ground from 8 to 10, or 12 */
+    int32_t thread;  /* the thread that received the number, or PITHREAD_NOBODY */
+} pithread_given;
+
+/* The answer of pithread_take. */
+typedef struct {
+    int32_t refusal; /* 0, a ground from 8 to 10, or 12 */
+    int32_t thread;  /* the thread that sent the number, or PITHREAD_NOBODY */
+    int32_t number;  /* the number that it sent; 0 with PITHREAD_NOBODY */
+} pithread_taken;
+
+/* The answer of pithread_run. */
+typedef struct {
+    int32_t refusal; /* 0, or a ground from 8 to 10 */
+    int32_t steps;   /* how many steps were made */
+    int32_t reason;  /* why there were no more: PITHREAD_ALL_STEPS to PITHREAD_LACKED_CHANNEL_ROW */
+    int32_t thread;  /* for the last two reasons the thread that lacked a row; else PITHREAD_NOBODY */
+} pithread_ran;
 
 /*
  * Checks a procedure file and writes its table.
@@ -62,6 +202,55 @@ typedef struct {
  * buffer has the wrong length too.
  */
 pithread_loaded pithread_load(const uint8_t *file, size_t file_len, uint8_t *table, size_t table_len);
+
+/*
+ * All calls below take a table of PITHREAD_TABLE_BYTES bytes, as pithread_load wrote it, and a state
+ * of PITHREAD_STATE_BYTES bytes; all but pithread_start take it as an earlier call left it. They
+ * only read the table.
+ */
+
+/*
+ * Writes the state in which one thread, number 0, stands ready at the first node of the file, with
+ * the ports in its parameters. What was in the state buffer before is not read.
+ */
+pithread_started pithread_start(const uint8_t *table, size_t table_len, uint8_t *state, size_t state_len);
+
+/*
+ * Lets one ready thread make one step.
+ *
+ * At a choice the first branch that can go ahead is taken. A send or receive can if another thread
+ * waits with the opposite offer on the same channel; of several such threads the one with the
+ * lowest number is met, through its first such branch, and both go on as ready. Where no branch
+ * can go ahead, the thread waits. A branch that starts a thread or makes a channel can go ahead,
+ * but without a free row the step is refused (ground 13 or 14); no later branch is tried.
+ */
+pithread_stepped pithread_step(const uint8_t *table, size_t table_len, uint8_t *state, size_t state_len,
+                               uint32_t thread);
+
+/*
+ * Gives a number to the thread that waits to receive on a port; of several, to the one with the
+ * lowest number, through its first such branch. It goes on as ready. If there is none, nothing
+ * changes.
+ */
+pithread_given pithread_give(const uint8_t *table, size_t table_len, uint8_t *state, size_t state_len,
+                             uint32_t port, int32_t number);
+
+/*
+ * Takes a number from the thread that waits to send on a port; of several, from the one with the
+ * lowest number, through its first such branch. It goes on as ready. If there is none, nothing
+ * changes.
+ */
+pithread_taken pithread_take(const uint8_t *table, size_t table_len, uint8_t *state, size_t state_len,
+                             uint32_t port);
+
+/*
+ * Makes up to n steps. Each is a step of the first ready thread from the turn upward, after thread
+ * 63 going on with thread 0, and the turn moves to the row behind it.
+ *
+ * A thread that lacks a row ends the run; that is no refusal. The steps made before it stay, the
+ * thread stays as it is, and the turn moves past it, so that the next run begins with the others.
+ */
+pithread_ran pithread_run(const uint8_t *table, size_t table_len, uint8_t *state, size_t state_len, uint16_t n);
 
 #ifdef __cplusplus
 }

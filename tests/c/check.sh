@@ -1,5 +1,6 @@
 #!/usr/bin/env bash
-# The interface as a C program meets it: the header, the tests in load.c, and ./run.
+# The interface as a C program meets it: the header, the tests in load.c and cases.c, the example
+# program, and ./run.
 set -euo pipefail
 root=$(cd "$(dirname "$0")/../.." && pwd)
 source "$root/tests/counted.sh"
@@ -12,25 +13,52 @@ header_alone() {
     "$@" -Wall -Wextra -Werror -pedantic -fsyntax-only include/pithread.h
 }
 
-# run_says STATUS TEXT FILE: ./run ends with this status and prints this text.
-run_says() {
-    local status=0 text
-    text=$(./run "$3") || status=$?
-    echo "$text"
-    [ "$status" -eq "$1" ] && [[ "$text" == "$2"* ]]
+under_valgrind() {
+    valgrind -q --error-exitcode=1 --leak-check=full "$@"
 }
 
+# says STATUS TEXT COMMAND..: the command ends with this status and prints this text first.
+says() {
+    local status=0 text wanted_status=$1 wanted_text=$2
+    shift 2
+    text=$("$@") || status=$?
+    echo "$text"
+    [ "$status" -eq "$wanted_status" ] && [[ "$text" == "$wanted_text"* ]]
+}
+
+# prints FILE COMMAND..: the command succeeds and prints just what is in the file.
+prints() {
+    local file=$1
+    shift
+    "$@" >"$scratch/printed" && diff "$file" "$scratch/printed"
+}
+
+head -c 72 examples/doubler.txt >"$scratch/short.txt"
+sed '5s/     1/     9/' examples/doubler.txt >"$scratch/range.txt"
+
+check "header in C99" header_alone gcc -std=c99 -x c
 check "header in C11" header_alone gcc -std=c11 -x c
 check "header in C++" header_alone g++ -std=c++11 -x c++
-check "load.c compiles without a warning" tests/c/build.sh load
-check "load.c" target/c/load examples
-check "load.c under valgrind" valgrind -q --error-exitcode=1 --leak-check=full target/c/load examples
 
-check "./run on a right file" run_says 0 "accepted: 1 types, 2 definitions, 7 slots, 6 nodes, 4 branches, 2 ports" \
-    examples/doubler.txt
-head -c 72 examples/doubler.txt >"$scratch/short.txt"
-check "./run on 72 bytes" run_says 1 "refused: ground 1:" "$scratch/short.txt"
-sed '5s/     1/     9/' examples/doubler.txt >"$scratch/range.txt"
-check "./run on a slot of no type" run_says 1 "refused: ground 4, line 5:" "$scratch/range.txt"
-check "./run without such a file" run_says 2 "" "$scratch/none.txt"
+check "load.c compiles without a warning" tests/c/build.sh load checks lines
+check "load.c" target/c/load examples
+check "load.c under valgrind" under_valgrind target/c/load examples
+
+check "cases.c compiles without a warning" tests/c/build.sh cases checks lines bench \
+    moves meetings rows ports runs refusals sound
+check "cases.c" target/c/cases
+check "cases.c under valgrind" under_valgrind target/c/cases
+
+check "bench_hour.c compiles without a warning" tests/c/build.sh bench_hour
+check "bench_hour.c" prints examples/bench_hour.out target/c/bench_hour examples/workers.txt
+check "bench_hour.c under valgrind" prints examples/bench_hour.out \
+    under_valgrind target/c/bench_hour examples/workers.txt
+check "bench_hour.c on a slot of no type" says 1 "load: refused, ground 4, line 5:" \
+    target/c/bench_hour "$scratch/range.txt"
+
+check "./run on a right file" says 0 "accepted: 1 types, 2 definitions, 7 slots, 6 nodes, 4 branches, 2 ports" \
+    ./run examples/doubler.txt
+check "./run on 72 bytes" says 1 "refused: ground 1:" ./run "$scratch/short.txt"
+check "./run on a slot of no type" says 1 "refused: ground 4, line 5:" ./run "$scratch/range.txt"
+check "./run without such a file" says 2 "" ./run "$scratch/none.txt"
 close_checks

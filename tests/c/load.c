@@ -6,43 +6,12 @@
  */
 #include <string.h>
 
+#include "checks.h"
+#include "lines.h"
 #include "pithread.h"
 #include "read_file.h"
 
 #define MOST_PATH 4096
-#define PATTERN 0xa5
-
-static int passed = 0;
-static int failed = 0;
-
-static void check(int holds, const char *what) {
-    if (holds) {
-        passed++;
-    } else {
-        failed++;
-        fprintf(stderr, "failed: %s\n", what);
-    }
-}
-
-/* A buffer of exactly this length, filled with one byte. */
-static uint8_t *filled(size_t length, int byte) {
-    uint8_t *bytes = malloc(length > 0 ? length : 1);
-    if (bytes == NULL) {
-        fprintf(stderr, "out of memory\n");
-        exit(2);
-    }
-    memset(bytes, byte, length);
-    return bytes;
-}
-
-static int all_are(const uint8_t *bytes, size_t length, int byte) {
-    for (size_t place = 0; place < length; place++) {
-        if (bytes[place] != byte) {
-            return 0;
-        }
-    }
-    return 1;
-}
 
 /* The answer is the one expected, and a refused load leaves the table as it was. */
 static void expect(const uint8_t *file, size_t length, size_t table_length, pithread_loaded wanted,
@@ -87,7 +56,7 @@ static whole_file example(const char *folder, const char *name) {
 
 static void check_examples(const char *folder) {
     static const char *const names[] = {"listing.txt", "doubler.txt", "countdown.txt", "relay.txt",
-                                        "itself.txt"};
+                                        "itself.txt",  "workers.txt"};
     for (size_t place = 0; place < sizeof names / sizeof *names; place++) {
         whole_file file = example(folder, names[place]);
         expect_accepted(file, names[place]);
@@ -114,8 +83,7 @@ static void check_table(whole_file file) {
 
 /* One field of the listing with other characters: the set's constant, on line 14. */
 static void check_field(whole_file file, const char *characters, int refusal, int line) {
-    uint8_t *bytes = filled(file.length, 0);
-    memcpy(bytes, file.bytes, file.length);
+    uint8_t *bytes = copied(file.bytes, file.length);
     memcpy(bytes + 13 * PITHREAD_LINE_BYTES + 6 * 6, characters, 6);
     expect_refusal(bytes, file.length, refusal, line, characters);
     free(bytes);
@@ -123,8 +91,7 @@ static void check_field(whole_file file, const char *characters, int refusal, in
 
 /* The first bytes of the listing, in a buffer of just that length. */
 static void check_part(whole_file file, size_t length, int refusal, int line) {
-    uint8_t *bytes = filled(length, 0);
-    memcpy(bytes, file.bytes, length);
+    uint8_t *bytes = copied(file.bytes, length);
     expect_refusal(bytes, length, refusal, line, "part of a file");
     free(bytes);
 }
@@ -151,10 +118,8 @@ static void check_listing(const char *folder) {
 
 /* Adds a line with these first four fields and this ninth one; the others are 0. */
 static void add_line(whole_file *to, int kind, int second, int third, int fourth, int ninth) {
-    char line[PITHREAD_LINE_BYTES + 1];
-    snprintf(line, sizeof line, "%6d%6d%6d%6d%6d%6d%6d%6d%6d%6d%6d%6d\n", kind, second, third, fourth, 0, 0, 0, 0,
-             ninth, 0, 0, 0);
-    memcpy(to->bytes + to->length, line, PITHREAD_LINE_BYTES);
+    const line fields = {kind, second, third, fourth, 0, 0, 0, 0, ninth};
+    print_line(to->bytes + to->length, fields);
     to->length += PITHREAD_LINE_BYTES;
 }
 
@@ -225,6 +190,5 @@ int main(int count, char **words) {
     check_listing(words[1]);
     check_largest();
     check_hostile();
-    printf("%d\n", passed);
-    return failed == 0 ? 0 : 1;
+    return close_checks();
 }

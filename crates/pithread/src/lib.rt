@@ -3,9 +3,21 @@ ghost use mathlib.Core.Path.{_≡_};
 ghost use Prim.Native.Nat.{_≤_};
 ghost use Rattle.loader.specs.Verdict.{groundNumber};
 ghost use Rattle.loader.specs.Load.{refusalNumber, lineNumber};
-ghost use Rattle.pithread.specs.Interface.{LoadResult, loadResult};
+ghost use Prim.Native.Nat.{_<_};
+ghost use mir.Syntax.{w32};
+ghost use mir.Val.{ofZ};
+ghost use Rattle.engine.specs.Numbers as Numbers;
+ghost use Rattle.pithread.specs.Interface.{LoadResult, loadResult, StateResult, startFields, startNumbers, startResult, stepNumbers, stepFields, stepResult, giveNumbers, giveFields, giveResult, takeNumbers, takeFields, takeResult, runNumbers, runFields, runResult};
 use loader::Ground;
 use loader::Loaded;
+use rules::Deed;
+use rules::Given;
+use rules::Ran;
+use rules::Reason;
+use rules::Refusal;
+use rules::Started;
+use rules::Stepped;
+use rules::Taken;
 
 // The refusal, 0 for none, and the line at fault, 0 for none.
 #[repr(C)]
@@ -64,4 +76,252 @@ pub extern "C" fn pithread_load(file: &[u8], table: &mut [u8]) -> LoadAnswer
         refusal: refusal as i32,
         line: line as i32,
     }
+}
+
+// The answers of the other calls: the refusal, 0 for none, and then what was done, 0 where the call was refused.
+#[repr(C)]
+pub struct StartAnswer {
+    pub refusal: i32,
+}
+
+#[repr(C)]
+pub struct StepAnswer {
+    pub refusal: i32,
+    pub node: i32,
+    pub act: i32,
+    pub branch: i32,
+    pub partner: i32,
+}
+
+#[repr(C)]
+pub struct GiveAnswer {
+    pub refusal: i32,
+    pub thread: i32,
+}
+
+#[repr(C)]
+pub struct TakeAnswer {
+    pub refusal: i32,
+    pub thread: i32,
+    pub number: i32,
+}
+
+#[repr(C)]
+pub struct RunAnswer {
+    pub refusal: i32,
+    pub steps: i32,
+    pub reason: i32,
+    pub thread: i32,
+}
+
+// The pattern of -1.
+const MINUS_ONE: u32 = 4294967295;
+
+fn refusal_of(refusal: Refusal) -> u32
+    ensures { λ r. ⌜ r ≡ Numbers.refusalNumber refusal ⌝ }
+{
+    match refusal {
+        Refusal::Length => 8,
+        Refusal::Table => 9,
+        Refusal::State => 10,
+        Refusal::Thread => 11,
+        Refusal::Port => 12,
+        Refusal::ThreadRow => 13,
+        Refusal::ChannelRow => 14,
+    }
+}
+
+fn act_number(deed: Deed) -> u32
+    ensures { λ r. ⌜ r ≡ Numbers.actNumber deed ⌝ }
+{
+    match deed {
+        Deed::Ended => 0,
+        Deed::Called => 1,
+        Deed::Waited => 2,
+        Deed::Took(_) => 3,
+        Deed::TookWith(_, _) => 3,
+    }
+}
+
+fn branch_number(deed: Deed) -> u32
+    ensures { λ r. ⌜ r ≡ Numbers.branchNumber deed ⌝ }
+{
+    match deed {
+        Deed::Ended => 0,
+        Deed::Called => 0,
+        Deed::Waited => 0,
+        Deed::Took(i) => i,
+        Deed::TookWith(i, _) => i,
+    }
+}
+
+fn partner_number(deed: Deed) -> u32
+    ensures { λ r. ⌜ r ≡ Numbers.partnerNumber deed ⌝ }
+{
+    match deed {
+        Deed::Ended => MINUS_ONE,
+        Deed::Called => MINUS_ONE,
+        Deed::Waited => MINUS_ONE,
+        Deed::Took(_) => MINUS_ONE,
+        Deed::TookWith(_, u) => u,
+    }
+}
+
+fn reason_number(reason: Reason) -> u32
+    ensures { λ r. ⌜ r ≡ Numbers.reasonNumber reason ⌝ }
+{
+    match reason {
+        Reason::AllDone => 0,
+        Reason::NoneReady => 1,
+        Reason::LackedThread(_) => 2,
+        Reason::LackedChannel(_) => 3,
+    }
+}
+
+fn held_up_number(reason: Reason) -> u32
+    ensures { λ r. ⌜ r ≡ Numbers.heldUpNumber reason ⌝ }
+{
+    match reason {
+        Reason::AllDone => MINUS_ONE,
+        Reason::NoneReady => MINUS_ONE,
+        Reason::LackedThread(t) => t,
+        Reason::LackedChannel(t) => t,
+    }
+}
+
+// The numbers of an answer, from their patterns.
+fn start_fields(refusal: u32) -> StartAnswer
+    ensures { λ r. ⌜ r ≡ startFields refusal ⌝ }
+{
+    StartAnswer {
+        refusal: numbers::signed(refusal),
+    }
+}
+
+fn step_fields(refusal: u32, node: u32, act: u32, branch: u32, partner: u32) -> StepAnswer
+    ensures { λ r. ⌜ r ≡ stepFields refusal node act branch partner ⌝ }
+{
+    StepAnswer {
+        refusal: numbers::signed(refusal),
+        node: numbers::signed(node),
+        act: numbers::signed(act),
+        branch: numbers::signed(branch),
+        partner: numbers::signed(partner),
+    }
+}
+
+fn give_fields(refusal: u32, thread: u32) -> GiveAnswer
+    ensures { λ r. ⌜ r ≡ giveFields refusal thread ⌝ }
+{
+    GiveAnswer {
+        refusal: numbers::signed(refusal),
+        thread: numbers::signed(thread),
+    }
+}
+
+fn take_fields(refusal: u32, thread: u32, number: u32) -> TakeAnswer
+    ensures { λ r. ⌜ r ≡ takeFields refusal thread number ⌝ }
+{
+    TakeAnswer {
+        refusal: numbers::signed(refusal),
+        thread: numbers::signed(thread),
+        number: numbers::signed(number),
+    }
+}
+
+fn run_fields(refusal: u32, steps: u32, reason: u32, thread: u32) -> RunAnswer
+    ensures { λ r. ⌜ r ≡ runFields refusal steps reason thread ⌝ }
+{
+    RunAnswer {
+        refusal: numbers::signed(refusal),
+        steps: numbers::signed(steps),
+        reason: numbers::signed(reason),
+        thread: numbers::signed(thread),
+    }
+}
+
+fn start_numbers(answer: Started) -> StartAnswer
+    ensures { λ r. ⌜ r ≡ startNumbers answer ⌝ }
+{
+    match answer {
+        Started::Done => start_fields(0),
+        Started::Refused(ground) => start_fields(refusal_of(ground)),
+    }
+}
+
+fn step_numbers(answer: Stepped) -> StepAnswer
+    ensures { λ r. ⌜ r ≡ stepNumbers answer ⌝ }
+{
+    match answer {
+        Stepped::Done(node, deed) => {
+            step_fields(0, node, act_number(deed), branch_number(deed), partner_number(deed))
+        }
+        Stepped::Refused(ground) => step_fields(refusal_of(ground), 0, 0, 0, 0),
+    }
+}
+
+fn give_numbers(answer: Given) -> GiveAnswer
+    ensures { λ r. ⌜ r ≡ giveNumbers answer ⌝ }
+{
+    match answer {
+        Given::Met(thread) => give_fields(0, thread),
+        Given::Nobody => give_fields(0, MINUS_ONE),
+        Given::Refused(ground) => give_fields(refusal_of(ground), 0),
+    }
+}
+
+fn take_numbers(answer: Taken) -> TakeAnswer
+    ensures { λ r. ⌜ r ≡ takeNumbers answer ⌝ }
+{
+    match answer {
+        Taken::Met(thread, number) => take_fields(0, thread, number),
+        Taken::Nobody => take_fields(0, MINUS_ONE, 0),
+        Taken::Refused(ground) => take_fields(refusal_of(ground), 0, 0),
+    }
+}
+
+fn run_numbers(answer: Ran) -> RunAnswer
+    ensures { λ r. ⌜ r ≡ runNumbers answer ⌝ }
+{
+    match answer {
+        Ran::Done(steps, reason) => {
+            run_fields(0, steps, reason_number(reason), held_up_number(reason))
+        }
+        Ran::Refused(ground) => run_fields(refusal_of(ground), 0, 0, 0),
+    }
+}
+
+#[no_mangle]
+pub extern "C" fn pithread_start(table: &[u8], state: &mut [u8]) -> StartAnswer
+    ensures { λ r. ⌜ _≡_ {A = StateResult StartAnswer} (record { answer = r; state = now (state .exit) }) (startResult (now (table .entry)) (now (state .entry))) ⌝ }
+{
+    start_numbers(engine::start(table, state))
+}
+
+#[no_mangle]
+pub extern "C" fn pithread_step(table: &[u8], state: &mut [u8], thread: u32) -> StepAnswer
+    ensures { λ r. ⌜ _≡_ {A = StateResult StepAnswer} (record { answer = r; state = now (state .exit) }) (stepResult (now (table .entry)) (now (state .entry)) thread) ⌝ }
+{
+    step_numbers(engine::step(table, state, thread))
+}
+
+#[no_mangle]
+pub extern "C" fn pithread_give(table: &[u8], state: &mut [u8], port: u32, number: i32) -> GiveAnswer
+    ensures { λ r. ⌜ _≡_ {A = StateResult GiveAnswer} (record { answer = r; state = now (state .exit) }) (giveResult (now (table .entry)) (now (state .entry)) port number) ⌝ }
+{
+    give_numbers(engine::give(table, state, port, numbers::pattern(number)))
+}
+
+#[no_mangle]
+pub extern "C" fn pithread_take(table: &[u8], state: &mut [u8], port: u32) -> TakeAnswer
+    ensures { λ r. ⌜ _≡_ {A = StateResult TakeAnswer} (record { answer = r; state = now (state .exit) }) (takeResult (now (table .entry)) (now (state .entry)) port) ⌝ }
+{
+    take_numbers(engine::take(table, state, port))
+}
+
+#[no_mangle]
+pub extern "C" fn pithread_run(table: &[u8], state: &mut [u8], n: u16) -> RunAnswer
+    ensures { λ r. ⌜ _≡_ {A = StateResult RunAnswer} (record { answer = r; state = now (state .exit) }) (runResult (now (table .entry)) (now (state .entry)) n) ⌝ }
+{
+    run_numbers(engine::run(table, state, n))
 }

@@ -1,10 +1,18 @@
-//! What the comparisons share: one load by both sides, and a tally of what was met.
+//! What the comparisons share: one load or one call by both sides, and tallies of what was met.
 
+mod calls;
 mod comparison;
+mod kept;
+mod padded;
+mod sequence;
 mod tally;
+mod traffic;
 
+pub use calls::Calls;
 pub use comparison::{Answer, Comparison};
+pub use sequence::Sequence;
 pub use tally::Tally;
+pub use traffic::Traffic;
 
 use generate::Random;
 

@@ -4,7 +4,9 @@ use std::fs;
 use std::path::Path;
 
 use differential::{for_seeds, Comparison, Tally};
-use generate::{any_valid, cases, damaged, text_of, valid, File, Random, Size, LINE_BYTES, MOST_LINES};
+use generate::{
+    any_valid, cases, damaged, padded, text_of, valid, File, Random, Size, LINE_BYTES, MOST_LINES,
+};
 use reference::TABLE_BYTES;
 
 const WRONG_LENGTHS: [usize; 6] = [0, 1, 24, TABLE_BYTES - 1, TABLE_BYTES + 1, 2 * TABLE_BYTES];
@@ -117,12 +119,6 @@ fn each_field_of_small_files() {
             rows[line][field] = kept;
         }
     }
-}
-
-fn padded(row: &[i16]) -> [i16; 12] {
-    let mut padded = [0; 12];
-    padded[..row.len()].copy_from_slice(row);
-    padded
 }
 
 /// Every byte of a small file, set to every value.

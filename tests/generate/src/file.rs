@@ -31,6 +31,26 @@ pub struct File {
 }
 
 impl File {
+    /// A file of these rows, which must be right ones.
+    pub fn new(rows: Vec<Row>) -> File {
+        let [_, types, definitions, slots, nodes, branches, ports, ..] = rows[0].map(count);
+        let size = Size { types, definitions, slots, nodes, branches, ports };
+        let mut file = File { size, rows, slots_of: Vec::new(), nodes_of: Vec::new(), owners: Vec::new() };
+        let (mut slots, mut nodes) = (file.section(4).start, file.section(5).start);
+        for definition in 0..definitions {
+            let row = file.rows[file.section(3).start + definition];
+            file.slots_of.push(slots..slots + count(row[2]));
+            file.nodes_of.push(nodes..nodes + count(row[3]));
+            slots += count(row[2]);
+            for node in 0..count(row[3]) {
+                let branches = branches_of(&file.rows[nodes + node]);
+                file.owners.extend((0..branches).map(|_| Owner { definition, node }));
+            }
+            nodes += count(row[3]);
+        }
+        file
+    }
+
     /// The text, as bytes.
     pub fn text(&self) -> Vec<u8> {
         text_of(&self.rows)
@@ -45,12 +65,29 @@ impl File {
     }
 }
 
+fn count(number: i16) -> usize {
+    usize::try_from(number).expect("counts in a right file are not negative")
+}
+
+/// How many branches a node has.
+fn branches_of(node: &Row) -> usize {
+    if node[1] == 1 {
+        count(node[2])
+    } else {
+        0
+    }
+}
+
+/// A row of these numbers, and zeros behind them.
+pub fn padded(numbers: &[i16]) -> Row {
+    std::array::from_fn(|place| numbers.get(place).copied().unwrap_or(0))
+}
+
 /// The text of some lines. A row shorter than twelve numbers goes on with zeros.
 pub fn text_of<R: AsRef<[i16]>>(rows: &[R]) -> Vec<u8> {
     let mut text = Vec::with_capacity(rows.len() * LINE_BYTES);
     for row in rows {
-        for place in 0..FIELDS {
-            let number = row.as_ref().get(place).copied().unwrap_or(0);
+        for number in padded(row.as_ref()) {
             text.extend_from_slice(&field(number));
         }
         text.push(b'\n');

@@ -2,17 +2,29 @@
 //!
 //! Everything follows from a seed, so that a failing test can be run again.
 
+mod calls;
 pub mod cases;
+mod code;
+pub mod compose;
 mod damage;
 mod file;
+mod opening;
+pub mod procedures;
+mod profile;
 mod random;
 mod size;
+mod states;
 mod tables;
 mod valid;
+mod words;
 
+pub use calls::any_call;
 pub use damage::{damaged, damaged_rows};
-pub use file::{text_of, File, Row, FIELDS, LINE_BYTES, MOST_LINES};
+pub use file::{padded, text_of, File, Row, FIELDS, LINE_BYTES, MOST_LINES};
+pub use profile::{Profile, ANY, LIVELY};
 pub use random::Random;
 pub use size::Size;
+pub use states::{changed_state, woken_state};
 pub use tables::{damaged_table, table_of, TABLE_BYTES};
-pub use valid::{any_valid, valid};
+pub use valid::{any_valid, profiled, valid};
+pub use words::{Layout, Words, FREE, READY, WAITING};

@@ -56,6 +56,20 @@ impl Random {
         items[self.below(items.len())]
     }
 
+    /// One of the items, each as often as its weight says. One weight at least must not be 0.
+    pub fn weighted<T: Copy>(&mut self, items: &[(T, usize)]) -> T {
+        let mut left = self.below(items.iter().map(|(_, weight)| weight).sum());
+        let mut chosen = items[0].0;
+        for (item, weight) in items {
+            chosen = *item;
+            if left < *weight {
+                break;
+            }
+            left -= weight;
+        }
+        chosen
+    }
+
     pub fn shuffle<T>(&mut self, items: &mut [T]) {
         for last in (1..items.len()).rev() {
             items.swap(last, self.below(last + 1));

@@ -1,8 +1,10 @@
-//! A second loader of procedure files, written apart from the proved one and compared with it.
+//! A second loader and a second engine, written apart from the proved ones and compared with them.
 //!
 //! A file goes through these modules in turn, and each refuses on its own grounds:
 //! `text` (1 and 2), `sections` (3), `ranges` (4), `types` (5), `paths` (6 and 7).
+//! The calls on a table and a state, with the grounds from 8 on, are in `engine`.
 
+mod engine;
 mod operands;
 mod paths;
 mod program;
@@ -11,6 +13,8 @@ mod sections;
 mod text;
 mod types;
 
+pub use engine::{fault, give, run, start, step, take, Fault, ENGINE};
+
 /// Fields in a line, and numbers in a row of the table.
 pub const FIELDS: usize = 12;
 /// Bytes in a line with its newline.
@@ -18,7 +22,8 @@ pub const LINE_BYTES: usize = 73;
 /// Lines in the longest file, and rows in the table.
 pub const MOST_LINES: usize = 865;
 /// Bytes in a loaded table.
-pub const TABLE_BYTES: usize = MOST_LINES * FIELDS * 2;
+pub const TABLE_BYTES: usize = MOST_LINES * ROW_BYTES;
+const ROW_BYTES: usize = FIELDS * 2;
 
 /// The twelve numbers of one line.
 pub type Row = [i16; FIELDS];
@@ -92,32 +97,47 @@ pub fn answer(file: &[u8], buffer: &mut [u8]) -> (i32, i32) {
 
 /// Whether these bytes are a table that some file loads to.
 pub fn accepted(table: &[u8]) -> bool {
-    if table.len() != TABLE_BYTES {
-        return false;
-    }
-    let mut rows = no_rows();
-    read_rows(table, &mut rows);
+    table.len() == TABLE_BYTES && check_table(table, &mut no_rows()).is_some()
+}
+
+/// A file's definitions after grounds 3 to 7, and what its paths write.
+struct Checked<'a> {
+    program: program::Program<'a>,
+    paths: paths::Paths,
+}
+
+/// Reads the rows in use of a table, which must have the right length, and checks them as those of
+/// a file; nothing if no file has them or if another row is not empty.
+fn check_table<'a>(table: &[u8], rows: &'a mut Rows) -> Option<Checked<'a>> {
+    read_rows(table, &mut rows[..1]);
     if !sections::header_in_range(&rows[0]) {
-        return false;
+        return None;
     }
-    let (used, rest) = rows.split_at(sections::line_total(&rows[0]));
-    rest.as_flattened().iter().all(|number| *number == 0) && check(used).is_ok()
+    let lines = sections::line_total(&rows[0]);
+    let (used, rest) = table.split_at(lines * ROW_BYTES);
+    if rest.iter().fold(0, |all, byte| all | byte) != 0 {
+        return None;
+    }
+    read_rows(used, &mut rows[..lines]);
+    check(&rows[..lines]).ok()
 }
 
 fn read_and_check(file: &[u8], rows: &mut Rows) -> Result<(), Refusal> {
     let lines = text::read(file, rows)?;
-    check(&rows[..lines])
+    check(&rows[..lines])?;
+    Ok(())
 }
 
 /// Grounds 3 to 7.
-fn check(rows: &[Row]) -> Result<(), Refusal> {
+fn check(rows: &[Row]) -> Result<Checked<'_>, Refusal> {
     let sections = sections::Sections::new(rows)?;
     ranges::declarations(&sections)?;
     let program = program::Program::new(&sections);
     ranges::nodes(&program)?;
     ranges::branches(&program)?;
     types::check(&program)?;
-    paths::check(&program)
+    let paths = paths::check(&program)?;
+    Ok(Checked { program, paths })
 }
 
 fn write_rows(rows: &Rows, bytes: &mut [u8]) {
@@ -127,7 +147,7 @@ fn write_rows(rows: &Rows, bytes: &mut [u8]) {
     }
 }
 
-fn read_rows(bytes: &[u8], rows: &mut Rows) {
+fn read_rows(bytes: &[u8], rows: &mut [Row]) {
     let (pairs, _) = bytes.as_chunks::<2>();
     for (pair, number) in pairs.iter().zip(rows.as_flattened_mut()) {
         *number = i16::from_le_bytes(*pair);

@@ -11,17 +11,18 @@ const EVERY_SLOT: u16 = u16::MAX;
 /// For each node of the file: the slots written on every path to it, one bit for each.
 ///
 /// A node to which no path leads keeps every slot, so that no read there is a fault.
-struct Paths {
+pub struct Paths {
     written: [u16; MOST_NODES],
     reached: [bool; MOST_NODES],
 }
 
-/// All ranges must have been found right.
-pub fn check(program: &Program) -> Result<(), Refusal> {
+/// Answers the paths if nothing is at fault. All ranges must have been found right.
+pub fn check(program: &Program) -> Result<Paths, Refusal> {
     let paths = Paths::new(program);
     program.each_node(6, |node| !node.is_call() || paths.call(program, node))?;
     program.each_branch(6, |node, row| paths.covers(node, slots(row, Use::Read)))?;
-    program.each_node(7, |node| paths.reached[node.place()])
+    program.each_node(7, |node| paths.reached[node.place()])?;
+    Ok(paths)
 }
 
 impl Paths {
@@ -37,6 +38,11 @@ impl Paths {
             }
         }
         paths
+    }
+
+    /// The slots that are surely written when the node at this place is come to, one bit for each.
+    pub fn written(&self, place: usize) -> u16 {
+        self.written[place]
     }
 
     fn follow(&mut self, node: &Node, row: &Row) {

@@ -1,0 +1,180 @@
+-- One law for each way out of the calls. Assumes nothing.
+use Prim.Native.Nat.{ℕ}
+use native.Mathlib.Omega.{arith}
+use mathlib.Core.Path.{_≡_, refl, sym, _∙_, ap}
+use mathlib.Core.Bool.{Bool, true, false, not, _&&_, cond}
+use mathlib.Core.List.{List}
+use lib.Dec.{eqb}
+use lib.ListN.{length, getD}
+use mir.Syntax.{w8}
+use mir.Val.{Fits}
+use borrow.Author.Tests.{eqb-true, eq-eqb, ne-eqb, not-true, not-false}
+use Rattle.numbers.specs.Bytes.Laws.{bytes-fit}
+use Rattle.numbers.specs.Search.Laws.{caseB, contra}
+use Rattle.table.specs.Table.{tableOf}
+use Rattle.table.specs.Index.{Indexed}
+use Rattle.table.specs.Form.Laws.{and-left, and-right}
+use Rattle.loader.specs.Load.{tableLength, accepted}
+use Rattle.state.specs.State.{stateLength, view, stateBytes}
+use Rattle.state.specs.State.Laws.{bytes-view}
+use Rattle.rules.specs.Holding.{settled}
+use Rattle.rules.specs.Start.{started}
+use Rattle.rules.specs.Sound.{sound}
+use Rattle.rules.specs.Calls.{Outcome, outcome, lengthsRight, startAdmission, admission, startBy, startCall, stepBy, stepCall, giveBy, giveCall, takeBy, takeCall, runBy, runCall}
+use Rattle.rules.specs.declared.Refusal.{Refusal}
+use Rattle.rules.specs.declared.Refusal.the-variants as Ground
+use Rattle.rules.specs.declared.Admission.{Admission}
+use Rattle.rules.specs.declared.Admission.the-variants.{Admitted, Refused}
+use Rattle.rules.specs.declared.Started.{Started}
+use Rattle.rules.specs.declared.Started.the-variants as Started
+use Rattle.rules.specs.declared.Stepped.{Stepped}
+use Rattle.rules.specs.declared.Stepped.the-variants as Stepped
+use Rattle.rules.specs.declared.Given.{Given}
+use Rattle.rules.specs.declared.Given.the-variants as Given
+use Rattle.rules.specs.declared.Taken.{Taken}
+use Rattle.rules.specs.declared.Taken.the-variants as Taken
+use Rattle.rules.specs.declared.Ran.{Ran}
+use Rattle.rules.specs.declared.Ran.the-variants as Ran
+use Rattle.engine.specs.Settled.{sound-settled}
+
+-- ---- grounds 8, 9 and 10
+
+module _ (table state : List ℕ) where
+  pub table-long : (length table ≡ 20760 → ⊥) → false ≡ lengthsRight table state
+  unfolding lengthsRight
+  table-long h = rw (ne-eqb (length table) tableLength h)
+
+  pub table-fits : length table ≡ 20760 → eqb (length state) 6156 ≡ lengthsRight table state
+  unfolding lengthsRight
+  table-fits h = rw (eq-eqb (length table) tableLength h)
+
+  -- x: whether the lengths are right
+  module _ (x : Bool) (e : x ≡ lengthsRight table state) where
+    pub lengths-wrong : not x ≡ true → Refused Ground.Length ≡ startAdmission table state
+    unfolding startAdmission
+    lengths-wrong f = rw (← e, not-true x f)
+
+    -- y: whether the table is accepted
+    module _ (f : not x ≡ false) (y : Bool) (g : y ≡ accepted table) where
+      pub table-accepted : y ≡ true → Admitted ≡ startAdmission table state
+      unfolding startAdmission
+      table-accepted h = rw (← e, not-false x f, ← g, h)
+
+      pub table-refused : y ≡ false → Refused Ground.Table ≡ startAdmission table state
+      unfolding startAdmission
+      table-refused h = rw (← e, not-false x f, ← g, h)
+
+-- an answer of an admission is one of two
+clash : {A : Type 0} (g : Refusal) → Refused g ≡ Admitted → A
+clash g e = absurd (let z : _≡_ {A = ℕ} 0 1 = cc in let h : ⊥ = omega arith in h)
+
+-- the grounds of start, by their two tests, and those of the other calls, by their three
+module _ (g : Refusal) where
+  two : (p q r : Bool) → cond p (cond q Admitted (Refused Ground.Table)) (Refused Ground.Length) ≡ Refused g
+      → Refused g ≡ cond p (cond q (cond r Admitted (Refused Ground.State)) (Refused Ground.Table)) (Refused Ground.Length)
+  two true true r e = clash g (sym e)
+  two true false r e = sym e
+  two false q r e = sym e
+
+both : (p q : Bool) → cond p (cond q Admitted (Refused Ground.Table)) (Refused Ground.Length) ≡ Admitted → (p ≡ true) × (q ≡ true)
+both true true e = (refl, refl)
+both true false e = clash Ground.Table e
+both false q e = clash Ground.Length e
+
+all-three : (p q r : Bool) → cond p (cond q (cond r Admitted (Refused Ground.State)) (Refused Ground.Table)) (Refused Ground.Length) ≡ Admitted → (p ≡ true) × (r ≡ true)
+all-three true true true e = (refl, refl)
+all-three true true false e = clash Ground.State e
+all-three true false r e = clash Ground.Table e
+all-three false q r e = clash Ground.Length e
+
+module _ (table b : List ℕ) (a : Admission) where
+  right-length : lengthsRight table b ≡ true → length b ≡ stateLength
+  unfolding lengthsRight
+  right-length e = eqb-true (length b) stateLength (and-right (eqb (length table) tableLength) (eqb (length b) stateLength) e)
+
+  -- a: what start's grounds say
+  module _ (e : a ≡ startAdmission table b) where
+    pub start-length : a ≡ Admitted → length b ≡ stateLength
+    unfolding startAdmission
+    start-length f = right-length (both (lengthsRight table b) (accepted table) (sym e ∙ f) .0)
+
+    pub still-refused : (g : Refusal) → a ≡ Refused g → Refused g ≡ admission table b
+    unfolding startAdmission admission
+    still-refused g f = two g (lengthsRight table b) (accepted table) (sound (tableOf table) (view b)) (sym e ∙ f)
+
+    module _ (f : a ≡ Admitted) (x : Bool) (h : x ≡ sound (tableOf table) (view b)) where
+      pub state-sound : x ≡ true → Admitted ≡ admission table b
+      unfolding startAdmission admission
+      state-sound i = let (p, q) = both (lengthsRight table b) (accepted table) (sym e ∙ f) in rw (p, q, ← h, i)
+
+      pub state-unsound : x ≡ false → Refused Ground.State ≡ admission table b
+      unfolding startAdmission admission
+      state-unsound i = let (p, q) = both (lengthsRight table b) (accepted table) (sym e ∙ f) in rw (p, q, ← h, i)
+
+  -- a: what the grounds say
+  module _ (e : a ≡ admission table b) (f : a ≡ Admitted) where
+    pub admitted-length : length b ≡ stateLength
+    unfolding admission
+    admitted-length = right-length (all-three (lengthsRight table b) (accepted table) (sound (tableOf table) (view b)) (sym e ∙ f) .0)
+
+    pub admitted-settled : settled (tableOf table) (view b) ≡ view b
+    unfolding admission
+    admitted-settled = sound-settled (tableOf table) b admitted-length (all-three (lengthsRight table b) (accepted table) (sound (tableOf table) (view b)) (sym e ∙ f) .1)
+
+-- the index of a table that was accepted, and of one that was admitted
+pub accepted-indexed : (table l : List ℕ) (y : Bool) → (y ≡ true → Indexed (tableOf table) l) → y ≡ true → Indexed (tableOf table) l
+accepted-indexed table l y f g = f g
+
+pub admitted-indexed : (table l : List ℕ) (a : Admission) → (a ≡ Admitted → Indexed (tableOf table) l) → a ≡ Admitted → Indexed (tableOf table) l
+admitted-indexed table l a f g = f g
+
+pub not-admitted : (table l : List ℕ) (g : Refusal) → Refused g ≡ Admitted → Indexed (tableOf table) l
+not-admitted table l g e = clash g e
+
+-- ---- the calls
+
+module _ (table b : List ℕ) (a : Admission) (e : a ≡ startAdmission table b) where
+  pub start-refused : (g : Refusal) → a ≡ Refused g → outcome (Started.Refused g) b ≡ startCall table b
+  unfolding startCall startBy
+  start-refused g f = rw (← e, f)
+
+  pub start-done : (b₁ : List ℕ) → view b₁ ≡ started (tableOf table) → length b₁ ≡ length b → ((i : ℕ) → Fits w8 (getD b₁ i 0)) → a ≡ Admitted → outcome Started.Done b₁ ≡ startCall table b
+  unfolding startCall startBy
+  start-done b₁ h l k f =
+      let q : b₁ ≡ stateBytes (started (tableOf table)) = sym (bytes-view b₁ (l ∙ start-length table b a e f) (bytes-fit b₁ k)) ∙ ap stateBytes h in
+      rw (← e, f) (ap (outcome _) q)
+
+module _ (table b : List ℕ) (a : Admission) (e : a ≡ admission table b) where
+  module _ (g : Refusal) (f : a ≡ Refused g) where
+    pub step-refused : (t : ℕ) → outcome (Stepped.Refused g) b ≡ stepCall table b t
+    unfolding stepCall stepBy
+    step-refused t = rw (← e, f)
+
+    pub give-refused : (p v : ℕ) → outcome (Given.Refused g) b ≡ giveCall table b p v
+    unfolding giveCall giveBy
+    give-refused p v = rw (← e, f)
+
+    pub take-refused : (p : ℕ) → outcome (Taken.Refused g) b ≡ takeCall table b p
+    unfolding takeCall takeBy
+    take-refused p = rw (← e, f)
+
+    pub run-refused : (n : ℕ) → outcome (Ran.Refused g) b ≡ runCall table b n
+    unfolding runCall runBy
+    run-refused n = rw (← e, f)
+
+  module _ (f : a ≡ Admitted) where
+    pub step-admitted : (k : Outcome Stepped) (t : ℕ) → k ≡ stepBy Admitted table b t → k ≡ stepCall table b t
+    unfolding stepCall
+    step-admitted k t h = rw (← e, f) h
+
+    pub give-admitted : (k : Outcome Given) (p v : ℕ) → k ≡ giveBy Admitted table b p v → k ≡ giveCall table b p v
+    unfolding giveCall
+    give-admitted k p v h = rw (← e, f) h
+
+    pub take-admitted : (k : Outcome Taken) (p : ℕ) → k ≡ takeBy Admitted table b p → k ≡ takeCall table b p
+    unfolding takeCall
+    take-admitted k p h = rw (← e, f) h
+
+    pub run-admitted : (k : Outcome Ran) (n : ℕ) → k ≡ runBy Admitted table b n → k ≡ runCall table b n
+    unfolding runCall
+    run-admitted k n h = rw (← e, f) h

@@ -1,0 +1,16 @@
+use Rattle.engine.proofs.Laws.{lengths-wrong, table-accepted, table-refused, accepted-indexed, not-admitted}
+use borrow.Author.Needs.{needs}
+use Rattle.engine.proofs.admit_start.Statement.{statement}
+use Rattle.engine.proofs.admit_start.Tie as tie
+
+pub admit-start-spec : {M : Type 1} → statement M
+admit-start-spec =
+    tie.close
+    (tie.spec
+    (λ c κs. search needs)
+    (λ c. (search lengths-wrong, λ e. search not-admitted))
+    (λ c κs. search needs)
+    (λ c. search needs)
+    (λ c. (search table-accepted, λ e. search accepted-indexed))
+    (λ c. search needs)
+    (λ c. (search table-refused, λ e. search not-admitted)))

@@ -1,0 +1,19 @@
+use Rattle.engine.proofs.Laws.{give-refused, give-admitted, admitted-indexed, admitted-length, admitted-settled}
+use borrow.Author.Needs.{needs}
+use Rattle.engine.proofs.give.Statement.{statement}
+use Rattle.engine.proofs.give.Tie as tie
+
+pub give-spec : {M : Type 1} → statement M
+give-spec =
+    tie.close
+    (tie.spec
+    (λ c. search needs)
+    (λ c κs. search needs)
+    (λ c. search needs)
+    (λ c. search needs)
+    (λ c. search needs)
+    (λ c κs. (search admitted-indexed, (search admitted-length, admitted-settled _ _ (c .before .before .before .before .before .admit .result) (search) (search))))
+    (λ c. search needs)
+    (λ c. search (give-refused, give-admitted))
+    (λ c. search needs)
+    (λ c. search (give-refused, give-admitted)))

@@ -1,0 +1,19 @@
+use Rattle.engine.proofs.Laws.{run-refused, run-admitted, admitted-indexed, admitted-length, admitted-settled}
+use borrow.Author.Needs.{needs}
+use Rattle.engine.proofs.run.Statement.{statement}
+use Rattle.engine.proofs.run.Tie as tie
+
+pub run-spec : {M : Type 1} → statement M
+run-spec =
+    tie.close
+    (tie.spec
+    (λ c. search needs)
+    (λ c κs. search needs)
+    (λ c. search needs)
+    (λ c. search needs)
+    (λ c. search needs)
+    (λ c κs. (search admitted-indexed, (search admitted-length, search admitted-settled)))
+    (λ c. search needs)
+    (λ c. search (run-refused, run-admitted))
+    (λ c. search needs)
+    (λ c. search (run-refused, run-admitted)))

@@ -1,0 +1,19 @@
+use Rattle.engine.proofs.Laws.{start-refused, start-done, start-length, admitted-indexed}
+use borrow.Author.Needs.{needs}
+use Rattle.engine.proofs.start.Statement.{statement}
+use Rattle.engine.proofs.start.Tie as tie
+
+pub start-spec : {M : Type 1} → statement M
+start-spec =
+    tie.close
+    (tie.spec
+    (λ c. search needs)
+    (λ c κs. search needs)
+    (λ c. search needs)
+    (λ c. search needs)
+    (λ c. search needs)
+    (λ c κs. (search admitted-indexed, search start-length))
+    (λ c. search needs)
+    (λ c. search (start-refused, start-done))
+    (λ c. search needs)
+    (λ c. search (start-refused, start-done)))

@@ -1,0 +1,19 @@
+use Rattle.engine.proofs.Laws.{step-refused, step-admitted, admitted-indexed, admitted-length, admitted-settled}
+use borrow.Author.Needs.{needs}
+use Rattle.engine.proofs.step.Statement.{statement}
+use Rattle.engine.proofs.step.Tie as tie
+
+pub step-spec : {M : Type 1} → statement M
+step-spec =
+    tie.close
+    (tie.spec
+    (λ c. search needs)
+    (λ c κs. search needs)
+    (λ c. search needs)
+    (λ c. search needs)
+    (λ c. search needs)
+    (λ c κs. (search admitted-indexed, (search admitted-length, search admitted-settled)))
+    (λ c. search needs)
+    (λ c. search (step-refused, step-admitted))
+    (λ c. search needs)
+    (λ c. search (step-refused, step-admitted)))

@@ -1,0 +1,19 @@
+use Rattle.engine.proofs.Laws.{take-refused, take-admitted, admitted-indexed, admitted-length, admitted-settled}
+use borrow.Author.Needs.{needs}
+use Rattle.engine.proofs.take.Statement.{statement}
+use Rattle.engine.proofs.take.Tie as tie
+
+pub take-spec : {M : Type 1} → statement M
+take-spec =
+    tie.close
+    (tie.spec
+    (λ c. search needs)
+    (λ c κs. search needs)
+    (λ c. search needs)
+    (λ c. search needs)
+    (λ c. search needs)
+    (λ c κs. (search admitted-indexed, (search admitted-length, search admitted-settled)))
+    (λ c. search needs)
+    (λ c. search (take-refused, take-admitted))
+    (λ c. search needs)
+    (λ c. search (take-refused, take-admitted)))

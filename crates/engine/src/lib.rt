@@ -1,0 +1,121 @@
+// The calls of the engine: start, step, give, take, run. Each judges its buffers first, and a call that is refused changes nothing.
+ghost use mathlib.Core.Path.{_≡_};
+ghost use lib.ListN.{replicate};
+ghost use Rattle.table.specs.Table.{tableOf};
+ghost use Rattle.table.specs.Index.{Indexed, indexLength};
+ghost use Rattle.rules.specs.Calls.{Outcome, lengthsRight, startAdmission, admission, startCall, stepCall, giveCall, takeCall, runCall};
+ghost use Rattle.rules.specs.declared.Admission.the-variants.{Admitted};
+use rules::Admission;
+use rules::Given;
+use rules::Ran;
+use rules::Refusal;
+use rules::Started;
+use rules::Stepped;
+use rules::Taken;
+
+const TABLE: usize = 20760;
+
+const STATE: usize = 6156;
+
+const INDEX: usize = 803;
+
+// Ground 8.
+fn lengths_right(table: &[u8], state: &[u8]) -> bool
+    ensures { λ r. ⌜ r ≡ lengthsRight (now (table .entry)) (now (state .entry)) ⌝ }
+{
+    if table.len() != TABLE {
+        return false;
+    }
+    state.len() == STATE
+}
+
+// Grounds 8 and 9. The index of an admitted table is left in `index`, which comes as zeros.
+fn admit_start(table: &[u8], state: &[u8], index: &mut [u32]) -> Admission
+    requires { ⌜ now index ≡ replicate indexLength 0 ⌝ }
+    ensures { λ r. ⌜ r ≡ startAdmission (now (table .entry)) (now (state .entry)) ⌝ }
+    ensures { λ r. ⌜ (r ≡ Admitted → Indexed (tableOf (now (table .entry))) (now (index .exit))) ⌝ }
+{
+    if !lengths_right(table, state) {
+        return Admission::Refused(Refusal::Length);
+    }
+    if loader::accept(table, index) {
+        return Admission::Admitted;
+    }
+    Admission::Refused(Refusal::Table)
+}
+
+// Grounds 8, 9 and 10.
+fn admit(table: &[u8], state: &[u8], index: &mut [u32]) -> Admission
+    requires { ⌜ now index ≡ replicate indexLength 0 ⌝ }
+    ensures { λ r. ⌜ r ≡ admission (now (table .entry)) (now (state .entry)) ⌝ }
+    ensures { λ r. ⌜ (r ≡ Admitted → Indexed (tableOf (now (table .entry))) (now (index .exit))) ⌝ }
+{
+    match admit_start(table, state, index) {
+        Admission::Refused(ground) => Admission::Refused(ground),
+        Admission::Admitted => {
+            if sound::is_sound(table, index, state) {
+                return Admission::Admitted;
+            }
+            Admission::Refused(Refusal::State)
+        }
+    }
+}
+
+// Writes the state with which a table starts.
+pub fn start(table: &[u8], state: &mut [u8]) -> Started
+    ensures { λ r. ⌜ _≡_ {A = Outcome Started} (record { answer = r; state = now (state .exit) }) (startCall (now (table .entry)) (now (state .entry))) ⌝ }
+{
+    let mut index = [0u32; INDEX];
+    match admit_start(table, state, &mut index) {
+        Admission::Refused(ground) => Started::Refused(ground),
+        Admission::Admitted => {
+            starts::write_started(table, &index, state);
+            Started::Done
+        }
+    }
+}
+
+
+// Steps thread t.
+pub fn step(table: &[u8], state: &mut [u8], t: u32) -> Stepped
+    ensures { λ r. ⌜ _≡_ {A = Outcome Stepped} (record { answer = r; state = now (state .exit) }) (stepCall (now (table .entry)) (now (state .entry)) t) ⌝ }
+{
+    let mut index = [0u32; INDEX];
+    match admit(table, state, &mut index) {
+        Admission::Refused(ground) => Stepped::Refused(ground),
+        Admission::Admitted => calls::step(table, &index, state, t),
+    }
+}
+
+// Gives the number of pattern v on port p.
+pub fn give(table: &[u8], state: &mut [u8], p: u32, v: u32) -> Given
+    ensures { λ r. ⌜ _≡_ {A = Outcome Given} (record { answer = r; state = now (state .exit) }) (giveCall (now (table .entry)) (now (state .entry)) p v) ⌝ }
+{
+    let mut index = [0u32; INDEX];
+    match admit(table, state, &mut index) {
+        Admission::Refused(ground) => Given::Refused(ground),
+        Admission::Admitted => calls::give(table, &index, state, p, v),
+    }
+}
+
+// Takes a number from port p.
+pub fn take(table: &[u8], state: &mut [u8], p: u32) -> Taken
+    ensures { λ r. ⌜ _≡_ {A = Outcome Taken} (record { answer = r; state = now (state .exit) }) (takeCall (now (table .entry)) (now (state .entry)) p) ⌝ }
+{
+    let mut index = [0u32; INDEX];
+    match admit(table, state, &mut index) {
+        Admission::Refused(ground) => Taken::Refused(ground),
+        Admission::Admitted => calls::take(table, &index, state, p),
+    }
+}
+
+// Runs at most n steps.
+pub fn run(table: &[u8], state: &mut [u8], n: u16) -> Ran
+    ensures { λ r. ⌜ _≡_ {A = Outcome Ran} (record { answer = r; state = now (state .exit) }) (runCall (now (table .entry)) (now (state .entry)) n) ⌝ }
+{
+    let mut index = [0u32; INDEX];
+    match admit(table, state, &mut index) {
+        Admission::Refused(ground) => Ran::Refused(ground),
+        Admission::Admitted => calls::run(table, &index, state, n),
+    }
+}

@@ -1,0 +1,34 @@
+-- `sound::channels_sound` meets its contract. The loop: the counts of the channels below c are true. Assumes nothing.
+use Prim.Native.Nat.{_≤_, _-_}
+use mathlib.Core.Path.{_≡_}
+use mathlib.Core.Bool.{true}
+use borrow.Author.Tests.{not-true, not-false}
+use borrow.Author.Needs.{needs}
+use Rattle.numbers.specs.Search.{every}
+use Rattle.numbers.specs.Search.Laws.{every-laws}
+use Rattle.table.specs.Table.{tableOf}
+use Rattle.state.specs.State.{view}
+use Rattle.rules.specs.Sound.{countTrue}
+use Rattle.sound.proofs.channels_sound.Statement.{statement}
+use Rattle.sound.proofs.channels_sound.Tie as tie
+
+abbrev Inv-loop : tie.InvT-loop
+Inv-loop table state held waiting c₀ c =
+    (c ≤ 128) × (every (countTrue (tableOf table) (view state)) c ≡ true)
+
+abbrev μ-loop : tie.MeasureT-loop
+μ-loop table state held waiting c₀ c = 128 - c
+
+pub channels-sound-spec : {M : Type 1} → statement M
+channels-sound-spec =
+    tie.close
+    (tie.spec
+    Inv-loop
+    μ-loop
+    (λ c. search (every-laws, needs))
+    (λ c κs. search needs)
+    (λ c. search (every-laws, not-true))
+    (λ c. search needs)
+    (λ c. search needs)
+    (λ c. search (every-laws, not-false, needs))
+    (λ c. search every-laws))

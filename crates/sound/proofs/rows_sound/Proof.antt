@@ -1,0 +1,34 @@
+-- `sound::rows_sound` meets its contract. The loop: the rows below t are sound. Assumes nothing.
+use Prim.Native.Nat.{_≤_, _-_}
+use mathlib.Core.Path.{_≡_}
+use mathlib.Core.Bool.{true}
+use borrow.Author.Tests.{not-true, not-false}
+use borrow.Author.Needs.{needs}
+use Rattle.numbers.specs.Search.{every}
+use Rattle.numbers.specs.Search.Laws.{every-laws}
+use Rattle.table.specs.Table.{tableOf}
+use Rattle.state.specs.State.{view, thread}
+use Rattle.sound.specs.Rows.{rowSound}
+use Rattle.sound.proofs.rows_sound.Statement.{statement}
+use Rattle.sound.proofs.rows_sound.Tie as tie
+
+abbrev Inv-loop : tie.InvT-loop
+Inv-loop table index marks state t₀ t =
+    (t ≤ 64) × (every (λ t. rowSound (tableOf table) (view state) (thread (view state) t)) t ≡ true)
+
+abbrev μ-loop : tie.MeasureT-loop
+μ-loop table index marks state t₀ t = 64 - t
+
+pub rows-sound-spec : {M : Type 1} → statement M
+rows-sound-spec =
+    tie.close
+    (tie.spec
+    Inv-loop
+    μ-loop
+    (λ c. search (every-laws, needs))
+    (λ c κs. search needs)
+    (λ c. search (every-laws, not-true))
+    (λ c. search needs)
+    (λ c. search needs)
+    (λ c. search (every-laws, not-false, needs))
+    (λ c. search every-laws))

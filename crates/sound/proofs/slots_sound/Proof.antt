@@ -1,0 +1,34 @@
+-- `sound::slots_sound` meets its contract. The loop: the slots below k are sound. Assumes nothing.
+use Prim.Native.Nat.{_≤_, _-_}
+use mathlib.Core.Path.{_≡_}
+use mathlib.Core.Bool.{true}
+use borrow.Author.Tests.{not-true, not-false}
+use borrow.Author.Needs.{needs}
+use Rattle.numbers.specs.Search.{every}
+use Rattle.numbers.specs.Search.Laws.{every-laws}
+use Rattle.table.specs.Table.{tableOf}
+use Rattle.state.specs.State.{view, thread}
+use Rattle.sound.specs.Rows.{slotSound}
+use Rattle.sound.proofs.slots_sound.Statement.{statement}
+use Rattle.sound.proofs.slots_sound.Tie as tie
+
+abbrev Inv-loop : tie.InvT-loop
+Inv-loop table index marks state t n d k₀ k =
+    (k ≤ 16) × (every (slotSound (tableOf table) (view state) (thread (view state) t)) k ≡ true)
+
+abbrev μ-loop : tie.MeasureT-loop
+μ-loop table index marks state t n d k₀ k = 16 - k
+
+pub slots-sound-spec : {M : Type 1} → statement M
+slots-sound-spec =
+    tie.close
+    (tie.spec
+    Inv-loop
+    μ-loop
+    (λ c. search (every-laws, needs))
+    (λ c κs. search needs)
+    (λ c. search (every-laws, not-true))
+    (λ c. search needs)
+    (λ c. search needs)
+    (λ c. search (every-laws, not-false, needs))
+    (λ c. search every-laws))

@@ -1,0 +1,263 @@
+// Ground 10: whether a state is sound for a table. Each thread row is passed once for its own tests, once for the counts and, where it waits, once
+// for its offers.
+ghost use mathlib.Core.Path.{_≡_};
+ghost use Prim.Native.Nat.{_<_};
+ghost use Rattle.numbers.specs.Search.{every, tabulate};
+ghost use Rattle.table.specs.Table.{tableOf, ports};
+ghost use Rattle.table.specs.Layout.{definitionOf};
+ghost use Rattle.table.specs.Index.{Indexed};
+ghost use Rattle.flow.specs.Flow.{flow, marked};
+ghost use Rattle.flow.specs.Marks.{marksOf};
+ghost use Rattle.state.specs.State.{view, maxThreads, maxChannels, threadWords, rowSlots, thread, standsAt};
+ghost use Rattle.rules.specs.Holding.{countOf, holders, waiters};
+ghost use Rattle.rules.specs.Sound.{marksInRange, countTrue, portTyped, sound};
+ghost use Rattle.sound.specs.Rows.{wordZero, slotSound, rowSound};
+
+const THREADS: u32 = 64;
+
+const CHANNELS: u32 = 128;
+
+const THREAD_WORDS: u32 = 18;
+
+const ROW_SLOTS: u32 = 16;
+
+// Marks 0 to 15 of a node are slots, mark 16 is the path itself.
+const MARKS: u32 = 17;
+
+const MINUS_ONE: u32 = 4294967295;
+
+const WAITING: u32 = 2;
+
+const PORT_TYPE: u32 = 1;
+
+// Whether the marks and the turn are in range.
+fn marks_in_range(state: &[u8]) -> bool
+    ensures { λ r. ⌜ r ≡ marksInRange (view (now (state .entry))) ⌝ }
+{
+    if state::mark(state, 0) < THREADS {
+        if state::mark(state, 1) < CHANNELS {
+            return state::mark(state, 2) < THREADS;
+        }
+    }
+    false
+}
+
+// Whether node n has mark k: some path to it leaves slot k unwritten.
+fn is_marked(marks: &[u32], n: usize, k: u32) -> bool
+    ensures { λ r. ⌜ r ≡ marked (marksOf (now (marks .entry))) n k ⌝ }
+{
+    if k < MARKS {
+        return (numbers::cell_at(marks, n) >> k) % 2 == 1;
+    }
+    false
+}
+
+// Whether slot k of thread t, which is in use and stands at node n of definition d, is 0 if it is spare, typed, and filled if it must be.
+fn slot_sound(
+    table: &[u8],
+    index: &[u32],
+    marks: &[u32],
+    state: &[u8],
+    t: u32,
+    n: u32,
+    d: u32,
+    k: u32,
+) -> bool
+    requires { ⌜ Indexed (tableOf (now table)) (now index) ⌝ }
+    requires { ⌜ marksOf (now marks) ≡ flow (tableOf (now table)) ⌝ }
+    requires { ⌜ n ≡ standsAt (thread (view (now state)) t) ⌝ }
+    requires { ⌜ d ≡ definitionOf (tableOf (now table)) n ⌝ }
+    ensures { λ r. ⌜ r ≡ slotSound (tableOf (now (table .entry))) (view (now (state .entry))) (thread (view (now (state .entry))) t) k ⌝ }
+{
+    let v = program::slot(state, t, k);
+    if k < table::slots_of(table, d) {
+        let ty = program::slot_type(table, index, d, k);
+        if ty == 0 {
+            return true;
+        }
+        if v == MINUS_ONE {
+            return is_marked(marks, n as usize, k);
+        }
+        if v < CHANNELS {
+            return state::channel_word(state, v as usize, 0) == ty;
+        }
+        return false;
+    }
+    v == 0
+}
+
+fn slots_sound(
+    table: &[u8],
+    index: &[u32],
+    marks: &[u32],
+    state: &[u8],
+    t: u32,
+    n: u32,
+    d: u32,
+) -> bool
+    requires { ⌜ Indexed (tableOf (now table)) (now index) ⌝ }
+    requires { ⌜ marksOf (now marks) ≡ flow (tableOf (now table)) ⌝ }
+    requires { ⌜ n ≡ standsAt (thread (view (now state)) t) ⌝ }
+    requires { ⌜ d ≡ definitionOf (tableOf (now table)) n ⌝ }
+    ensures { λ r. ⌜ r ≡ every (slotSound (tableOf (now (table .entry))) (view (now (state .entry))) (thread (view (now (state .entry))) t)) rowSlots ⌝ }
+{
+    for k in 0..ROW_SLOTS {
+        if !slot_sound(table, index, marks, state, t, n, d, k) {
+            return false;
+        }
+    }
+    true
+}
+
+// Whether all of thread t's row is 0.
+fn row_is_zero(state: &[u8], t: u32) -> bool
+    ensures { λ r. ⌜ r ≡ every (wordZero (thread (view (now (state .entry))) t)) threadWords ⌝ }
+{
+    for k in 0..THREAD_WORDS {
+        if state::thread_word(state, t as usize, k as usize) != 0 {
+            return false;
+        }
+    }
+    true
+}
+
+// All tests of thread t's row.
+fn row_sound(table: &[u8], index: &[u32], marks: &[u32], state: &[u8], t: u32) -> bool
+    requires { ⌜ Indexed (tableOf (now table)) (now index) ⌝ }
+    requires { ⌜ marksOf (now marks) ≡ flow (tableOf (now table)) ⌝ }
+    ensures { λ r. ⌜ r ≡ rowSound (tableOf (now (table .entry))) (view (now (state .entry))) (thread (view (now (state .entry))) t) ⌝ }
+{
+    let status = state::thread_word(state, t as usize, 0);
+    if status == 0 {
+        return row_is_zero(state, t);
+    }
+    if WAITING < status {
+        return false;
+    }
+    let n = state::thread_word(state, t as usize, 1);
+    if n < table::cell(table, 0, 4) {
+        return slots_sound(
+            table,
+            index,
+            marks,
+            state,
+            t,
+            n,
+            program::definition_of(table, index, n),
+        );
+    }
+    false
+}
+
+fn rows_sound(table: &[u8], index: &[u32], marks: &[u32], state: &[u8]) -> bool
+    requires { ⌜ Indexed (tableOf (now table)) (now index) ⌝ }
+    requires { ⌜ marksOf (now marks) ≡ flow (tableOf (now table)) ⌝ }
+    ensures { λ r. ⌜ r ≡ every (λ t. rowSound (tableOf (now (table .entry))) (view (now (state .entry))) (thread (view (now (state .entry))) t)) maxThreads ⌝ }
+{
+    for t in 0..THREADS {
+        if !row_sound(table, index, marks, state, t) {
+            return false;
+        }
+    }
+    true
+}
+
+// All tests of all thread rows.
+fn threads_sound(table: &[u8], index: &[u32], state: &[u8]) -> bool
+    requires { ⌜ Indexed (tableOf (now table)) (now index) ⌝ }
+    ensures { λ r. ⌜ r ≡ every (λ t. rowSound (tableOf (now (table .entry))) (view (now (state .entry))) (thread (view (now (state .entry))) t)) maxThreads ⌝ }
+{
+    let mut marks = [0u32; 192];
+    flow::mark_flow(table, index, &mut marks);
+    rows_sound(table, index, &marks, state)
+}
+
+// The count that channel c ought to have: its holders, and the bench if it is a port.
+fn count_due(table: &[u8], state: &[u8], held: &[u8], c: u32) -> u32
+    requires { ⌜ now held ≡ tabulate maxChannels (holders (tableOf (now table)) (view (now state) .threads)) ⌝ }
+    requires { ⌜ c < maxChannels ⌝ }
+    ensures { λ r. ⌜ r ≡ countOf (tableOf (now (table .entry))) (view (now (state .entry)) .threads) c ⌝ }
+{
+    let n = tally::byte_at(held, c) as u32;
+    if c < table::cell(table, 0, 6) {
+        return 1 + n;
+    }
+    n
+}
+
+// Whether the counts of channel c are true, and it is in use exactly when its count is above 0.
+fn channel_sound(table: &[u8], state: &[u8], held: &[u8], waiting: &[u8], c: u32) -> bool
+    requires { ⌜ now held ≡ tabulate maxChannels (holders (tableOf (now table)) (view (now state) .threads)) ⌝ }
+    requires { ⌜ now waiting ≡ tabulate maxChannels (waiters (tableOf (now table)) (view (now state) .threads)) ⌝ }
+    requires { ⌜ c < maxChannels ⌝ }
+    ensures { λ r. ⌜ r ≡ countTrue (tableOf (now (table .entry))) (view (now (state .entry))) c ⌝ }
+{
+    let count = state::channel_word(state, c as usize, 1);
+    if count != count_due(table, state, held, c) {
+        return false;
+    }
+    if state::channel_word(state, c as usize, 2) != tally::byte_at(waiting, c) as u32 {
+        return false;
+    }
+    if state::channel_word(state, c as usize, 0) == 0 {
+        return count == 0;
+    }
+    0 < count
+}
+
+fn channels_sound(table: &[u8], state: &[u8], held: &[u8], waiting: &[u8]) -> bool
+    requires { ⌜ now held ≡ tabulate maxChannels (holders (tableOf (now table)) (view (now state) .threads)) ⌝ }
+    requires { ⌜ now waiting ≡ tabulate maxChannels (waiters (tableOf (now table)) (view (now state) .threads)) ⌝ }
+    ensures { λ r. ⌜ r ≡ every (countTrue (tableOf (now (table .entry))) (view (now (state .entry)))) maxChannels ⌝ }
+{
+    for c in 0..CHANNELS {
+        if !channel_sound(table, state, held, waiting, c) {
+            return false;
+        }
+    }
+    true
+}
+
+// Whether the counts of all channels are true.
+fn counts_sound(table: &[u8], index: &[u32], state: &[u8]) -> bool
+    requires { ⌜ Indexed (tableOf (now table)) (now index) ⌝ }
+    ensures { λ r. ⌜ r ≡ every (countTrue (tableOf (now (table .entry))) (view (now (state .entry)))) maxChannels ⌝ }
+{
+    let mut held = [0u8; 128];
+    let mut waiting = [0u8; 128];
+    tally::tally(table, index, state, &mut held, &mut waiting);
+    channels_sound(table, state, &held, &waiting)
+}
+
+// Whether the ports are in use, of type 1.
+fn ports_sound(table: &[u8], state: &[u8]) -> bool
+    ensures { λ r. ⌜ r ≡ every (portTyped (tableOf (now (table .entry))) (view (now (state .entry)))) (ports (tableOf (now (table .entry)))) ⌝ }
+{
+    let n = table::cell(table, 0, 6);
+    for c in 0..n {
+        if state::channel_word(state, c as usize, 0) != PORT_TYPE {
+            return false;
+        }
+    }
+    true
+}
+
+// Ground 10.
+pub fn is_sound(table: &[u8], index: &[u32], state: &[u8]) -> bool
+    requires { ⌜ Indexed (tableOf (now table)) (now index) ⌝ }
+    ensures { λ r. ⌜ r ≡ sound (tableOf (now (table .entry))) (view (now (state .entry))) ⌝ }
+{
+    if !marks_in_range(state) {
+        return false;
+    }
+    if !threads_sound(table, index, state) {
+        return false;
+    }
+    if !counts_sound(table, index, state) {
+        return false;
+    }
+    if !ports_sound(table, state) {
+        return false;
+    }
+    waits::waits_rightly(table, index, state)
+}

@@ -1,0 +1,44 @@
+-- The state before thread 0 has its row, one row after the other.
+pub mod Laws
+use Prim.Native.Nat.{ℕ}
+use mathlib.Core.Bool.{cond}
+use mathlib.Core.List.{List, [], _∷_}
+use lib.Dec.{ltb}
+use lib.ListN.{replicate}
+use Rattle.numbers.specs.Search.{tabulate}
+use Rattle.table.specs.Table.{Table, ports}
+use Rattle.state.specs.State.{State, maxThreads, maxChannels, withChannels}
+use Rattle.rules.specs.Start.{freeRow, freeChannelRow}
+use Rattle.starts.specs.Filled.{filledTo}
+
+-- the row of channel c where the first p channels are ports: the bench holds a port, and nobody else does
+unfoldable pub portHeld : ℕ → ℕ → List ℕ
+portHeld p c = cond (ltb c p) (1 ∷ 1 ∷ 0 ∷ []) freeChannelRow
+
+module _ (s : State) where
+  -- the first n thread rows are free, and all of them are
+  unfoldable pub freedTo : ℕ → State
+  freedTo n = record { marks = s .marks; threads = filledTo (λ t. freeRow) (s .threads) n; channels = s .channels }
+
+  unfoldable pub freed : State
+  freed = record { marks = s .marks; threads = replicate maxThreads freeRow; channels = s .channels }
+
+  module _ (p : ℕ) where
+    -- of the first n channels the ports are held, and of all channels
+    unfoldable pub openedTo : ℕ → State
+    openedTo n = withChannels s (filledTo (portHeld p) (s .channels) n)
+
+    unfoldable pub opened : State
+    opened = withChannels s (tabulate maxChannels (portHeld p))
+
+    -- the marks with p ports
+    unfoldable pub marked : State
+    marked = record { marks = 1 ∷ p ∷ 0 ∷ []; threads = s .threads; channels = s .channels }
+
+-- the state before thread 0 has its row
+unfoldable pub unstarted : Table → State
+unstarted tb = record {
+  marks = 1 ∷ ports tb ∷ 0 ∷ [];
+  threads = replicate maxThreads freeRow;
+  channels = tabulate maxChannels (portHeld (ports tb));
+}

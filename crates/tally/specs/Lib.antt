@@ -1,0 +1,3 @@
+pub mod General
+pub mod Fresh
+pub mod Tally

@@ -1,0 +1,191 @@
+/* Grounds 8 to 12: buffers of a wrong length, tables, threads and ports; and which ground comes first. */
+#include <stdlib.h>
+#include <string.h>
+
+#include "bench.h"
+#include "cases.h"
+#include "checks.h"
+#include "listing.h"
+
+/* A number that no call takes as a thread or a port. */
+#define NO_SUCH 4294967295u
+
+/* The first bytes of a buffer, and zeros behind its end, in a buffer of exactly this length. */
+static uint8_t *resized(const uint8_t *bytes, size_t has, size_t length) {
+    uint8_t *other = filled(length, 0);
+    memcpy(other, bytes, length < has ? length : has);
+    return other;
+}
+
+static void expect_all(const char *what, int ground, buffers with, uint32_t number) {
+    for (int call = START; call < CALLS; call++) {
+        expect_refused(what, call, with, number, ground);
+    }
+}
+
+/* All calls, with these lengths in place of the right ones; then with bytes that are wrong too. */
+static void expect_length(const bench *b, size_t table_length, size_t state_length) {
+    uint8_t *table = resized(b->table, PITHREAD_TABLE_BYTES, table_length);
+    uint8_t *state = resized(b->state, PITHREAD_STATE_BYTES, state_length);
+    buffers with = {table, table_length, state, state_length};
+    expect_all("lengths", PITHREAD_BUFFER_LENGTH, with, 0);
+    memset(table, PATTERN, table_length);
+    memset(state, PATTERN, state_length);
+    expect_all("lengths of wrong bytes", PITHREAD_BUFFER_LENGTH, with, NO_SUCH);
+    free(table);
+    free(state);
+}
+
+static void wrong_lengths(void) {
+    static const size_t tables[] = {0, 1, PITHREAD_STATE_BYTES, PITHREAD_TABLE_BYTES - 1,
+                                    PITHREAD_TABLE_BYTES + 1, 2 * PITHREAD_TABLE_BYTES};
+    static const size_t states[] = {0, 1, PITHREAD_STATE_BYTES - 4, PITHREAD_STATE_BYTES - 1,
+                                    PITHREAD_STATE_BYTES + 1, PITHREAD_TABLE_BYTES};
+    bench *b = OPENED("lengths", listing);
+    for (size_t place = 0; place < sizeof tables / sizeof *tables; place++) {
+        expect_length(b, tables[place], PITHREAD_STATE_BYTES);
+    }
+    for (size_t place = 0; place < sizeof states / sizeof *states; place++) {
+        expect_length(b, PITHREAD_TABLE_BYTES, states[place]);
+    }
+    expect_length(b, PITHREAD_TABLE_BYTES - 1, PITHREAD_STATE_BYTES + 1);
+    closed(b);
+}
+
+static void put_number(uint8_t *table, size_t place, int value) {
+    table[2 * place] = (uint8_t)(unsigned)value;
+    table[2 * place + 1] = (uint8_t)((unsigned)value >> 8);
+}
+
+/* All calls with this table; then with a state and a number that are wrong too. */
+static void expect_table(const char *what, const bench *b, const uint8_t *table) {
+    uint8_t *state = copied(b->state, PITHREAD_STATE_BYTES);
+    buffers with = {table, PITHREAD_TABLE_BYTES, state, PITHREAD_STATE_BYTES};
+    expect_all(what, PITHREAD_TABLE, with, 0);
+    memset(state, PATTERN, PITHREAD_STATE_BYTES);
+    expect_all(what, PITHREAD_TABLE, with, NO_SUCH);
+    free(state);
+}
+
+/* The listing's table with up to three numbers changed; places count from 0, twelve in a line. */
+typedef struct {
+    const char *what;
+    size_t count;
+    struct {
+        size_t place;
+        int value;
+    } numbers[3];
+} changed;
+
+static const changed damages[] = {
+    {"the header's kind", 1, {{0, 2}}},
+    {"a type too many in the header", 1, {{1, 2}}},
+    {"a type out of range", 1, {{12 + 1, 2}}},
+    {"a negative count of parameters", 1, {{2 * 12 + 1, -1}}},
+    {"a port without a parameter", 1, {{6, 1}}},
+    {"a number set in a channel's slot", 1, {{13 * 12 + 5, 0}}},
+    {"a slot sent that is not written", 3, {{13 * 12 + 4, 0}, {13 * 12 + 5, 0}, {13 * 12 + 6, 0}}},
+    {"a node out of reach", 1, {{12 * 12 + 9, 5}}},
+    {"a branch that leads back", 1, {{13 * 12 + 8, 2}}},
+    {"an unused field", 1, {{15 * 12 + 11, 1}}},
+    {"a number behind the last line", 1, {{16 * 12, 1}}},
+    {"the last number of the table", 1, {{PITHREAD_TABLE_BYTES / 2 - 1, 1}}},
+    {"the last byte of the table", 1, {{PITHREAD_TABLE_BYTES / 2 - 1, 256}}},
+};
+
+static void wrong_tables(void) {
+    bench *b = OPENED("tables", listing);
+    for (size_t damage = 0; damage < sizeof damages / sizeof *damages; damage++) {
+        uint8_t *table = copied(b->table, PITHREAD_TABLE_BYTES);
+        for (size_t place = 0; place < damages[damage].count; place++) {
+            put_number(table, damages[damage].numbers[place].place, damages[damage].numbers[place].value);
+        }
+        expect_table(damages[damage].what, b, table);
+        free(table);
+    }
+    for (int byte = 0; byte < 256; byte += 51) {
+        uint8_t *table = filled(PITHREAD_TABLE_BYTES, byte);
+        expect_table("a table of one byte repeated", b, table);
+        free(table);
+    }
+    closed(b);
+}
+
+/* A constant may be any number: this change of the listing's table is one that a file has. */
+static void changed_table_of_another_file(void) {
+    bench *b = OPENED("another constant", listing);
+    put_number(b->table, 13 * 12 + 6, -300);
+    memcpy(b->loaded, b->table, PITHREAD_TABLE_BYTES);
+    walk(b, 0, 2);
+    want_thread(b, 0, READY(3, 0, -300));
+    step_takes(b, 0, 2, 0, PITHREAD_NOBODY);
+    closed(b);
+}
+
+static void start_reads_no_state(void) {
+    bench *b = OPENED("start over any state", listing);
+    for (int byte = 0; byte < 256; byte += 51) {
+        uint8_t *state = filled(PITHREAD_STATE_BYTES, byte);
+        buffers with = {b->table, PITHREAD_TABLE_BYTES, state, PITHREAD_STATE_BYTES};
+        if (byte > 0) {
+            expect_refused("a state of one byte repeated", RUN, with, 0, PITHREAD_STATE);
+        }
+        check(ask(START, with, 0, 0).numbers[0] == PITHREAD_DONE, "start over any state");
+        check(memcmp(state, b->wanted, PITHREAD_STATE_BYTES) == 0, "start over any state");
+        free(state);
+    }
+    closed(b);
+}
+
+static void wrong_threads(void) {
+    static const uint32_t threads[] = {64, 65, 128, 256, 65536, 2147483647u, 2147483648u, 4294967232u, NO_SUCH};
+    bench *b = OPENED("threads", listing);
+    for (size_t place = 0; place < sizeof threads / sizeof *threads; place++) {
+        step_refused(b, threads[place], PITHREAD_THREAD);
+    }
+    step_refused(b, 1, PITHREAD_THREAD);
+    step_refused(b, 63, PITHREAD_THREAD);
+    walk(b, 0, 2);
+    walk(b, 1, 1);
+    step_refused(b, 1, PITHREAD_THREAD);
+    settle(b);
+    step_refused(b, 0, PITHREAD_THREAD);
+    closed(b);
+}
+
+static void expect_port(const bench *b, uint32_t port) {
+    buffers with = {b->table, PITHREAD_TABLE_BYTES, b->state, PITHREAD_STATE_BYTES};
+    expect_refused(b->name, GIVE, with, port, PITHREAD_PORT);
+    expect_refused(b->name, TAKE, with, port, PITHREAD_PORT);
+}
+
+/* Two ports, and beside them a channel of the same type on which a thread waits. */
+static void wrong_ports(void) {
+    static const line lines[] = {
+        TYPE(0), DEFINITION(2, 4, 3), SLOT(1), SLOT(1), SLOT(1), SLOT(0),
+        CHOICE(1), CHOICE(1), END,
+        BRANCH(ALWAYS, NEW(2), 1),
+        BRANCH(ALWAYS, RECEIVE(2, 3), 2),
+    };
+    static const uint32_t ports[] = {2, 3, 8, 127, 128, 256, 65536, 2147483648u, 4294967294u, NO_SUCH};
+    bench *b = OPENED("ports", lines);
+    settle(b);
+    for (size_t place = 0; place < sizeof ports / sizeof *ports; place++) {
+        expect_port(b, ports[place]);
+    }
+    give(b, 1, 6, PITHREAD_NOBODY);
+    closed(b);
+    b = OPENED("no ports", listing);
+    expect_port(b, 0);
+    expect_port(b, 1);
+    closed(b);
+}
+
+void check_refusals(void) {
+    wrong_lengths();
+    wrong_tables();
+    changed_table_of_another_file();
+    start_reads_no_state();
+    wrong_threads();
+    wrong_ports();
+}

@@ -1,0 +1,130 @@
+//! What many calls have met, so that a run cannot pass by missing its aim.
+
+use std::collections::BTreeMap;
+
+use generate::{Layout, Words, WAITING};
+use interface::{Answer, Call, Stepped, BRANCH, CALLED, NOBODY};
+use reference::Fault;
+
+/// Something that was met: what it was, and a number that says more.
+type Event = (&'static str, i32);
+
+/// The actions that have a partner.
+const SEND_AND_RECEIVE: [i16; 2] = [1, 2];
+
+#[derive(Default)]
+pub struct Traffic {
+    calls: usize,
+    met: BTreeMap<Event, usize>,
+}
+
+impl Traffic {
+    /// Counts a call with its answer.
+    pub fn add(&mut self, call: Call, answer: &Answer) {
+        self.calls += 1;
+        let name = match call {
+            Call::Start => "start",
+            Call::Step { .. } => "step",
+            Call::Give { .. } => "give",
+            Call::Take { .. } => "take",
+            Call::Run { .. } => "run",
+        };
+        self.note(name, answer.refusal());
+        if answer.refusal() == 0 {
+            self.add_done(call, answer);
+        }
+    }
+
+    fn add_done(&mut self, call: Call, answer: &Answer) {
+        let somebody = |thread: i32| i32::from(thread != NOBODY);
+        match answer {
+            Answer::Started(_) => {}
+            Answer::Stepped(stepped) => self.note("act", stepped.act),
+            Answer::Given(given) => self.note("given to somebody", somebody(given.thread)),
+            Answer::Taken(taken) => self.note("taken from somebody", somebody(taken.thread)),
+            Answer::Ran(ran) => {
+                self.note("reason", ran.reason);
+                self.note("run of hundreds of steps", i32::from(ran.steps >= 200));
+                if call == (Call::Run { n: 0 }) {
+                    self.note("run of 0 steps, reason", ran.reason);
+                }
+            }
+        }
+    }
+
+    /// Counts what a step that was done did, by the file and by the state before it.
+    pub fn add_step(&mut self, layout: &Layout, before: &Words, thread: usize, stepped: &Stepped) {
+        match stepped.act {
+            BRANCH => self.add_branch(layout, before, thread, stepped),
+            CALLED => {
+                let row = layout.node(stepped.node);
+                let own = layout.definition_of(stepped.node) == Some(row[2] as usize);
+                self.note("call of itself", i32::from(own));
+                let falls = row[3..].windows(2).any(|pair| pair[0] > pair[1] && pair[1] > 0);
+                self.note("call that swaps", i32::from(falls));
+            }
+            _ => {}
+        }
+    }
+
+    fn add_branch(&mut self, layout: &Layout, before: &Words, thread: usize, stepped: &Stepped) {
+        let row = layout.branch(stepped.node, stepped.branch);
+        self.note("action", i32::from(row[4]));
+        self.note("guard", i32::from(row[1]));
+        self.note("branch", stepped.branch);
+        self.note("overflow", i32::from(overflows(row, before.thread(thread))));
+        if SEND_AND_RECEIVE.contains(&row[4]) {
+            let types = layout.definition_of(stepped.node).map(|definition| layout.slot_types(definition));
+            let channel = types.is_some_and(|types| types[row[6] as usize] != 0);
+            self.note("exchange of a channel", i32::from(channel));
+            self.note("exchange with a thread above", i32::from(stepped.partner > thread as i32));
+            self.note("another like the partner", i32::from(has_double(before, stepped.partner)));
+        }
+    }
+
+    /// Counts what is wrong with a state that was refused.
+    pub fn add_fault(&mut self, fault: Fault) {
+        self.note("fault", fault as i32);
+    }
+
+    pub fn note(&mut self, what: &'static str, number: i32) {
+        *self.met.entry((what, number)).or_default() += 1;
+    }
+
+    pub fn calls(&self) -> usize {
+        self.calls
+    }
+
+    pub fn print(&self) {
+        println!("{} calls", self.calls);
+        for ((what, number), times) in &self.met {
+            println!("{what} {number}: {times} times");
+        }
+    }
+
+    /// Each of these numbers came at least so often.
+    pub fn expect(&self, what: &'static str, numbers: impl IntoIterator<Item = i32>, times: usize) {
+        for number in numbers {
+            let met = self.met.get(&(what, number)).copied().unwrap_or(0);
+            assert!(met >= times, "{what} {number}: {met} times, wanted {times}");
+        }
+    }
+}
+
+/// Whether the sum or difference of a branch leaves the range of a word.
+fn overflows(row: &[i16], thread: &[i32]) -> bool {
+    let slot = |field: usize| thread[2 + row[field] as usize];
+    match row[4] {
+        6 => slot(6).checked_add(slot(7)).is_none(),
+        7 => slot(6).checked_sub(slot(7)).is_none(),
+        _ => false,
+    }
+}
+
+/// Whether a thread was waiting and another waited at the same node with the same slots.
+fn has_double(before: &Words, thread: i32) -> bool {
+    let Ok(thread) = usize::try_from(thread) else { return false };
+    let row = before.thread(thread);
+    let like = |other: &usize| *other != thread && before.thread(*other) == row;
+    row[0] == WAITING && before.threads(WAITING).iter().any(like)
+}

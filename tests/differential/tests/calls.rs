@@ -1,0 +1,229 @@
+//! The archive's calls against the reference, on very many states.
+
+use differential::{for_seeds, Calls, Sequence, Traffic};
+use generate::{
+    any_valid, cases, padded, procedures, profiled, table_of, File, Layout, Random, Words, FREE, LIVELY,
+    READY,
+};
+use interface::{Call, BRANCH, ENDED, LACKED_CHANNEL_ROW, NO_CHANNEL_ROW, NO_THREAD_ROW, STATE_BYTES, WAITS};
+use reference::Fault;
+
+/// Files of each profile, and calls on each file.
+const FILES: u64 = 300;
+const CALLS: usize = 150;
+
+/// The actions of a branch.
+const EVERY_ACTION: [i32; 8] = [0, 1, 2, 3, 4, 5, 6, 7];
+const SEND_AND_RECEIVE: [i32; 2] = [1, 2];
+
+#[test]
+fn lively_files() {
+    let mut calls = Calls::new(archive::ENGINE);
+    let mut traffic = Traffic::default();
+    for (place, profile) in LIVELY.iter().enumerate() {
+        for_seeds(10_000_000 + 100_000 * place as u64, FILES, |random, about| {
+            let about = format!("{about}, {}", profile.name);
+            let file = profiled(random, profile);
+            let mut sequence = Sequence::new(&mut calls, &mut traffic, &file, &about);
+            sequence.call(Call::Run { n: random.pick(&[0, 30, 200, 2_000]) });
+            sequence.play(random, CALLS);
+        });
+    }
+    traffic.print();
+    assert!(traffic.calls() >= 300_000);
+    expect_refusals(&traffic);
+    expect_moves(&traffic);
+    expect_faults(&traffic);
+}
+
+/// Each call came to each ground that it has.
+fn expect_refusals(traffic: &Traffic) {
+    traffic.expect("start", [0, 8, 9], 50);
+    for name in ["step", "give", "take", "run"] {
+        traffic.expect(name, [0, 8, 9, 10], 500);
+    }
+    traffic.expect("step", [11], 3_000);
+    traffic.expect("give", [12], 1_000);
+    traffic.expect("take", [12], 1_000);
+    traffic.expect("step", [NO_THREAD_ROW], 1_000);
+    traffic.expect("step", [NO_CHANNEL_ROW], 50);
+}
+
+/// Each act, each action and each reason came.
+fn expect_moves(traffic: &Traffic) {
+    traffic.expect("act", ENDED..=BRANCH, 300);
+    traffic.expect("action", EVERY_ACTION, 500);
+    traffic.expect("action", SEND_AND_RECEIVE, 1_000);
+    traffic.expect("exchange of a channel", [0, 1], 500);
+    traffic.expect("exchange with a thread above", [0, 1], 1_000);
+    traffic.expect("another like the partner", [1], 150);
+    traffic.expect("guard", 0..=4, 50);
+    traffic.expect("branch", 0..=7, 5);
+    traffic.expect("overflow", [1], 20);
+    traffic.expect("call of itself", [0, 1], 2_000);
+    traffic.expect("call that swaps", [1], 2_000);
+    traffic.expect("given to somebody", [0, 1], 1_000);
+    traffic.expect("taken from somebody", [0, 1], 1_000);
+    traffic.expect("reason", 0..LACKED_CHANNEL_ROW, 1_000);
+    traffic.expect("reason", [LACKED_CHANNEL_ROW], 50);
+    traffic.expect("run of hundreds of steps", [1], 1_000);
+    traffic.expect("run of 0 steps, reason", [0], 1_000);
+}
+
+/// Each thing that can be wrong with a state came, and changes that left it sound.
+fn expect_faults(traffic: &Traffic) {
+    traffic.expect("changed state is sound", [0, 1], 10_000);
+    traffic.expect("fault", Fault::Mark as i32..Fault::Meets as i32, 500);
+    traffic.expect("fault", [Fault::Meets as i32], 150);
+}
+
+#[test]
+fn files_of_any_size() {
+    let mut calls = Calls::new(archive::ENGINE);
+    let mut traffic = Traffic::default();
+    for_seeds(11_000_000, 1_000, |random, about| {
+        let file = any_valid(random);
+        Sequence::new(&mut calls, &mut traffic, &file, about).play(random, 20);
+    });
+    assert!(traffic.calls() >= 20_000);
+    traffic.expect("act", ENDED..=BRANCH, 100);
+}
+
+/// The files written by hand, with their names.
+fn hand_made() -> Vec<(&'static str, File)> {
+    vec![
+        ("listing", File::new(cases::LISTING.map(padded).to_vec())),
+        ("pair", File::new(cases::PAIR.map(padded).to_vec())),
+        ("ping-pong", procedures::ping_pong()),
+        ("crowd", procedures::crowd(60)),
+        ("crowd of 64", procedures::crowd(64)),
+        ("both ways", procedures::both_ways()),
+        ("reckoner", procedures::reckoner()),
+        ("creators", procedures::creators()),
+        ("spawners", procedures::spawners()),
+        ("ports", procedures::ports()),
+    ]
+}
+
+/// Calls from far within long runs.
+#[test]
+fn files_written_by_hand() {
+    let mut calls = Calls::new(archive::ENGINE);
+    let mut traffic = Traffic::default();
+    for (place, (name, file)) in hand_made().iter().enumerate() {
+        for_seeds(12_000_000 + 1_000 * place as u64, 20, |random, about| {
+            let about = format!("{about}, {name}");
+            let mut sequence = Sequence::new(&mut calls, &mut traffic, file, &about);
+            for _ in 0..random.below(20) {
+                sequence.call(Call::Run { n: random.below(4_000) as u16 });
+            }
+            sequence.play(random, 100);
+        });
+    }
+    traffic.print();
+    traffic.expect("step", [NO_CHANNEL_ROW], 100);
+    traffic.expect("reason", [LACKED_CHANNEL_ROW], 100);
+    traffic.expect("another like the partner", [1], 50);
+}
+
+/// The state of a file after so many steps.
+fn state_after(calls: &mut Calls, table: &[u8], n: u16) -> Vec<u8> {
+    calls.compare(Call::Start, table, &[3; STATE_BYTES], "start");
+    let state = calls.state().to_vec();
+    calls.compare(Call::Run { n }, table, &state, "run");
+    calls.state().to_vec()
+}
+
+/// Every word of some states, set to each of many numbers.
+#[test]
+fn each_word_of_a_state() {
+    let mut calls = Calls::new(archive::ENGINE);
+    let mut sound = [0; 2];
+    let bases = [(procedures::crowd(4), 40), (procedures::ports(), 9), (procedures::creators(), 50)];
+    for (file, steps) in bases {
+        let table = table_of(&file.rows);
+        let mut state = state_after(&mut calls, &table, steps);
+        for place in 0..STATE_BYTES / 4 {
+            let kept: [u8; 4] = state[4 * place..4 * place + 4].try_into().expect("a word");
+            let old = i32::from_le_bytes(kept);
+            for number in [old - 1, old + 1, -1, 0, 1, 2, 3, 63, 64, 127, 128, old ^ 1 << 8, i32::MIN] {
+                state[4 * place..4 * place + 4].copy_from_slice(&number.to_le_bytes());
+                let about = format!("word {place} is {number}");
+                let answer = calls.compare(Call::Run { n: 3 }, &table, &state, &about);
+                sound[usize::from(answer.refusal() == 0)] += 1;
+            }
+            state[4 * place..4 * place + 4].copy_from_slice(&kept);
+        }
+    }
+    println!("{sound:?}");
+    assert!(sound[0] > 20_000 && sound[1] > 3_000);
+}
+
+/// Two waiting threads and a ready one at a choice of eight branches, each with any one of the
+/// branches open or none: who can meet whom at which place, and what is no sound state.
+#[test]
+fn every_place_of_a_choice() {
+    const CLOSED: i32 = 100;
+    let mut calls = Calls::new(archive::ENGINE);
+    let mut traffic = Traffic::default();
+    for places in 0..8 {
+        let file = procedures::wide(places);
+        let (table, layout) = (table_of(&file.rows), Layout::new(&file));
+        let waiting = Words::new(&state_after(&mut calls, &table, 20));
+        for number in 0..9 * 9 * 9 {
+            let open = [number / 81, number / 9 % 9, number % 9];
+            let mut words = waiting.clone();
+            for (thread, open) in open.into_iter().enumerate() {
+                words.thread_mut(thread)[4] = if open < 8 { open } else { CLOSED };
+            }
+            words.thread_mut(1)[0] = READY;
+            words.recount(&layout);
+            let about = format!("{places} places on, open: {open:?}");
+            let call = Call::Step { thread: 1 };
+            let answer = calls.compare(call, &table, &words.to_bytes(), &about);
+            traffic.add(call, &answer);
+        }
+    }
+    traffic.print();
+    traffic.expect("step", [0], 1_000);
+    traffic.expect("step", [10], 3_000);
+    traffic.expect("act", [WAITS, BRANCH], 300);
+}
+
+/// States that are no states at all.
+#[test]
+fn hostile_states() {
+    let mut calls = Calls::new(archive::ENGINE);
+    let mut random = Random::new(13_000_000);
+    for (name, file) in hand_made() {
+        let table = table_of(&file.rows);
+        for byte in [0, 1, 2, 127, 128, 255] {
+            calls.compare(Call::Run { n: 9 }, &table, &[byte; STATE_BYTES], name);
+        }
+        for round in 0..200 {
+            let few = random.pick(&[3, 64, 256]);
+            let state: Vec<u8> = (0..STATE_BYTES).map(|_| random.below(few) as u8).collect();
+            let about = format!("{name}, random bytes, round {round}");
+            assert_eq!(calls.compare(Call::Step { thread: 0 }, &table, &state, &about).refusal(), 10);
+        }
+    }
+}
+
+/// The state of one file under the table of another.
+#[test]
+fn states_of_other_files() {
+    let mut calls = Calls::new(archive::ENGINE);
+    let mut refused = [0; 2];
+    for_seeds(14_000_000, 1_500, |random, about| {
+        let [first, second] = [(); 2].map(|_| {
+            let profile = random.below(LIVELY.len());
+            table_of(&profiled(random, &LIVELY[profile]).rows)
+        });
+        let state = state_after(&mut calls, &first, random.below(60) as u16);
+        let empty = Words::new(&state).threads(FREE).len() == 64;
+        let answer = calls.compare(Call::Run { n: 2 }, &second, &state, about);
+        refused[usize::from(answer.refusal() == 10)] += usize::from(!empty);
+    });
+    println!("{refused:?}");
+    assert!(refused[1] > 500);
+}

@@ -1,0 +1,62 @@
+//! Calls with right and wrong numbers.
+
+use interface::{Call, THREADS};
+
+use crate::random::Random;
+use crate::words::{Words, READY};
+
+/// Some call that fits the state, or nearly. Where no thread is ready, steps and runs are fewer.
+pub fn any_call(random: &mut Random, state: &[u8], ports: usize) -> Call {
+    let ready = Words::new(state).threads(READY);
+    let (steps, runs, starts) = if ready.is_empty() { (4, 4, 8) } else { (50, 24, 1) };
+    let exchanges = if ports == 0 { 2 } else { 20 };
+    let kinds = [(0, steps), (1, runs), (2, exchanges), (3, exchanges), (4, starts)];
+    match random.weighted(&kinds) {
+        0 => Call::Step { thread: any_thread(random, &ready) },
+        1 => Call::Run { n: any_count(random) },
+        2 => Call::Give { port: any_port(random, ports), number: any_number(random) },
+        3 => Call::Take { port: any_port(random, ports) },
+        _ => Call::Start,
+    }
+}
+
+/// Mostly a ready thread, if there is one.
+fn any_thread(random: &mut Random, ready: &[usize]) -> u32 {
+    let any = random.below(THREADS);
+    let ready = random.choose(ready).unwrap_or(any);
+    near_or_far(random, ready, any, THREADS)
+}
+
+/// Mostly a port that there is.
+fn any_port(random: &mut Random, ports: usize) -> u32 {
+    let right = random.below(ports.max(1));
+    near_or_far(random, right, ports, 8)
+}
+
+/// Mostly the right number; else another near it, one beyond the limit, or one that is right in its
+/// lower bits.
+fn near_or_far(random: &mut Random, right: usize, other: usize, limit: usize) -> u32 {
+    if random.chance(85) {
+        return right as u32;
+    }
+    let [right, other, limit] = [right, other, limit].map(|number| number as u32);
+    let bit = 1 << random.within(6..=31);
+    random.pick(&[other, other, limit, limit + 1, right | bit, right | bit, 127, 128, u32::MAX])
+}
+
+fn any_count(random: &mut Random) -> u16 {
+    let few = random.below(12) as u16;
+    let some = random.below(120) as u16;
+    match random.below(200) {
+        0 => random.pick(&[u16::MAX, u16::MAX - 1, 1 << 15]),
+        1..20 => some * 8,
+        20..80 => some,
+        _ => few,
+    }
+}
+
+fn any_number(random: &mut Random) -> i32 {
+    let any = random.bits() as i32;
+    let few = random.below(4) as i32 - 1;
+    random.pick(&[few, few, few, any, i32::MAX, i32::MIN])
+}

@@ -1,0 +1,155 @@
+//! The calls on a table and a state, with the grounds from 8 on.
+//!
+//! Each call reads both buffers into structures of fixed size, works on these, and writes the state
+//! once at its end: `code` is the table, `state` the state, `sound` reads it with ground 10, `moves`
+//! and `meeting` are a step.
+
+mod code;
+mod meeting;
+mod moves;
+mod sound;
+mod state;
+
+use interface::{
+    Engine, Given, Ran, Started, Stepped, Taken, ALL_STEPS, BUFFER_LENGTH, LACKED_CHANNEL_ROW,
+    LACKED_THREAD_ROW, NOBODY, NONE_READY, NO_CHANNEL_ROW, NO_THREAD_ROW, PORT, STATE, STATE_BYTES, TABLE,
+    THREAD, THREADS,
+};
+
+use crate::TABLE_BYTES;
+use code::{Code, Direction};
+use meeting::Offer;
+use moves::Lack;
+pub use sound::Fault;
+use state::State;
+
+/// The reference's calls.
+pub const ENGINE: Engine = Engine { start, step, give, take, run };
+
+/// The number of a ground.
+type Ground = i32;
+
+pub fn start(table: &[u8], state: &mut [u8]) -> Started {
+    let started = with_table(table, state.len(), |code| {
+        State::at_start(code).write(state);
+        Ok(())
+    });
+    Started { refusal: started.err().unwrap_or(0) }
+}
+
+pub fn step(table: &[u8], state: &mut [u8], thread: u32) -> Stepped {
+    let stepped = with_both(table, state, |code, read, state| {
+        let number = thread as usize;
+        if number >= THREADS || read.ready >> number & 1 == 0 {
+            return Err(THREAD);
+        }
+        let stepped = read.step(code, number).map_err(|lack| match lack {
+            Lack::ThreadRow => NO_THREAD_ROW,
+            Lack::ChannelRow => NO_CHANNEL_ROW,
+        })?;
+        read.write(state);
+        Ok(stepped)
+    });
+    stepped.unwrap_or_else(|refusal| Stepped { refusal, ..Stepped::default() })
+}
+
+/// Gives a number to a thread that waits for one on a port.
+pub fn give(table: &[u8], state: &mut [u8], port: u32, number: i32) -> Given {
+    match meet_bench(table, state, port, Direction::Receive, |slot| *slot = number) {
+        Ok(met) => Given { refusal: 0, thread: thread_of(&met) },
+        Err(refusal) => Given { refusal, ..Given::default() },
+    }
+}
+
+/// Takes a number from a thread that waits to send one on a port.
+pub fn take(table: &[u8], state: &mut [u8], port: u32) -> Taken {
+    let mut number = 0;
+    match meet_bench(table, state, port, Direction::Send, |slot| number = *slot) {
+        Ok(met) => Taken { refusal: 0, thread: thread_of(&met), number },
+        Err(refusal) => Taken { refusal, ..Taken::default() },
+    }
+}
+
+pub fn run(table: &[u8], state: &mut [u8], n: u16) -> Ran {
+    let ran = with_both(table, state, |code, read, state| {
+        let ran = run_steps(code, read, n);
+        read.write(state);
+        Ok(ran)
+    });
+    ran.unwrap_or_else(|refusal| Ran { refusal, ..Ran::default() })
+}
+
+/// What is wrong with a state, if its table and both lengths are right.
+pub fn fault(table: &[u8], state: &[u8]) -> Option<Fault> {
+    let fault = with_table(table, state.len(), |code| Ok(State::new(code).read(code, state).err()));
+    fault.ok().flatten()
+}
+
+/// Does the work on a table that, beside a state of so many bytes, passes grounds 8 and 9.
+fn with_table<T>(
+    table: &[u8],
+    state_bytes: usize,
+    work: impl FnOnce(&Code) -> Result<T, Ground>,
+) -> Result<T, Ground> {
+    if table.len() != TABLE_BYTES || state_bytes != STATE_BYTES {
+        return Err(BUFFER_LENGTH);
+    }
+    let mut code = Code::new();
+    code.read(table).ok_or(TABLE)?;
+    work(&code)
+}
+
+/// Does the work on a table and a state that pass grounds 8 to 10.
+fn with_both<T>(
+    table: &[u8],
+    state: &mut [u8],
+    work: impl FnOnce(&Code, &mut State, &mut [u8]) -> Result<T, Ground>,
+) -> Result<T, Ground> {
+    with_table(table, state.len(), |code| {
+        let mut read = State::new(code);
+        read.read(code, state).map_err(|_| STATE)?;
+        work(code, &mut read, state)
+    })
+}
+
+/// The bench meets the first thread with an offer in this direction on a port; the exchange is made
+/// on the thread's slot.
+fn meet_bench(
+    table: &[u8],
+    state: &mut [u8],
+    port: u32,
+    direction: Direction,
+    exchange: impl FnOnce(&mut i32),
+) -> Result<Option<Offer>, Ground> {
+    with_both(table, state, |code, read, state| {
+        let port = port as usize;
+        if port >= code.ports {
+            return Err(PORT);
+        }
+        let met = read.find_offer(code, port, direction, 0);
+        if let Some(offer) = &met {
+            exchange(&mut read.threads[offer.thread].slots[offer.value]);
+            read.go_on(offer);
+            read.write(state);
+        }
+        Ok(met)
+    })
+}
+
+fn thread_of(met: &Option<Offer>) -> i32 {
+    met.as_ref().map_or(NOBODY, |offer| offer.thread as i32)
+}
+
+fn run_steps(code: &Code, state: &mut State, n: u16) -> Ran {
+    let stopped = |steps, reason, thread| Ran { refusal: 0, steps: i32::from(steps), reason, thread };
+    for steps in 0..n {
+        let Some(thread) = state.next_ready() else { return stopped(steps, NONE_READY, NOBODY) };
+        state.turn = (thread + 1) % THREADS;
+        match state.step(code, thread) {
+            Ok(_) => {}
+            Err(Lack::ThreadRow) => return stopped(steps, LACKED_THREAD_ROW, thread as i32),
+            Err(Lack::ChannelRow) => return stopped(steps, LACKED_CHANNEL_ROW, thread as i32),
+        }
+    }
+    stopped(n, ALL_STEPS, NOBODY)
+}

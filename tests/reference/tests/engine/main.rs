@@ -1,0 +1,12 @@
+//! The reference's calls against answers worked out by hand.
+
+mod bench;
+mod channels;
+mod listing;
+mod meetings;
+mod moves;
+mod ports;
+mod refusals;
+mod runs;
+mod sound;
+mod threads;
