@@ -44,7 +44,11 @@ pub fn value_by(table: &[u8], index: &[u32], state: &[u8], t: u32, i: u32) -> u3
     requires { ⌜ Indexed (tableOf (now table)) (now index) ⌝ }
     ensures { λ r. ⌜ r ≡ valueBy (tableOf (now (table .entry))) (thread (view (now (state .entry))) t) i ⌝ }
 {
-    program::slot(state, t, table::cell(table, row_of(table, index, state, t, i), 6))
+    program::slot(
+        state,
+        t,
+        table::cell(table, row_of(table, index, state, t, i), 6),
+    )
 }
 
 // Thread t goes on at a node after a meeting: a receiver has v in its slot.
@@ -71,11 +75,28 @@ pub fn write_met(table: &[u8], index: &[u32], state: &mut [u8], t: u32, i: u32, 
     let row = program::branch_at(table, index, node, i);
     let next = program::next_of(table, index, node, row);
     let slot = table::cell(table, row, 6);
-    go_on(state, t, side_of(program::act_of(table, row)), next, slot, v);
+    go_on(
+        state,
+        t,
+        side_of(program::act_of(table, row)),
+        next,
+        slot,
+        v,
+    );
 }
 
 // Threads t and u go on after the meeting of their branches i and j, at which t is given x and u is given y.
-fn write_both(table: &[u8], index: &[u32], state: &mut [u8], t: u32, i: u32, x: u32, u: u32, j: u32, y: u32)
+fn write_both(
+    table: &[u8],
+    index: &[u32],
+    state: &mut [u8],
+    t: u32,
+    i: u32,
+    x: u32,
+    u: u32,
+    j: u32,
+    y: u32,
+)
     requires { ⌜ Indexed (tableOf (now table)) (now index) ⌝ }
     requires { ⌜ length (now state) ≡ stateLength ⌝ }
     requires { ⌜ t < 64 ⌝ }
@@ -153,7 +174,12 @@ fn type_by(table: &[u8], index: &[u32], state: &[u8], t: u32, i: u32) -> u32
     ensures { λ r. ⌜ r ≡ typeBy (tableOf (now (table .entry))) (thread (view (now (state .entry))) t) i ⌝ }
 {
     let node = writes::stands_at(state, t);
-    program::type_at(table, index, node, table::cell(table, program::branch_at(table, index, node, i), 5))
+    program::type_at(
+        table,
+        index,
+        node,
+        table::cell(table, program::branch_at(table, index, node, i), 5),
+    )
 }
 
 // Thread t makes channel c by its branch i, and the channels' mark moves one past it.
@@ -183,7 +209,13 @@ fn write_child(table: &[u8], index: &[u32], state: &mut [u8], t: u32, i: u32, u:
     let node = writes::stands_at(state, t);
     let row = program::branch_at(table, index, node, i);
     writes::resume(state, t, program::next_of(table, index, node, row));
-    writes::put_row(state, u, 1, program::child_of(table, index, node, row), &slots);
+    writes::put_row(
+        state,
+        u,
+        1,
+        program::child_of(table, index, node, row),
+        &slots,
+    );
 }
 
 // The same, and the threads' mark moves one past the child.

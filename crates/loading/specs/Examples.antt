@@ -46,10 +46,11 @@ verdicts = tt
 abbrev row : ℕ → ℕ → ℕ → ℕ → ℕ → ℕ → ℕ → ℕ → ℕ → ℕ → List ℕ
 row a b c d e f g h i j = a ∷ b ∷ c ∷ d ∷ e ∷ f ∷ g ∷ h ∷ i ∷ j ∷ 0 ∷ 0 ∷ []
 
--- the listing's input with this header, this definition and this branch of node 2
-abbrev input : List ℕ → List ℕ → List ℕ → List ℕ
-input header definition second =
-    fileText (header
+-- the listing's rows with this header, this definition and this branch of node 2: one type that carries numbers; slots: a channel, a number; nodes:
+-- 0 new, 1 spawn, 2 set, 3 send, 4 receive, 5 end
+abbrev pub inputRows : List ℕ → List ℕ → List ℕ → List (List ℕ)
+inputRows header definition second =
+    header
     ∷ row 2 0 0 0 0 0 0 0 0 0
     ∷ definition
     ∷ row 4 1 0 0 0 0 0 0 0 0
@@ -65,16 +66,20 @@ input header definition second =
     ∷ second
     ∷ row 6 0 0 0 1 0 1 0 5 0
     ∷ row 6 0 0 0 2 0 1 0 5 0
-    ∷ [])
+    ∷ []
+
+-- ... and their file
+abbrev input : List ℕ → List ℕ → List ℕ → List ℕ
+input header definition second = fileText (inputRows header definition second)
 
 -- one type, one definition, two slots, six nodes, five branches; the definition has no parameters; slot 1 is set to 7, and node 3 is next
-abbrev header : List ℕ
+abbrev pub header : List ℕ
 header = row 1 1 1 2 6 5 0 0 0 0
 
-abbrev definition : List ℕ
+abbrev pub definition : List ℕ
 definition = row 3 0 2 6 0 0 0 0 0 0
 
-abbrev setting : List ℕ
+abbrev pub setting : List ℕ
 setting = row 6 0 0 0 5 1 7 0 3 0
 
 pub listing-sound : verdict (input header definition setting) ≡ Sound

@@ -19,6 +19,7 @@ use Rattle.rules.specs.declared.Stepped.{Stepped}
 use Rattle.rules.specs.declared.Stepped.the-variants as Stepped
 use Rattle.rules.specs.declared.Turn.{Turn}
 use Rattle.rules.specs.declared.Turn.the-variants.{Went, Stopped}
+use Rattle.loading.specs.Examples.{inputRows, header, definition, setting}
 use Rattle.engine.specs.Numbers.{actNumber, branchNumber, partnerNumber, reasonNumber, heldUpNumber}
 
 -- opens all that a run computes with
@@ -46,29 +47,9 @@ module _ (tb : Table) where
 
 -- ---- the example
 
-abbrev row : ℕ → ℕ → ℕ → ℕ → ℕ → ℕ → ℕ → ℕ → ℕ → ℕ → List ℕ
-row a b c d e f g h i j = a ∷ b ∷ c ∷ d ∷ e ∷ f ∷ g ∷ h ∷ i ∷ j ∷ 0 ∷ 0 ∷ []
-
--- one type that carries numbers; slots: a channel, a number; nodes: 0 new, 1 spawn, 2 set to 7, 3 send, 4 receive, 5 end
+-- the rows of the file that `loading/specs/Examples.antt` loads
 abbrev pub example : Table
-example =
-    row 1 1 1 2 6 5 0 0 0 0
-    ∷ row 2 0 0 0 0 0 0 0 0 0
-    ∷ row 3 0 2 6 0 0 0 0 0 0
-    ∷ row 4 1 0 0 0 0 0 0 0 0
-    ∷ row 4 0 0 0 0 0 0 0 0 0
-    ∷ row 5 1 1 0 0 0 0 0 0 0
-    ∷ row 5 1 1 0 0 0 0 0 0 0
-    ∷ row 5 1 1 0 0 0 0 0 0 0
-    ∷ row 5 1 1 0 0 0 0 0 0 0
-    ∷ row 5 1 1 0 0 0 0 0 0 0
-    ∷ row 5 0 0 0 0 0 0 0 0 0
-    ∷ row 6 0 0 0 3 0 0 0 1 0
-    ∷ row 6 0 0 0 4 0 0 0 2 4
-    ∷ row 6 0 0 0 5 1 7 0 3 0
-    ∷ row 6 0 0 0 1 0 1 0 5 0
-    ∷ row 6 0 0 0 2 0 1 0 5 0
-    ∷ []
+example = inputRows header definition setting
 
 pub example-listing : listing example 1000 (started example) ≡
     (0 ∷ 0 ∷ 3 ∷ 0 ∷ minusOne ∷ [])

@@ -158,7 +158,11 @@ pub fn write_call(table: &[u8], index: &[u32], state: &mut [u8], t: u32)
     ensures { λ _. ⌜ view (now (state .exit)) ≡ written (tableOf (now (table .entry))) (view (now (state .entry))) t Calls ⌝ }
 {
     let mut slots = [0u32; 16];
-    let d = table::cell(table, table::node_row(table) + stands_at(state, t) as usize, 2);
+    let d = table::cell(
+        table,
+        table::node_row(table) + stands_at(state, t) as usize,
+        2,
+    );
     call_slots(table, index, state, t, d, &mut slots);
     let node = table::start_of(table, index, Part::Nodes, d);
     put_row(state, t, 1, node, &slots);
