@@ -62,7 +62,7 @@ pub fn step(table: &[u8], index: &[u32], state: &mut [u8], t: u32) -> Stepped
 {
     if can_step(state, t) {
         let node = state::thread_word(state, t as usize, 1);
-        let m = steps::step_ready(table, index, state, t);
+        let m = steps::step_ready(table, index, state, t, MAX_THREADS);
         return step_answer(node, m);
     }
     Stepped::Refused(Refusal::Thread)
@@ -78,7 +78,7 @@ pub fn give(table: &[u8], index: &[u32], state: &mut [u8], p: u32, v: u32) -> Gi
     if table::cell(table, 0, 6) <= p {
         return Given::Refused(Refusal::Port);
     }
-    match moves::find_partner(table, index, state, BENCH, Direction::In, p) {
+    match moves::find_partner(table, index, state, BENCH, Direction::In, p, MAX_THREADS) {
         Partner::Nobody => Given::Nobody,
         Partner::At(u, j) => {
             steps::make_met(table, index, state, u, j, v);
@@ -97,7 +97,7 @@ pub fn take(table: &[u8], index: &[u32], state: &mut [u8], p: u32) -> Taken
     if table::cell(table, 0, 6) <= p {
         return Taken::Refused(Refusal::Port);
     }
-    match moves::find_partner(table, index, state, BENCH, Direction::Out, p) {
+    match moves::find_partner(table, index, state, BENCH, Direction::Out, p, MAX_THREADS) {
         Partner::Nobody => Taken::Nobody,
         Partner::At(u, j) => {
             let v = branches::value_by(table, index, state, u, j);
@@ -114,8 +114,12 @@ pub fn run(table: &[u8], index: &[u32], state: &mut [u8], n: u16) -> Ran
     requires { ⌜ settled (tableOf (now table)) (view (now state)) ≡ view (now state) ⌝ }
     ensures { λ r. ⌜ _≡_ {A = Outcome Ran} (record { answer = r; state = now (state .exit) }) (runBy Admitted (now (table .entry)) (now (state .entry)) n) ⌝ }
 {
+    let mut top = moves::rows_used(state);
     for i in 0..n {
-        match steps::take_turn(table, index, state) {
+        let round = steps::take_turn(table, index, state, top);
+        top = round.top;
+        let turn = round.turn;
+        match turn {
             Turn::Went => {}
             Turn::Stopped(reason) => return Ran::Done(i as u32, reason),
         }

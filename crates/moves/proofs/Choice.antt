@@ -7,8 +7,9 @@ use borrow.Author.Tests.{ne-eqb, lt-ltb, le-ltb}
 use Rattle.numbers.specs.Rows.{at}
 use Rattle.numbers.specs.Search.{first}
 use Rattle.numbers.specs.Search.Laws.{first-more, first-hit}
-use Rattle.table.specs.Table.{Table, nodeRow}
-use Rattle.table.specs.Layout.{branchCount}
+use Rattle.table.specs.Table.{Table, nodeRow, branchRow}
+use Rattle.table.specs.Layout.{branchCount, start}
+use Rattle.table.specs.declared.Part.the-variants.{Branches}
 use Rattle.state.specs.State.{State, thread, slotOf}
 use Rattle.rules.specs.Program.{branchAt, actOf, guardHolds, opposite}
 use Rattle.rules.specs.Offers.{partnerOf}
@@ -77,18 +78,19 @@ pub ruleset acts = (tau-goes, assignment-goes, new-creates, spawn-spawns, meetin
 
 -- ---- by a branch
 
-module _ (tb : Table) (s : State) (t i n r : ℕ) (e : r ≡ branchAt tb n i) (f : n ≡ at (s .threads) t 1) where
-  pub branch-row : r ≡ branchAt tb (at (s .threads) t 1) i
-  branch-row = rw (← f) e
+module _ (tb : Table) (s : State) (t i : ℕ) where
+  pub branch-row : (r : ℕ) → r ≡ branchRow tb + start tb Branches (at (s .threads) t 1) → r + i ≡ branchAt tb (at (s .threads) t 1) i
+  unfolding branchAt
+  branch-row r e = omega arith
 
-  module _ (g : Bool) (h : g ≡ guardHolds tb r (thread s t)) where
+  module _ (r : ℕ) (e : r ≡ branchAt tb (at (s .threads) t 1) i) (g : Bool) (h : g ≡ guardHolds tb r (thread s t)) where
     pub branch-true : (m : Move) → g ≡ true → m ≡ actMove tb s t i (actOf tb r) → m ≡ branchMove tb s t i
     unfolding branchMove
-    branch-true m k j = rw (← f, ← e, ← h, k) j
+    branch-true m k j = rw (← e, ← h, k) j
 
     pub branch-false : g ≡ false → Waits ≡ branchMove tb s t i
     unfolding branchMove
-    branch-false k = rw (← f, ← e, ← h, k)
+    branch-false k = rw (← e, ← h, k)
 
 pub ahead-arm : (r : Bool) (m n : Move) → m ≡ n → r ≡ goesAhead n → r ≡ goesAhead m
 ahead-arm r m n e f = rw e f
@@ -104,22 +106,29 @@ module _ (tb : Table) (s : State) (t i : ℕ) where
     pub choice-passed : a ≡ false → first (ahead tb s t) (i + 1) ≡ i + 1
     choice-passed h = first-more (ahead tb s t) i a past ahead-is h
 
-    pub choice-taken : (n k : ℕ) → n ≡ branchCount tb k → k ≡ at (s .threads) t 1 → a ≡ true → i < n → m ≡ choice tb s t
+    pub choice-taken : (n : ℕ) → n ≡ branchCount tb (at (s .threads) t 1) → a ≡ true → i < n → m ≡ choice tb s t
     unfolding choice
-    choice-taken n k b c h l =
+    choice-taken n b h l =
         let q : i ≡ first (ahead tb s t) n = first-hit (ahead tb s t) i n a past ahead-is h l in
-        rw (← c, ← b, ← q, lt-ltb i n l) e
+        rw (← b, ← q, lt-ltb i n l) e
 
-  pub choice-waits : (n k : ℕ) → first (ahead tb s t) i ≡ i → n ≡ branchCount tb k → k ≡ at (s .threads) t 1 → n ≤ i → i ≤ n → Waits ≡ choice tb s t
+  pub choice-waits : (n : ℕ) → first (ahead tb s t) i ≡ i → n ≡ branchCount tb (at (s .threads) t 1) → n ≤ i → i ≤ n → Waits ≡ choice tb s t
   unfolding choice
-  choice-waits n k past b c h l =
+  choice-waits n past b h l =
       let q : i ≡ n = omega arith in
       let all : first (ahead tb s t) n ≡ n = rw q at past in
-      rw (← c, ← b, all, le-ltb n n (omega arith))
+      rw (← b, all, le-ltb n n (omega arith))
 
 -- ---- at any node
 
+pub from-read : (tb : Table) (s : State) (t r n : ℕ) → r ≡ branchRow tb + start tb Branches n → n ≡ at (s .threads) t 1 → r ≡ branchRow tb + start tb Branches (at (s .threads) t 1)
+from-read tb s t r n e f = rw (← f) e
+
 module _ (tb : Table) (s : State) (t k n b : ℕ) (e : k ≡ at tb (b + n) 1) (f : b ≡ nodeRow tb) (g : n ≡ at (s .threads) t 1) where
+  pub count-read : (x : ℕ) → k ≡ 1 → x ≡ at tb (b + n) 2 → x ≡ branchCount tb (at (s .threads) t 1)
+  unfolding branchCount
+  count-read x h i = rw (← g, ← f, ← e, h) i
+
   pub move-choice : (m : Move) → k ≡ 1 → m ≡ choice tb s t → m ≡ move tb s t
   unfolding move
   move-choice m h i = rw (← g, ← f, ← e, h) i

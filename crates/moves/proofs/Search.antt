@@ -14,7 +14,17 @@ use Rattle.rules.specs.Offers.{offersIn, offersAt, offeringBranch, offers, answ
 use Rattle.rules.specs.declared.Direction.{Direction}
 use Rattle.rules.specs.declared.Partner.{Partner}
 use Rattle.rules.specs.declared.Partner.the-variants.{Nobody, At}
+use Rattle.moves.specs.Top.{UsedBelow, top-le, answers-rest}
 use Rattle.moves.specs.Tried.{tried, firstRow, row-tried, answers-tried, tried-all}
+
+-- branch i of thread u, of which n are tried, in row r + i, was tried
+module _ (tb : Table) (s : State) (d : Direction) (c u r i n : ℕ) (f : r ≡ firstRow tb s u n) (q : Bool) (e : q ≡ offersIn tb (thread s u) d c (r + i)) (h : i < n) where
+  offer-is : q ≡ offersAt tb (thread s u) d c i
+  unfolding offersAt
+  offer-is = rw (← row-tried tb s u n i r f h) e
+
+  pub branch-passed : first (offersAt tb (thread s u) d c) i ≡ i → q ≡ false → first (offersAt tb (thread s u) d c) (i + 1) ≡ i + 1
+  branch-passed g o = first-more (offersAt tb (thread s u) d c) i q g offer-is o
 
 module _ (tb : Table) (s : State) (t : ℕ) (d : Direction) (c : ℕ) where
   -- none of the threads answers
@@ -28,42 +38,40 @@ module _ (tb : Table) (s : State) (t : ℕ) (d : Direction) (c : ℕ) where
   no-channel h =
       none-answers (first-void (answers tb s t d c) maxThreads (λ u l. rw (le-ltb c 128 h) (caseB (eqb u t) (λ e. rw e) (λ e. rw e))))
 
-  pub nobody-is : (f : Partner) (u : ℕ) → f ≡ Nobody → first (answers tb s t d c) u ≡ u → 64 ≤ u → u ≤ 64 → f ≡ partnerOf tb s t d c
-  nobody-is f u e past h l = let q : u ≡ 64 = omega arith in e ∙ none-answers (rw q at past)
+  -- no other length is met
+  pub no-length : (n : ℕ) → (n ≡ 6156 → ⊥) → n ≡ 6156 → Nobody ≡ partnerOf tb s t d c
+  no-length n h e = absurd (h e)
+
+  pub nobody-is : (f : Partner) (u top : ℕ) → f ≡ Nobody → first (answers tb s t d c) u ≡ u → top ≤ u → UsedBelow s top → f ≡ partnerOf tb s t d c
+  nobody-is f u top e past h k = e ∙ none-answers (answers-rest s top k tb t d c u past h)
 
   module _ (u : ℕ) where
-    -- branch i of thread u, in row r + i, was tried
-    module _ (r i n : ℕ) (q : Bool) (e : q ≡ offersIn tb (thread s u) d c (r + i)) (f : r ≡ firstRow tb s u n) (h : i < n) where
-      offer-is : q ≡ offersAt tb (thread s u) d c i
-      unfolding offersAt
-      offer-is = rw (← row-tried tb s u n i r f h) e
+    -- it offers, and none before it does
+    module _ (r i n : ℕ) (f : r ≡ firstRow tb s u n) (q : Bool) (e : q ≡ offersIn tb (thread s u) d c (r + i)) (h : i < n) (past : first (answers tb s t d c) u ≡ u) (l : c < 128) (b : n ≡ tried tb s t u) (g : first (offersAt tb (thread s u) d c) i ≡ i) (o : q ≡ true) where
+      offered : q ≡ offersAt tb (thread s u) d c i
+      offered = offer-is tb s d c u r i n f q e h
 
-      pub branch-passed : first (offersAt tb (thread s u) d c) i ≡ i → q ≡ false → first (offersAt tb (thread s u) d c) (i + 1) ≡ i + 1
-      branch-passed g o = first-more (offersAt tb (thread s u) d c) i q g offer-is o
+      thread-is : u < 64 → answering tb s t d c ≡ u
+      unfolding answering
+      thread-is k =
+          sym (first-hit (answers tb s t d c) u 64 (answers tb s t d c u) past refl
+          (rw (answers-tried tb s t d c u l, ← b) (some-intro (offersAt tb (thread s u) d c) n i h (sym offered ∙ o))) k)
 
-      -- it offers, and none before it does
-      module _ (past : first (answers tb s t d c) u ≡ u) (l : c < 128) (b : n ≡ tried tb s t u) (g : first (offersAt tb (thread s u) d c) i ≡ i) (o : q ≡ true) where
-        thread-is : u < 64 → answering tb s t d c ≡ u
-        unfolding answering
-        thread-is k =
-            sym (first-hit (answers tb s t d c) u 64 (answers tb s t d c u) past refl
-            (rw (answers-tried tb s t d c u l, ← b) (some-intro (offersAt tb (thread s u) d c) n i h (sym offer-is ∙ o))) k)
+      branch-is : offeringBranch tb (thread s u) d c ≡ i
+      unfolding offeringBranch
+      branch-is =
+          let w : n ≡ branchCount tb (standsAt (thread s u)) = b ∙ tried-all tb s t u i (rw (← b) h) in
+          rw (← w) (sym (first-hit (offersAt tb (thread s u) d c) i n q g offered o h))
 
-        branch-is : offeringBranch tb (thread s u) d c ≡ i
-        unfolding offeringBranch
-        branch-is =
-            let w : n ≡ branchCount tb (standsAt (thread s u)) = b ∙ tried-all tb s t u i (rw (← b) h) in
-            rw (← w) (sym (first-hit (offersAt tb (thread s u) d c) i n q g offer-is o h))
-
-        pub found-is : u < 64 → At u i ≡ partnerOf tb s t d c
-        unfolding partnerOf
-        found-is k = rw (thread-is k, lt-ltb u 64 k, branch-is)
+      pub found-is : (top : ℕ) → u < top → UsedBelow s top → At u i ≡ partnerOf tb s t d c
+      unfolding partnerOf
+      found-is top h k = let l : u < 64 = omega (arith, top-le s top k) in rw (thread-is l, lt-ltb u 64 l, branch-is)
 
     -- no branch of thread u that is tried offers
-    pub thread-passed : (n i : ℕ) → first (answers tb s t d c) u ≡ u → c < 128 → n ≡ tried tb s t u → first (offersAt tb (thread s u) d c) i ≡ i
-        → n ≤ i → i ≤ n → first (answers tb s t d c) (u + 1) ≡ u + 1
+    pub thread-passed : (n i : ℕ) → n ≡ tried tb s t u → first (offersAt tb (thread s u) d c) i ≡ i → n ≤ i → i ≤ n → c < 128
+        → first (answers tb s t d c) u ≡ u → first (answers tb s t d c) (u + 1) ≡ u + 1
     unfolding some
-    thread-passed n i past l b g h j =
+    thread-passed n i b g h j l past =
         let w : i ≡ n = omega arith in
         let all : first (offersAt tb (thread s u) d c) n ≡ n = rw w at g in
         first-more (answers tb s t d c) u (answers tb s t d c u) past refl (rw (answers-tried tb s t d c u l, ← b, all) (le-ltb n n (omega arith)))

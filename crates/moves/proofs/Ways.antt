@@ -9,7 +9,7 @@ use lib.Dec.{eqb}
 use borrow.Author.Tests.{eq-eqb, ne-eqb, eqb-true, not-true, not-false}
 use Rattle.numbers.specs.Rows.{at}
 use Rattle.numbers.specs.Search.Laws.{caseB}
-use Rattle.table.specs.Table.{Table, branchRow}
+use Rattle.table.specs.Table.{Table, nodeRow, branchRow}
 use Rattle.table.specs.Layout.{branchCount, start}
 use Rattle.table.specs.declared.Part.the-variants.{Branches}
 use Rattle.state.specs.State.{State, slotOf}
@@ -61,19 +61,28 @@ module _ (tb : Table) (row : List ℕ) (d : Direction) (c r : ℕ) (m : Bool) (e
 
 -- ---- how many branches are tried, and from which row on
 
-module _ (tb : Table) (s : State) (t u : ℕ) where
+-- the number of branches of node n, whose row b + n was read
+module _ (tb : Table) (b n k : ℕ) (e : k ≡ at tb (b + n) 1) (f : b ≡ nodeRow tb) where
+  pub count-choice : (r : ℕ) → k ≡ 1 → r ≡ at tb (b + n) 2 → r ≡ branchCount tb n
+  unfolding branchCount
+  count-choice r g h = rw (← f, ← e, g) h
+
+  pub count-none : (k ≡ 1 → ⊥) → 0 ≡ branchCount tb n
+  unfolding branchCount
+  count-none g = rw (← f, ← e, ne-eqb k 1 g)
+
+module _ (tb : Table) (s : State) (t u w : ℕ) (e : w ≡ at (s .threads) u 0) where
+  pub tried-idle : (w ≡ 2 → ⊥) → 0 ≡ tried tb s t u
+  unfolding tried
+  tried-idle g = rw (← e, ne-eqb w 2 g) (caseB (eqb u t) (λ a. rw a) (λ a. rw a))
+
   pub tried-own : u ≡ t → 0 ≡ tried tb s t u
   unfolding tried
   tried-own f = rw (eq-eqb u t f)
 
-  module _ (w : ℕ) (e : w ≡ at (s .threads) u 0) (f : u ≡ t → ⊥) where
-    pub tried-waiting : (n r : ℕ) → w ≡ 2 → n ≡ at (s .threads) u 1 → r ≡ branchCount tb n → r ≡ tried tb s t u
-    unfolding tried
-    tried-waiting n r g h i = rw (ne-eqb u t f, ← e, g, i, h)
-
-    pub tried-idle : (w ≡ 2 → ⊥) → 0 ≡ tried tb s t u
-    unfolding tried
-    tried-idle g = rw (ne-eqb u t f, ← e, ne-eqb w 2 g)
+  pub tried-waiting : (n r : ℕ) → (u ≡ t → ⊥) → w ≡ 2 → n ≡ at (s .threads) u 1 → r ≡ branchCount tb n → r ≡ tried tb s t u
+  unfolding tried
+  tried-waiting n r f g h i = rw (ne-eqb u t f, ← e, g, i, h)
 
 pub ruleset tries = (tried-own, tried-waiting, tried-idle)
 
@@ -82,9 +91,9 @@ module _ (tb : Table) (s : State) (u n : ℕ) where
   unfolding firstRow
   row-void e = rw e
 
-  pub row-first : (b x p : ℕ) → b ≡ branchRow tb → x ≡ at (s .threads) u 1 → p ≡ start tb Branches x → (n ≡ 0 → ⊥) → b + p ≡ firstRow tb s u n
+  pub row-first : (r x : ℕ) → r ≡ branchRow tb + start tb Branches x → x ≡ at (s .threads) u 1 → (n ≡ 0 → ⊥) → r ≡ firstRow tb s u n
   unfolding firstRow
-  row-first b x p e f g h = rw (ne-eqb n 0 h, e, g, f)
+  row-first r x e f h = rw (ne-eqb n 0 h, e, f)
 
 -- ---- one past a number
 

@@ -12,7 +12,7 @@ use Rattle.numbers.specs.Search.{first}
 use Rattle.numbers.specs.Search.Laws.{caseB, contra, first-passes, first-below}
 use Rattle.table.specs.Table.{Table}
 use Rattle.table.specs.Layout.{branchCount}
-use Rattle.state.specs.State.{State, maxThreads, maxChannels, threadMark, channelMark, thread, standsAt, slotOf, isReady}
+use Rattle.state.specs.State.{State, maxThreads, maxChannels, threadMark, channelMark, thread, standsAt, slotOf, isReady, isWaiting}
 use Rattle.rules.specs.Program.{kindOf, branchAt, fieldA, actOf, guardHolds, opposite}
 use Rattle.rules.specs.Offers.{partnerOf}
 use Rattle.rules.specs.Moves.{isFreeThread, isFreeChannel, freeThread, freeChannel, meeting, creation, spawning, goesAhead, actMove, branchMove, ahead, choice, move}
@@ -24,7 +24,7 @@ use Rattle.rules.specs.declared.Partner.the-variants.{Nobody, At}
 use Rattle.rules.specs.declared.Move.{Move}
 use Rattle.rules.specs.declared.Move.the-variants.{Ends, Calls, Waits, Goes, Creates, Spawns, Meets, LacksThread, LacksChannel}
 use Rattle.moves.specs.Around.{around-in}
-use Rattle.moves.specs.Partners.{partner-in}
+use Rattle.moves.specs.Partners.{offers-says, partner-in}
 
 module _ (tb : Table) (s : State) (t : ℕ) where
   -- the kind of the node at which the thread stands, its branches, and the row of branch i
@@ -113,6 +113,14 @@ module _ (tb : Table) (s : State) (t : ℕ) where
       let (d, k, f) = h in
       let (l, o, a, b, g) = partner-in tb s t (opposite d) (slotOf (thread s t) (fieldA tb (rowAt i))) u j f in
       (l, o)
+
+  pub meets-waiting : (i u j : ℕ) → move tb s t ≡ Meets i u j → isWaiting (thread s u) ≡ true
+  unfolding Says
+  meets-waiting i u j e =
+      let h : Says (Meets i u j) = rw e at move-says in
+      let (d, k, f) = h in
+      let (l, o, a, b, g) = partner-in tb s t (opposite d) (slotOf (thread s t) (fieldA tb (rowAt i))) u j f in
+      offers-says tb (thread s u) (opposite d) (slotOf (thread s t) (fieldA tb (rowAt i))) a .1
 
   pub spawns-free : (i u : ℕ) → move tb s t ≡ Spawns i u → (u < maxThreads) × (isFreeThread s u ≡ true)
   unfolding Says freeThread

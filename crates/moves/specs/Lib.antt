@@ -1,4 +1,5 @@
 pub mod Tried
+pub mod Top
 pub mod Around
 pub mod Partners
 pub mod Decided

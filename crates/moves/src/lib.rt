@@ -1,13 +1,17 @@
 // Which move a ready thread makes: the search for a partner, for a free row and for the next ready thread, and the choice of a branch.
 ghost use mathlib.Core.Path.{_≡_};
-ghost use Prim.Native.Nat.{_≤_, _<_};
-ghost use Rattle.table.specs.Table.{tableOf};
+ghost use Prim.Native.Nat.{_+_, _≤_, _<_};
+ghost use lib.ListN.{length};
+ghost use Rattle.table.specs.Table.{tableOf, nodeRow, branchRow};
+ghost use Rattle.table.specs.Layout.{branchCount, start};
+ghost use Rattle.table.specs.declared.Part.the-variants.{Branches};
 ghost use Rattle.table.specs.Index.{Indexed};
-ghost use Rattle.state.specs.State.{view, thread, standsAt, slotOf};
+ghost use Rattle.state.specs.State.{view, thread, standsAt, slotOf, stateLength};
 ghost use Rattle.rules.specs.Program.{branchAt, fieldA, actOf, opposite};
 ghost use Rattle.rules.specs.Offers.{meets?, offersIn, partnerOf};
 ghost use Rattle.rules.specs.Moves.{firstFrom, oneUp, isFreeThread, isFreeChannel, freeThread, freeChannel, meeting, creation, spawning, goesAhead, actMove, branchMove, choice, move};
 ghost use Rattle.rules.specs.Calls.{isReadyThread, nextReady};
+ghost use Rattle.moves.specs.Top.{UsedBelow};
 ghost use Rattle.moves.specs.Tried.{tried, firstRow};
 use rules::Act;
 use rules::Direction;
@@ -18,6 +22,8 @@ use table::Part;
 const THREADS: u32 = 64;
 
 const CHANNELS: u32 = 128;
+
+const STATE_BYTES: usize = 6156;
 
 // Whether the branch in a row is a meeting of direction d.
 fn is_meeting(table: &[u8], row: usize, d: Direction) -> bool
@@ -43,33 +49,79 @@ fn offers_in(table: &[u8], row: usize, state: &[u8], u: u32, d: Direction, c: u3
     program::guard_holds(table, row, state, u)
 }
 
-// How many branches of thread u are tried for thread t: none of its own, and none of a thread that does not wait.
-fn branches_tried(table: &[u8], state: &[u8], t: u32, u: u32) -> u32
-    ensures { λ r. ⌜ r ≡ tried (tableOf (now (table .entry))) (view (now (state .entry))) t u ⌝ }
+// The number of branches of a node, where the rows of the nodes begin at a row.
+fn branches_of(table: &[u8], nodes: usize, node: u32) -> u32
+    requires { ⌜ nodes ≡ nodeRow (tableOf (now table)) ⌝ }
+    requires { ⌜ nodes ≤ 196608 ⌝ }
+    ensures { λ r. ⌜ r ≡ branchCount (tableOf (now (table .entry))) node ⌝ }
+    ensures { λ r. ⌜ r < 65536 ⌝ }
 {
-    if u == t {
-        return 0;
-    }
-    if state::thread_word(state, u as usize, 0) == 2 {
-        return table::branch_count(table, state::thread_word(state, u as usize, 1));
+    let row = nodes + node as usize;
+    if table::cell(table, row, 1) == 1 {
+        return table::cell(table, row, 2);
     }
     0
 }
 
-// The row of the first branch of thread u, of which n are tried; 0 where none is.
-fn first_row(table: &[u8], index: &[u32], state: &[u8], u: u32, n: u32) -> usize
+// How many branches of thread u are tried for thread t: none of its own, and none of a thread that does not wait.
+fn branches_tried(table: &[u8], nodes: usize, state: &[u8], t: u32, u: u32) -> u32
+    requires { ⌜ nodes ≡ nodeRow (tableOf (now table)) ⌝ }
+    requires { ⌜ nodes ≤ 196608 ⌝ }
+    ensures { λ r. ⌜ r ≡ tried (tableOf (now (table .entry))) (view (now (state .entry))) t u ⌝ }
+{
+    if state::thread_word(state, u as usize, 0) != 2 {
+        return 0;
+    }
+    if u == t {
+        return 0;
+    }
+    branches_of(table, nodes, state::thread_word(state, u as usize, 1))
+}
+
+// The row of the first branch of a node, where the rows of the nodes begin at a row.
+fn first_branch(table: &[u8], index: &[u32], nodes: usize, node: u32) -> usize
     requires { ⌜ Indexed (tableOf (now table)) (now index) ⌝ }
+    requires { ⌜ nodes ≡ nodeRow (tableOf (now table)) ⌝ }
+    requires { ⌜ nodes ≤ 196608 ⌝ }
+    ensures { λ r. ⌜ r ≡ branchRow (tableOf (now (table .entry))) + start (tableOf (now (table .entry))) Branches node ⌝ }
+    ensures { λ r. ⌜ r ≤ 12844864 ⌝ }
+{
+    let branches = nodes + table::cell(table, 0, 4) as usize;
+    branches + table::start_of(table, index, Part::Branches, node) as usize
+}
+
+// The row of the first branch of thread u, of which n are tried; 0 where none is.
+fn first_row(table: &[u8], index: &[u32], nodes: usize, state: &[u8], u: u32, n: u32) -> usize
+    requires { ⌜ Indexed (tableOf (now table)) (now index) ⌝ }
+    requires { ⌜ nodes ≡ nodeRow (tableOf (now table)) ⌝ }
+    requires { ⌜ nodes ≤ 196608 ⌝ }
     ensures { λ r. ⌜ r ≡ firstRow (tableOf (now (table .entry))) (view (now (state .entry))) u n ⌝ }
     ensures { λ r. ⌜ r ≤ 12844864 ⌝ }
 {
     if n == 0 {
         return 0;
     }
-    let node = state::thread_word(state, u as usize, 1);
-    table::branch_row(table) + table::start_of(table, index, Part::Branches, node) as usize
+    first_branch(
+        table,
+        index,
+        nodes,
+        state::thread_word(state, u as usize, 1),
+    )
 }
 
-// The first waiting thread other than t that offers d on channel c, and the first of its branches that does.
+// The number from which on no row is in use, seen to be at most that of all rows.
+fn at_most_all(state: &[u8], top: u32) -> u32
+    requires { ⌜ UsedBelow (view (now state)) top ⌝ }
+    ensures { λ r. ⌜ UsedBelow (view (now (state .entry))) r ⌝ }
+{
+    if top < THREADS {
+        return top;
+    }
+    THREADS
+}
+
+// The first waiting thread other than t that offers d on channel c, and the first of its branches that does. No row from top on is in use.
+// The length is as it is required to be: it is tested, and top taken as 64 at most, so that the reads of the rows need no tests of their own.
 pub fn find_partner(
     table: &[u8],
     index: &[u32],
@@ -77,17 +129,25 @@ pub fn find_partner(
     t: u32,
     d: Direction,
     c: u32,
+    top: u32,
 ) -> Partner
     requires { ⌜ Indexed (tableOf (now table)) (now index) ⌝ }
+    requires { ⌜ length (now state) ≡ stateLength ⌝ }
+    requires { ⌜ UsedBelow (view (now state)) top ⌝ }
     ensures { λ r. ⌜ r ≡ partnerOf (tableOf (now (table .entry))) (view (now (state .entry))) t d c ⌝ }
 {
     if CHANNELS <= c {
         return Partner::Nobody;
     }
+    if state.len() != STATE_BYTES {
+        return Partner::Nobody;
+    }
+    let limit = at_most_all(state, top);
+    let nodes = table::node_row(table);
     let mut found = Partner::Nobody;
-    'threads: for u in 0..THREADS {
-        let n = branches_tried(table, state, t, u);
-        let from = first_row(table, index, state, u, n);
+    'threads: for u in 0..limit {
+        let n = branches_tried(table, nodes, state, t, u);
+        let from = first_row(table, index, nodes, state, u, n);
         for i in 0..n {
             if offers_in(table, from + i as usize, state, u, d, c) {
                 found = Partner::At(u, i);
@@ -117,6 +177,20 @@ fn is_ready_thread(state: &[u8], u: u32) -> bool
     state::thread_word(state, u as usize, 0) == 1
 }
 
+// One past the last row of the threads that is in use.
+pub fn rows_used(state: &[u8]) -> u32
+    ensures { λ r. ⌜ UsedBelow (view (now (state .entry))) r ⌝ }
+{
+    let mut top = THREADS;
+    while 0 < top {
+        if !is_free_thread(state, top - 1) {
+            return top;
+        }
+        top -= 1;
+    }
+    0
+}
+
 // The first free row of the threads, of the channels, and the first ready thread, each going up from a number; one past the last where there is none.
 fn free_thread_from(state: &[u8], from: u32) -> u32
     ensures { λ r. ⌜ r ≡ firstFrom 64 from (isFreeThread (view (now (state .entry)))) ⌝ }
@@ -142,11 +216,12 @@ fn free_channel_from(state: &[u8], from: u32) -> u32
     CHANNELS
 }
 
-fn ready_from(state: &[u8], from: u32) -> u32
+fn ready_from(state: &[u8], from: u32, top: u32) -> u32
+    requires { ⌜ UsedBelow (view (now state)) top ⌝ }
     ensures { λ r. ⌜ r ≡ firstFrom 64 from (isReadyThread (view (now (state .entry)))) ⌝ }
     ensures { λ r. ⌜ r ≤ 64 ⌝ }
 {
-    for u in from..THREADS {
+    for u in from..top {
         if is_ready_thread(state, u) {
             return u;
         }
@@ -177,15 +252,16 @@ pub fn free_channel(state: &[u8]) -> u32
     free_channel_from(state, 0)
 }
 
-pub fn next_ready(state: &[u8]) -> u32
+pub fn next_ready(state: &[u8], top: u32) -> u32
+    requires { ⌜ UsedBelow (view (now state)) top ⌝ }
     ensures { λ r. ⌜ r ≡ nextReady (view (now (state .entry))) ⌝ }
     ensures { λ r. ⌜ r ≤ 64 ⌝ }
 {
-    let u = ready_from(state, state::mark(state, 2));
+    let u = ready_from(state, state::mark(state, 2), top);
     if u < THREADS {
         return u;
     }
-    ready_from(state, 0)
+    ready_from(state, 0, top)
 }
 
 // One past number i of n; past the last comes 0.
@@ -210,13 +286,16 @@ fn meeting_move(
     i: u32,
     row: usize,
     d: Direction,
+    top: u32,
 ) -> Move
     requires { ⌜ Indexed (tableOf (now table)) (now index) ⌝ }
+    requires { ⌜ length (now state) ≡ stateLength ⌝ }
+    requires { ⌜ UsedBelow (view (now state)) top ⌝ }
     ensures { λ r. ⌜ r ≡ meeting i (partnerOf (tableOf (now (table .entry))) (view (now (state .entry))) t (opposite d) (slotOf (thread (view (now (state .entry))) t) (fieldA (tableOf (now (table .entry))) row))) ⌝ }
 {
     let c = program::slot(state, t, table::cell(table, row, 5));
     let side = program::opposite_of(d);
-    match find_partner(table, index, state, t, side, c) {
+    match find_partner(table, index, state, t, side, c, top) {
         Partner::Nobody => Move::Waits,
         Partner::At(u, j) => Move::Meets(i, u, j),
     }
@@ -243,28 +322,40 @@ fn spawning_move(state: &[u8], i: u32) -> Move
 }
 
 // The move of thread t by branch i, in a row, whose guard is true.
-fn act_move(table: &[u8], index: &[u32], state: &[u8], t: u32, i: u32, row: usize) -> Move
+fn act_move(table: &[u8], index: &[u32], state: &[u8], t: u32, i: u32, row: usize, top: u32) -> Move
     requires { ⌜ Indexed (tableOf (now table)) (now index) ⌝ }
+    requires { ⌜ length (now state) ≡ stateLength ⌝ }
+    requires { ⌜ UsedBelow (view (now state)) top ⌝ }
     requires { ⌜ row ≡ branchAt (tableOf (now table)) (standsAt (thread (view (now state)) t)) i ⌝ }
     ensures { λ r. ⌜ r ≡ actMove (tableOf (now (table .entry))) (view (now (state .entry))) t i (actOf (tableOf (now (table .entry))) row) ⌝ }
 {
     match program::act_of(table, row) {
         Act::Tau => Move::Goes(i),
-        Act::Meeting(d) => meeting_move(table, index, state, t, i, row, d),
+        Act::Meeting(d) => meeting_move(table, index, state, t, i, row, d, top),
         Act::New => creation_move(state, i),
         Act::Spawn => spawning_move(state, i),
         Act::Assignment => Move::Goes(i),
     }
 }
 
-// The move of thread t by branch i alone: to wait where the guard is false.
-pub fn branch_move(table: &[u8], index: &[u32], state: &[u8], t: u32, i: u32) -> Move
+// The move of thread t by branch i, in a row, alone: to wait where the guard is false.
+fn branch_move(
+    table: &[u8],
+    index: &[u32],
+    state: &[u8],
+    t: u32,
+    i: u32,
+    row: usize,
+    top: u32,
+) -> Move
     requires { ⌜ Indexed (tableOf (now table)) (now index) ⌝ }
+    requires { ⌜ length (now state) ≡ stateLength ⌝ }
+    requires { ⌜ UsedBelow (view (now state)) top ⌝ }
+    requires { ⌜ row ≡ branchAt (tableOf (now table)) (standsAt (thread (view (now state)) t)) i ⌝ }
     ensures { λ r. ⌜ r ≡ branchMove (tableOf (now (table .entry))) (view (now (state .entry))) t i ⌝ }
 {
-    let row = program::branch_at(table, index, state::thread_word(state, t as usize, 1), i);
     if program::guard_holds(table, row, state, t) {
-        return act_move(table, index, state, t, i, row);
+        return act_move(table, index, state, t, i, row, top);
     }
     Move::Waits
 }
@@ -286,14 +377,18 @@ pub fn goes_ahead(m: Move) -> bool
     }
 }
 
-// The move of thread t at a choice: by the first branch that goes ahead, to wait where none does.
-fn choose(table: &[u8], index: &[u32], state: &[u8], t: u32) -> Move
+// The move of thread t at a choice of n branches, the first in row from: by the first branch that goes ahead, to wait where none does.
+fn choose(table: &[u8], index: &[u32], state: &[u8], t: u32, n: u32, from: usize, top: u32) -> Move
     requires { ⌜ Indexed (tableOf (now table)) (now index) ⌝ }
+    requires { ⌜ length (now state) ≡ stateLength ⌝ }
+    requires { ⌜ UsedBelow (view (now state)) top ⌝ }
+    requires { ⌜ n ≡ branchCount (tableOf (now table)) (standsAt (thread (view (now state)) t)) ⌝ }
+    requires { ⌜ from ≡ branchRow (tableOf (now table)) + start (tableOf (now table)) Branches (standsAt (thread (view (now state)) t)) ⌝ }
+    requires { ⌜ from ≤ 12844864 ⌝ }
     ensures { λ r. ⌜ r ≡ choice (tableOf (now (table .entry))) (view (now (state .entry))) t ⌝ }
 {
-    let n = table::branch_count(table, state::thread_word(state, t as usize, 1));
     for i in 0..n {
-        let m = branch_move(table, index, state, t, i);
+        let m = branch_move(table, index, state, t, i, from + i as usize, top);
         if goes_ahead(m) {
             return m;
         }
@@ -302,13 +397,28 @@ fn choose(table: &[u8], index: &[u32], state: &[u8], t: u32) -> Move
 }
 
 // The move that thread t makes, if it is ready.
-pub fn decide(table: &[u8], index: &[u32], state: &[u8], t: u32) -> Move
+pub fn decide(table: &[u8], index: &[u32], state: &[u8], t: u32, top: u32) -> Move
     requires { ⌜ Indexed (tableOf (now table)) (now index) ⌝ }
+    requires { ⌜ length (now state) ≡ stateLength ⌝ }
+    requires { ⌜ UsedBelow (view (now state)) top ⌝ }
     ensures { λ r. ⌜ r ≡ move (tableOf (now (table .entry))) (view (now (state .entry))) t ⌝ }
 {
     let node = state::thread_word(state, t as usize, 1);
-    match table::cell(table, table::node_row(table) + node as usize, 1) {
-        1 => choose(table, index, state, t),
+    let nodes = table::node_row(table);
+    let row = nodes + node as usize;
+    match table::cell(table, row, 1) {
+        1 => {
+            let from = first_branch(table, index, nodes, node);
+            choose(
+                table,
+                index,
+                state,
+                t,
+                table::cell(table, row, 2),
+                from,
+                top,
+            )
+        }
         2 => Move::Calls,
         _ => Move::Ends,
     }

@@ -11,7 +11,9 @@ ghost use Rattle.rules.specs.Holding.{settled};
 ghost use Rattle.rules.specs.Moves.{move, written, perform, metByBench};
 ghost use Rattle.rules.specs.Calls.{turnBy, Turned, turnEnd, takeTurn};
 ghost use Rattle.counts.specs.Shift.{settledTwo};
+ghost use Rattle.moves.specs.Top.{UsedBelow};
 ghost use Rattle.steps.specs.Made.{Writable, Alone, Paired, Creation, made};
+ghost use Rattle.steps.specs.Top.{raisedBy};
 use rules::Move;
 use rules::Reason;
 use rules::Turn;
@@ -19,6 +21,12 @@ use rules::Turn;
 const ROW_SLOTS: usize = 16;
 
 const MAX_THREADS: u32 = 64;
+
+// What a turn came to, and a number from which on no thread row is in use after it.
+pub struct Round {
+    pub turn: Turn,
+    pub top: u32,
+}
 
 // What a move of thread t writes.
 fn write_move(table: &[u8], index: &[u32], state: &mut [u8], t: u32, m: Move)
@@ -147,16 +155,17 @@ pub fn make_met(table: &[u8], index: &[u32], state: &mut [u8], u: u32, j: u32, v
 }
 
 // Thread t, which is ready, makes its move; the move is answered.
-pub fn step_ready(table: &[u8], index: &[u32], state: &mut [u8], t: u32) -> Move
+pub fn step_ready(table: &[u8], index: &[u32], state: &mut [u8], t: u32, top: u32) -> Move
     requires { ⌜ Indexed (tableOf (now table)) (now index) ⌝ }
     requires { ⌜ length (now state) ≡ stateLength ⌝ }
     requires { ⌜ t < 64 ⌝ }
     requires { ⌜ settled (tableOf (now table)) (view (now state)) ≡ view (now state) ⌝ }
     requires { ⌜ isReady (thread (view (now state)) t) ≡ true ⌝ }
+    requires { ⌜ UsedBelow (view (now state)) top ⌝ }
     ensures { λ r. ⌜ r ≡ move (tableOf (now (table .entry))) (view (now (state .entry))) t ⌝ }
     ensures { λ _. ⌜ view (now (state .exit)) ≡ made (tableOf (now (table .entry))) (view (now (state .entry))) t (move (tableOf (now (table .entry))) (view (now (state .entry))) t) ⌝ }
 {
-    let m = moves::decide(table, index, state, t);
+    let m = moves::decide(table, index, state, t, top);
     make_move(table, index, state, t, m);
     m
 }
@@ -178,32 +187,66 @@ fn turn_by(t: u32, m: Move) -> Turn
     }
 }
 
+// A number from which on no row is in use after move m of thread t, where none was from top on before it.
+fn raised(t: u32, m: Move, top: u32) -> u32
+    requires { ⌜ Writable t m ⌝ }
+    ensures { λ r. ⌜ r ≡ raisedBy top m ⌝ }
+{
+    match m {
+        Move::Ends => top,
+        Move::Calls => top,
+        Move::Waits => top,
+        Move::Goes(_) => top,
+        Move::Creates(_, _) => top,
+        Move::Spawns(_, u) => {
+            if u < top {
+                return top;
+            }
+            u + 1
+        }
+        Move::Meets(_, _, _) => top,
+        Move::LacksThread => top,
+        Move::LacksChannel => top,
+    }
+}
+
 // Thread t, which is ready, has its turn, and the turn moves past it.
-fn turn_of(table: &[u8], index: &[u32], state: &mut [u8], t: u32) -> Turn
+fn turn_of(table: &[u8], index: &[u32], state: &mut [u8], t: u32, top: u32) -> Round
     requires { ⌜ Indexed (tableOf (now table)) (now index) ⌝ }
     requires { ⌜ length (now state) ≡ stateLength ⌝ }
     requires { ⌜ t < 64 ⌝ }
     requires { ⌜ settled (tableOf (now table)) (view (now state)) ≡ view (now state) ⌝ }
     requires { ⌜ isReady (thread (view (now state)) t) ≡ true ⌝ }
-    ensures { λ r. ⌜ _≡_ {A = Turned} (record { turn = r; state = view (now (state .exit)) }) (turnEnd (tableOf (now (table .entry))) (view (now (state .entry))) t (turnBy t (move (tableOf (now (table .entry))) (view (now (state .entry))) t))) ⌝ }
+    requires { ⌜ UsedBelow (view (now state)) top ⌝ }
+    ensures { λ r. ⌜ _≡_ {A = Turned} (record { turn = r .turn; state = view (now (state .exit)) }) (turnEnd (tableOf (now (table .entry))) (view (now (state .entry))) t (turnBy t (move (tableOf (now (table .entry))) (view (now (state .entry))) t))) ⌝ }
     ensures { λ _. ⌜ settled (tableOf (now (table .entry))) (view (now (state .exit))) ≡ view (now (state .exit)) ⌝ }
+    ensures { λ r. ⌜ UsedBelow (view (now (state .exit))) (r .top) ⌝ }
 {
-    let m = step_ready(table, index, state, t);
+    let m = step_ready(table, index, state, t, top);
     state::put_mark(state, 2, moves::one_up(MAX_THREADS, t));
-    turn_by(t, m)
+    let turn = turn_by(t, m);
+    Round {
+        turn: turn,
+        top: raised(t, m, top),
+    }
 }
 
 // The next ready thread has its turn.
-pub fn take_turn(table: &[u8], index: &[u32], state: &mut [u8]) -> Turn
+pub fn take_turn(table: &[u8], index: &[u32], state: &mut [u8], top: u32) -> Round
     requires { ⌜ Indexed (tableOf (now table)) (now index) ⌝ }
     requires { ⌜ length (now state) ≡ stateLength ⌝ }
     requires { ⌜ settled (tableOf (now table)) (view (now state)) ≡ view (now state) ⌝ }
-    ensures { λ r. ⌜ _≡_ {A = Turned} (record { turn = r; state = view (now (state .exit)) }) (takeTurn (tableOf (now (table .entry))) (view (now (state .entry)))) ⌝ }
+    requires { ⌜ UsedBelow (view (now state)) top ⌝ }
+    ensures { λ r. ⌜ _≡_ {A = Turned} (record { turn = r .turn; state = view (now (state .exit)) }) (takeTurn (tableOf (now (table .entry))) (view (now (state .entry)))) ⌝ }
     ensures { λ _. ⌜ settled (tableOf (now (table .entry))) (view (now (state .exit))) ≡ view (now (state .exit)) ⌝ }
+    ensures { λ r. ⌜ UsedBelow (view (now (state .exit))) (r .top) ⌝ }
 {
-    let t = moves::next_ready(state);
+    let t = moves::next_ready(state, top);
     if t < MAX_THREADS {
-        return turn_of(table, index, state, t);
+        return turn_of(table, index, state, t, top);
     }
-    Turn::Stopped(Reason::NoneReady)
+    Round {
+        turn: Turn::Stopped(Reason::NoneReady),
+        top: top,
+    }
 }

@@ -1,4 +1,5 @@
 use Rattle.calls.proofs.Laws.{step-done, step-refused, step-low, step-is-ready}
+use Rattle.moves.specs.Top.{used-all}
 use borrow.Author.Needs.{needs}
 use Rattle.calls.proofs.step.Statement.{statement}
 use Rattle.calls.proofs.step.Tie as tie
@@ -9,7 +10,7 @@ step-spec =
     (tie.spec
     (λ c κs. search needs)
     (λ c κs. search needs)
-    (λ c κs. (search, (search, (search step-low, (search, search step-is-ready)))))
+    (λ c κs. (search, (search, (search step-low, (search, (search step-is-ready, search used-all))))))
     (λ c κs. search needs)
     (λ c. search needs)
     (λ c. search step-done)

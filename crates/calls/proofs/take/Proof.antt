@@ -1,5 +1,6 @@
 use Rattle.calls.proofs.Laws.{take-refused, take-nobody, take-met}
 use Rattle.moves.specs.Partners.{partner-below}
+use Rattle.moves.specs.Top.{used-all}
 use borrow.Author.Needs.{needs}
 use Rattle.calls.proofs.take.Statement.{statement}
 use Rattle.calls.proofs.take.Tie as tie
@@ -10,7 +11,7 @@ take-spec =
     (tie.spec
     (λ c κs. search needs)
     (λ c. search take-refused)
-    (λ c κs. search needs)
+    (λ c κs. (search, (search, search used-all)))
     (λ c. search needs)
     (λ c. search needs)
     (λ c κs. search needs)

@@ -1,4 +1,4 @@
-use Rattle.moves.proofs.Choice.{branch-row, branch-true, branch-false}
+use Rattle.moves.proofs.Choice.{branch-true, branch-false}
 use borrow.Author.Needs.{needs}
 use Rattle.moves.proofs.branch_move.Statement.{statement}
 use Rattle.moves.proofs.branch_move.Tie as tie
@@ -9,7 +9,5 @@ branch-move-spec =
     (tie.spec
     (λ c κs. search needs)
     (λ c κs. search needs)
-    (λ c κs. search needs)
-    (λ c κs. search (branch-row, needs))
     (λ c. search (branch-true, branch-false))
     (λ c. search (branch-true, branch-false)))

@@ -7,9 +7,9 @@ pub branches-tried-spec : {M : Type 1} → statement M
 branches-tried-spec =
     tie.close
     (tie.spec
+    (λ c κs. search needs)
+    (λ c. search tries)
     (λ c. search tries)
     (λ c κs. search needs)
     (λ c κs. search needs)
-    (λ c κs. search needs)
-    (λ c. search tries)
     (λ c. search tries))

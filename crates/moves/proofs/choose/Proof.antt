@@ -7,15 +7,15 @@ use Rattle.numbers.specs.Search.Laws.{first-none}
 use Rattle.table.specs.Table.{tableOf}
 use Rattle.state.specs.State.{view}
 use Rattle.rules.specs.Moves.{ahead}
-use Rattle.moves.proofs.Choice.{choice-passed, choice-taken, choice-waits}
+use Rattle.moves.proofs.Choice.{branch-row, choice-passed, choice-taken, choice-waits}
 use Rattle.moves.proofs.choose.Statement.{statement}
 use Rattle.moves.proofs.choose.Tie as tie
 
 abbrev Inv-loop : tie.InvT-loop
-Inv-loop table index state t n i₀ i = (i ≤ n) × (first (ahead (tableOf table) (view state) t) i ≡ i)
+Inv-loop table index state t n from top i₀ i = (i ≤ n) × (first (ahead (tableOf table) (view state) t) i ≡ i)
 
 abbrev μ-loop : tie.MeasureT-loop
-μ-loop table index state t n i₀ i = n - i
+μ-loop table index state t n from top i₀ i = n - i
 
 pub choose-spec : {M : Type 1} → statement M
 choose-spec =
@@ -23,10 +23,10 @@ choose-spec =
     (tie.spec
     Inv-loop
     μ-loop
-    (λ c κs. search needs)
-    (λ c κs. search needs)
     (λ c. search (first-none, needs))
-    (λ c κs. search needs)
+    (λ c. search needs)
+    (λ c. search needs)
+    (λ c κs. search (branch-row, needs))
     (λ c κs. search needs)
     (λ c. search choice-taken)
     (λ c. search needs)

@@ -1,4 +1,4 @@
-use Rattle.moves.proofs.Choice.{kinds}
+use Rattle.moves.proofs.Choice.{from-read, count-read, kinds}
 use borrow.Author.Needs.{needs}
 use Rattle.moves.proofs.decide.Statement.{statement}
 use Rattle.moves.proofs.decide.Tie as tie
@@ -13,6 +13,8 @@ decide-spec =
     (λ c. search needs)
     (λ c κs. search needs)
     (λ c κs. search needs)
+    (λ c κs. search needs)
+    (λ c κs. (search, (search, (search, (search count-read, (search from-read, search needs))))))
     (λ c. search kinds)
     (λ c. search kinds)
     (λ c. search kinds))

@@ -8,23 +8,23 @@ use Rattle.table.specs.Table.{tableOf}
 use Rattle.state.specs.State.{view, thread}
 use Rattle.rules.specs.Offers.{offersAt, answers}
 use Rattle.rules.specs.declared.Partner.the-variants.{Nobody}
-use Rattle.moves.proofs.Search.{no-channel, nobody-is, branch-passed, found-is, thread-passed}
+use Rattle.moves.proofs.Search.{no-channel, no-length, nobody-is, branch-passed, found-is, thread-passed}
 use Rattle.moves.proofs.find_partner.Statement.{statement}
 use Rattle.moves.proofs.find_partner.Tie as tie
 
 abbrev Inv-loop : tie.InvT-loop
-Inv-loop table index state t d c found₀ u n from i₀ found i =
+Inv-loop table index state t d c top limit nodes found₀ u n from i₀ found i =
     (i ≤ n) × (first (offersAt (tableOf table) (thread (view state) u) d c) i ≡ i) × (found ≡ Nobody)
 
 abbrev μ-loop : tie.MeasureT-loop
-μ-loop table index state t d c found₀ u n from i₀ found i = n - i
+μ-loop table index state t d c top limit nodes found₀ u n from i₀ found i = n - i
 
 abbrev Inv-threads : tie.InvT-threads
-Inv-threads table index state t d c found₀ u₀ found u =
-    (u ≤ 64) × (first (answers (tableOf table) (view state) t d c) u ≡ u) × (found ≡ Nobody)
+Inv-threads table index state t d c top limit nodes found₀ u₀ found u =
+    (u ≤ limit) × (first (answers (tableOf table) (view state) t d c) u ≡ u) × (found ≡ Nobody)
 
 abbrev μ-threads : tie.MeasureT-threads
-μ-threads table index state t d c found₀ u₀ found u = 64 - u
+μ-threads table index state t d c top limit nodes found₀ u₀ found u = limit - u
 
 pub find-partner-spec : {M : Type 1} → statement M
 find-partner-spec =
@@ -35,18 +35,21 @@ find-partner-spec =
     Inv-threads
     μ-threads
     (λ c. search (no-channel, needs))
-    (λ c. search (first-none, needs))
+    (λ c. search no-length)
     (λ c κs. search needs)
     (λ c κs. search needs)
     (λ c. search (first-none, needs))
+    (λ c κs. search needs)
+    (λ c κs. search needs)
+    (λ c. search (first-none, needs))
     (λ c. search needs)
     (λ c. search needs)
     (λ c κs. search needs)
     (λ c. search needs)
     (λ c. search needs)
-    (λ c. search (branch-passed, needs))
+    (λ c. (search needs, branch-passed _ _ _ _ _ _ (c .before .before .before .loop .i) _ (c .before .before .before .before .first-row .ensures .0) (c .before .offers-in .result) (search) (search) (search) (search), search needs))
     (λ c. search needs)
     (λ c. search needs)
-    (λ c. search (thread-passed, needs))
+    (λ c. (search needs, thread-passed _ _ _ _ _ _ (c .before .before .before .branches-tried .result) (c .before .loop .i) (search) (search) (search needs) (search needs) (search) (search), search needs))
     (λ c. search nobody-is)
     (λ c. search found-is))

@@ -10,7 +10,4 @@ first-row-spec =
     (λ c. (search (row-void, row-first), search needs))
     (λ c κs. search needs)
     (λ c κs. search needs)
-    (λ c κs. search needs)
-    (λ c. search needs)
-    (λ c. search needs)
     (λ c. (search (row-void, row-first), search needs)))

@@ -6,14 +6,15 @@ use Rattle.state.specs.State.{view}
 use Rattle.rules.specs.Moves.{firstFrom}
 use Rattle.rules.specs.Calls.{isReadyThread}
 use Rattle.moves.specs.Around.{from-laws}
+use Rattle.moves.specs.Top.{below-le, from-found, from-rest}
 use Rattle.moves.proofs.ready_from.Statement.{statement}
 use Rattle.moves.proofs.ready_from.Tie as tie
 
 abbrev Inv-loop : tie.InvT-loop
-Inv-loop state from u₀ u = (from ≤ u) × (firstFrom u from (isReadyThread (view state)) ≡ u)
+Inv-loop state from top u₀ u = (from ≤ u) × (firstFrom u from (isReadyThread (view state)) ≡ u)
 
 abbrev μ-loop : tie.MeasureT-loop
-μ-loop state from u₀ u = 64 - u
+μ-loop state from top u₀ u = top - u
 
 pub ready-from-spec : {M : Type 1} → statement M
 ready-from-spec =
@@ -23,8 +24,8 @@ ready-from-spec =
     μ-loop
     (λ c. search (from-laws, needs))
     (λ c κs. search (from-laws, needs))
-    (λ c. (search from-laws, search needs))
+    (λ c. (search from-found, search below-le))
     (λ c. search (from-laws, needs))
     (λ c. search (from-laws, needs))
     (λ c. search (from-laws, needs))
-    (λ c. (search from-laws, search needs)))
+    (λ c. (search from-rest, search needs)))
