@@ -58,6 +58,7 @@ refill-at l row (suc k) i h j = go (decLt i k) (λ m. refill-at l row k i (omega
   where
     long : 2 + k < length (refilled l row k)
     long = rw (refill-length l row k) (omega arith)
+
     go : Dec (i < k) → (i < k → getD (refilled l row k) (2 + i) 0 ≡ getD l i 0) → getD (set (refilled l row k) (2 + k) (getD l k 0)) (2 + i) 0 ≡ getD l i 0
     go (yes m) f = getD-set-other (refilled l row k) (2 + k) (2 + i) (getD l k 0) 0 (λ e. omega arith) ∙ f m
     go (no m) f = let e : i ≡ k = omega arith in rw e (getD-set-same (refilled l row k) (2 + k) (getD l k 0) 0 long)
