@@ -75,6 +75,7 @@ pub fn start(table: &[u8], state: &mut [u8]) -> Started
     }
 }
 
+
 // Steps thread t.
 pub fn step(table: &[u8], state: &mut [u8], t: u32) -> Stepped
     ensures { λ r. ⌜ _≡_ {A = Outcome Stepped} (record { answer = r; state = now (state .exit) }) (stepCall (now (table .entry)) (now (state .entry)) t) ⌝ }

@@ -254,13 +254,7 @@ fn step_numbers(answer: Stepped) -> StepAnswer
 {
     match answer {
         Stepped::Done(node, deed) => {
-            step_fields(
-                0,
-                node,
-                act_number(deed),
-                branch_number(deed),
-                partner_number(deed),
-            )
+            step_fields(0, node, act_number(deed), branch_number(deed), partner_number(deed))
         }
         Stepped::Refused(ground) => step_fields(refusal_of(ground), 0, 0, 0, 0),
     }
@@ -312,12 +306,7 @@ pub extern "C" fn pithread_step(table: &[u8], state: &mut [u8], thread: u32) -> 
 }
 
 #[no_mangle]
-pub extern "C" fn pithread_give(
-    table: &[u8],
-    state: &mut [u8],
-    port: u32,
-    number: i32,
-) -> GiveAnswer
+pub extern "C" fn pithread_give(table: &[u8], state: &mut [u8], port: u32, number: i32) -> GiveAnswer
     ensures { λ r. ⌜ _≡_ {A = StateResult GiveAnswer} (record { answer = r; state = now (state .exit) }) (giveResult (now (table .entry)) (now (state .entry)) port number) ⌝ }
 {
     give_numbers(engine::give(table, state, port, numbers::pattern(number)))
