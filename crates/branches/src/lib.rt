@@ -9,6 +9,7 @@ ghost use Rattle.state.specs.State.{view, thread, stateLength, withThread};
 ghost use Rattle.rules.specs.Program.{actOf};
 ghost use Rattle.rules.specs.Moves.{met, gone, goneBy, createdBy, metBy, rowOf, valueBy, typeBy, sideOf, typed, spawnedBy, written};
 ghost use Rattle.rules.specs.declared.Move.the-variants.{Creates, Spawns, Meets};
+ghost use Rattle.branches.specs.Keeping.{within, spares, actKeeps, sideKeeps, goneKeeps, metKeeps};
 use rules::Act;
 use rules::Direction;
 
@@ -151,6 +152,88 @@ pub fn write_gone(table: &[u8], index: &[u32], state: &mut [u8], t: u32, i: u32)
     let slot = table::cell(table, row, 5);
     let v = program::assigned_value(table, row, state, t);
     go_alone(state, t, program::act_of(table, row), next, slot, v);
+}
+
+// Whether node n is a node of definition d.
+fn is_within(table: &[u8], index: &[u32], d: u32, n: u32) -> bool
+    requires { ⌜ Indexed (tableOf (now table)) (now index) ⌝ }
+    ensures { λ r. ⌜ r ≡ within (tableOf (now (table .entry))) d n ⌝ }
+{
+    program::definition_of(table, index, n) == d
+}
+
+// ... and slot k of the definition is of type 0.
+fn spares_slot(table: &[u8], index: &[u32], d: u32, n: u32, k: u32) -> bool
+    requires { ⌜ Indexed (tableOf (now table)) (now index) ⌝ }
+    ensures { λ r. ⌜ r ≡ spares (tableOf (now (table .entry))) d n k ⌝ }
+{
+    if is_within(table, index, d, n) {
+        return program::slot_type(table, index, d, k) == 0;
+    }
+    false
+}
+
+// Whether a thread's row holds what it held after an act in definition d that leads to node n: an assignment writes slot k.
+fn act_keeps(table: &[u8], index: &[u32], act: Act, d: u32, n: u32, k: u32) -> bool
+    requires { ⌜ Indexed (tableOf (now table)) (now index) ⌝ }
+    ensures { λ r. ⌜ r ≡ actKeeps (tableOf (now (table .entry))) act d n k ⌝ }
+{
+    match act {
+        Act::Tau => is_within(table, index, d, n),
+        Act::Meeting(_) => is_within(table, index, d, n),
+        Act::New => is_within(table, index, d, n),
+        Act::Spawn => is_within(table, index, d, n),
+        Act::Assignment => spares_slot(table, index, d, n, k),
+    }
+}
+
+// ... after a side of a meeting: the receiver writes slot k.
+fn side_keeps(table: &[u8], index: &[u32], side: Direction, d: u32, n: u32, k: u32) -> bool
+    requires { ⌜ Indexed (tableOf (now table)) (now index) ⌝ }
+    ensures { λ r. ⌜ r ≡ sideKeeps (tableOf (now (table .entry))) side d n k ⌝ }
+{
+    match side {
+        Direction::Out => is_within(table, index, d, n),
+        Direction::In => spares_slot(table, index, d, n, k),
+    }
+}
+
+// ... after branch i of thread t, alone.
+pub fn gone_keeps(table: &[u8], index: &[u32], state: &[u8], t: u32, i: u32) -> bool
+    requires { ⌜ Indexed (tableOf (now table)) (now index) ⌝ }
+    ensures { λ r. ⌜ r ≡ goneKeeps (tableOf (now (table .entry))) (thread (view (now (state .entry))) t) i ⌝ }
+{
+    let node = writes::stands_at(state, t);
+    let row = program::branch_at(table, index, node, i);
+    let next = program::next_of(table, index, node, row);
+    let d = program::definition_of(table, index, node);
+    act_keeps(
+        table,
+        index,
+        program::act_of(table, row),
+        d,
+        next,
+        table::cell(table, row, 5),
+    )
+}
+
+// ... after a meeting by branch i of thread t.
+pub fn met_keeps(table: &[u8], index: &[u32], state: &[u8], t: u32, i: u32) -> bool
+    requires { ⌜ Indexed (tableOf (now table)) (now index) ⌝ }
+    ensures { λ r. ⌜ r ≡ metKeeps (tableOf (now (table .entry))) (thread (view (now (state .entry))) t) i ⌝ }
+{
+    let node = writes::stands_at(state, t);
+    let row = program::branch_at(table, index, node, i);
+    let next = program::next_of(table, index, node, row);
+    let d = program::definition_of(table, index, node);
+    side_keeps(
+        table,
+        index,
+        side_of(program::act_of(table, row)),
+        d,
+        next,
+        table::cell(table, row, 6),
+    )
 }
 
 // Thread t's branch i has made channel c.

@@ -6,19 +6,21 @@ use mathlib.Core.Path.{_≡_, refl, sym, _∙_}
 use mathlib.Core.Bool.{Bool, true, false}
 use mathlib.Core.List.{List, []}
 use lib.Dec.{eqb}
-use lib.ListN.{length, getD, set}
-use borrow.Author.Tests.{eq-eqb, ne-eqb, lt-ltb, le-ltb}
+use lib.ListN.{length, getD, set, replicate, length-replicate}
+use lib.Seq.{getD-set-same, getD-set-other, ext-getD}
+use borrow.Author.Tests.{eqb-true, eqb-false, eq-eqb, ne-eqb, lt-ltb, le-ltb}
 use Rattle.numbers.specs.Count.{bit}
 use Rattle.numbers.specs.Rows.{at}
-use Rattle.numbers.specs.Search.Laws.{some-intro}
+use Rattle.numbers.specs.Search.Laws.{caseB, some-intro}
 use Rattle.table.specs.Table.{Table, slotRow, slotCount}
 use Rattle.table.specs.Layout.{start, definitionOf}
 use Rattle.table.specs.declared.Part.the-variants.{Slots}
 use Rattle.state.specs.State.{slotOf, isWaiting}
 use Rattle.counts.specs.General.{some-zero, some-suc}
 use Rattle.counts.specs.Own.{ownList}
-use Rattle.counts.specs.Own.Listing.{listed, room, channelIn, ownBy, listedTo}
-use Rattle.counts.specs.Own.Listing.Laws.{listed-own}
+use Rattle.counts.specs.Own.Listing.{lastOwn, listed, room, channelIn, ownBy, listedTo, ownRoom}
+use Rattle.counts.specs.Own.Listing.Laws.{same-whether, listed-own}
+use Rattle.counts.specs.Own.Rest.{full-at, rest-listed}
 
 -- channel_in: x is the type of slot k, v what the slot has
 module _ (tb : Table) (from : ℕ) (row : List ℕ) (k x : ℕ) (e : x ≡ at tb (from + k) 1) where
@@ -62,6 +64,10 @@ module _ (tb : Table) (from n : ℕ) (row l : List ℕ) (k : ℕ) where
   unfolding ownBy
   fresh-past h = rw (le-ltb k n h)
 
+  pub fresh-none : (c : ℕ) → c ≡ channelIn tb from row k → k < n → c ≡ 128 → 128 ≡ ownBy tb from n row l k
+  unfolding ownBy
+  fresh-none c e h g = rw (lt-ltb k n h, ← e, g) (sym (same-whether (listed l k 128) 128))
+
   module _ (c : ℕ) (e : c ≡ channelIn tb from row k) (r : Bool) (f : r ≡ listed l k c) (h : k < n) where
     pub fresh-listed : r ≡ true → 128 ≡ ownBy tb from n row l k
     unfolding ownBy
@@ -71,7 +77,7 @@ module _ (tb : Table) (from n : ℕ) (row l : List ℕ) (k : ℕ) where
     unfolding ownBy
     fresh-is g = rw (lt-ltb k n h, ← e, ← f, g)
 
-pub ruleset freshes = (fresh-past, fresh-listed, fresh-is)
+pub ruleset freshes = (fresh-past, fresh-none, fresh-listed, fresh-is)
 
 -- note
 module _ (tb : Table) (from n : ℕ) (row l : List ℕ) where
@@ -83,10 +89,22 @@ module _ (tb : Table) (from n : ℕ) (row l : List ℕ) where
   unfolding listedTo
   note-more m k c e f = rw (f, e, add-one k)
 
-  pub note-all : (m : List ℕ) (k : ℕ) → m ≡ listedTo tb from n row l k → k ≤ 16 → 16 ≤ k → m ≡ listedTo tb from n row l 16
-  note-all m k e h i = let q : k ≡ 16 = omega arith in rw q at e
+  pub note-all : (m : List ℕ) (k x : ℕ) → m ≡ listedTo tb from n row l k → x ≡ lastOwn n → l ≡ replicate 16 128 → k ≤ x → x ≤ k → m ≡ listedTo tb from n row l 16
+  note-all m k x e f g h i = let q : k ≡ lastOwn n = omega (arith, f) in e ∙ rw q (rest-listed tb from n row l g)
 
 pub ruleset notes = (note-none, note-more, note-all)
+
+-- clear: l₀ is the list before
+module _ (l₀ l : List ℕ) (k : ℕ) (e : length l ≡ length l₀) (f : length l₀ ≡ 16) (g : (i : ℕ) → i < k → getD l i 0 ≡ 128) where
+  pub clear-all : 16 ≤ k → l ≡ replicate 16 128
+  clear-all h =
+      ext-getD 0 l (replicate 16 128) (e ∙ f ∙ sym (length-replicate {A = ℕ} 16 128)) (λ i j. g i (omega arith) ∙ sym (full-at 16 i (omega arith)))
+
+  pub clear-more : k < 16 → (i : ℕ) → i < k + 1 → getD (set l k 128) i 0 ≡ 128
+  clear-more h i j =
+      caseB (eqb i k)
+      (λ y. let q : i ≡ k = eqb-true i k y in rw q (getD-set-same l k 128 0 (omega arith)))
+      (λ z. let d = eqb-false i k z in getD-set-other l k i 128 0 d ∙ g i (omega arith))
 
 -- slots_in
 module _ (tb : Table) (s d : ℕ) where
@@ -112,12 +130,16 @@ module _ (s : ℕ) where
 
 pub ruleset weights = (weight-one, weight-none)
 
--- take_down
+-- own_channels, take_down
 module _ (ths : List (List ℕ)) (t s : ℕ) (e : s ≡ at ths t 0) where
-  pub taken-list : (tb : Table) (l m : List ℕ) (x d from n : ℕ) → m ≡ listedTo tb from n (getD ths t []) l 16 → x ≡ at ths t 1 → d ≡ definitionOf tb x
-      → from ≡ slotRow tb + start tb Slots d → n ≡ room tb s d → length l ≡ 16 → m ≡ ownList tb (getD ths t [])
-  taken-list tb l m x d from n f g h i j long =
-      f ∙ listed-own tb (getD ths t []) from n (i ∙ rw (h, g)) (j ∙ rw (h, g, e)) l long
+  module _ (tb : Table) (x d n : ℕ) (g : x ≡ at ths t 1) (h : d ≡ definitionOf tb x) (j : n ≡ room tb s d) where
+    pub taken-list : (l m : List ℕ) (from : ℕ) → m ≡ listedTo tb from n (getD ths t []) l 16 → from ≡ slotRow tb + start tb Slots d → l ≡ replicate 16 128 → m ≡ ownList tb (getD ths t [])
+    taken-list l m from f i k =
+        f ∙ listed-own tb (getD ths t []) from n (i ∙ rw (h, g)) (j ∙ rw (h, g, e)) l (rw k (length-replicate {A = ℕ} 16 128))
+
+    pub taken-room : (r : ℕ) → r ≡ lastOwn n → r ≡ ownRoom tb (getD ths t [])
+    unfolding ownRoom
+    taken-room r f = f ∙ rw (j, h, g, e)
 
   pub taken-weight : (w : ℕ) → w ≡ bit (eqb s 2) → w ≡ bit (isWaiting (getD ths t []))
   taken-weight w f = f ∙ rw e

@@ -2,8 +2,9 @@
 use Prim.Native.Nat.{ℕ, zero, suc, _+_, _<_, _≤_}
 use native.Mathlib.Omega.{arith}
 use native.Mathlib.Numerals.{add-one}
-use mathlib.Core.Path.{_≡_, refl}
+use mathlib.Core.Path.{_≡_, refl, _∙_}
 use mathlib.Core.List.{List, [], _∷_}
+use lib.Dec.{eqb}
 use lib.ListN.{length, getD, set}
 use lib.Seq.{set-out, set-set, getD-set-same}
 use mir.Syntax.{w8, w64}
@@ -13,11 +14,13 @@ use Rattle.numbers.specs.Count.{bit}
 use Rattle.numbers.specs.Rows.{at}
 use Rattle.numbers.specs.Signed.{sum, difference}
 use Rattle.table.specs.Table.{Table}
-use Rattle.state.specs.State.{State, view, stateLength, thread, channel, isWaiting, withChannel, withChannels}
+use Rattle.state.specs.State.{State, view, stateLength, thread, channel, withChannel, withChannels}
 use Rattle.state.specs.State.Laws.{length-channels, length-channel}
 use Rattle.rules.specs.Holding.{channelRow}
 use Rattle.counts.specs.Own.{ownList}
-use Rattle.counts.specs.Shift.{rowCounted, shiftRow, shiftTo, channelShifted, shiftedTo, shifted, rowEntered, rowLeft, settledOne, settledTwo, settledNew}
+use Rattle.counts.specs.Own.Listing.{ownRoom}
+use Rattle.counts.specs.Own.Rest.{rest-shifted}
+use Rattle.counts.specs.Shift.{rowCounted, shiftRow, shiftTo, channelShifted, shiftedTo, shifted, rowEntered, rowWeighed, rowLeft, settledOne, settledTwo, settledNew}
 
 -- put_counts: three stores, and two, make a row
 three : (r : List ℕ) (a n w : ℕ) → length r ≡ 3 → set (set (set r 0 a) 1 n) 2 w ≡ a ∷ n ∷ w ∷ []
@@ -84,12 +87,27 @@ module _ (s : State) (l : List ℕ) (dn dw : ℕ) where
   unfolding shifted
   shifts-all s₁ k e h i = let q : k ≡ length l = omega arith in rw q at e
 
+  -- shift_first
+  pub first-shifted : (s₁ : State) (k n : ℕ) → s₁ ≡ shiftedTo s l dn dw k → k ≤ n → n ≤ k → s₁ ≡ shiftedTo s l dn dw n
+  first-shifted s₁ k n e h i = let q : k ≡ n = omega arith in rw q at e
+
 pub ruleset shifts = (shifts-none, shifts-more, shifts-all)
 
--- enter, leave
-pub enter-is : (tb : Table) (s s₂ : State) (t w : ℕ) (l : List ℕ) → s₂ ≡ shifted s l 1 w → l ≡ ownList tb (thread s t) → w ≡ bit (isWaiting (thread s t)) → s₂ ≡ rowEntered tb s t
+-- shift_own
+pub own-shifted : (tb : Table) (b : List ℕ) (s₂ : State) (t dn dw n : ℕ) (l : List ℕ) → s₂ ≡ shiftedTo (view b) l dn dw n → l ≡ ownList tb (thread (view b) t) → n ≡ ownRoom tb (thread (view b) t)
+    → s₂ ≡ shifted (view b) (ownList tb (thread (view b) t)) dn dw
+unfolding shifted shiftedTo withChannels
+own-shifted tb b s₂ t dn dw n l f e g =
+    f ∙ rw (e, g, rest-shifted tb (thread (view b) t) dn dw (view b .channels) (length-channels b))
+
+-- enter, weigh, leave
+pub enter-is : (tb : Table) (s s₂ : State) (t w x : ℕ) → s₂ ≡ shifted s (ownList tb (thread s t)) 1 w → w ≡ bit (eqb x 2) → x ≡ at (s .threads) t 0 → s₂ ≡ rowEntered tb s t
 unfolding rowEntered
-enter-is tb s s₂ t w l g e f = rw (g, e, f)
+enter-is tb s s₂ t w x g f e = rw (g, f, e)
+
+pub weigh-is : (tb : Table) (s s₂ : State) (t dw : ℕ) → s₂ ≡ shifted s (ownList tb (thread s t)) 0 dw → s₂ ≡ rowWeighed tb s t dw
+unfolding rowWeighed
+weigh-is tb s s₂ t dw g = g
 
 pub leave-is : (s s₂ : State) (w d : ℕ) (l : List ℕ) → s₂ ≡ shifted s l 4294967295 d → d ≡ difference 0 w → s₂ ≡ rowLeft s l w
 unfolding rowLeft

@@ -1,4 +1,5 @@
 pub mod General
+pub mod Keeping
 pub mod Own
 pub mod Shift
 pub mod Upkeep

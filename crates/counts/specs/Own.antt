@@ -1,6 +1,7 @@
 -- The channels that a thread's row holds, each once.
 pub mod Laws
 pub mod Listing
+pub mod Rest
 use Prim.Native.Nat.{ℕ}
 use mathlib.Core.Bool.{_&&_, cond}
 use mathlib.Core.List.{List}

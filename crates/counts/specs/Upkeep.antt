@@ -32,25 +32,25 @@ count-and-le p q [] = omega arith
 count-and-le p q (x ∷ xs) = omega (arith, count-and-le p q xs, bit-and-le (p x) (q x))
 
 module _ (tb : Table) (ths : List (List ℕ)) where
-  waiters-le : (c : ℕ) → waiters tb ths c ≤ countOf tb ths c
+  pub waiters-le : (c : ℕ) → waiters tb ths c ≤ countOf tb ths c
   unfolding waiters countOf holders
   waiters-le c = omega (arith, count-and-le (λ row. isWaiting row) (λ row. holds tb row c) ths)
 
-  few : length ths ≡ 64 → (c : ℕ) → countOf tb ths c ≤ 65
+  pub few : length ths ≡ 64 → (c : ℕ) → countOf tb ths c ≤ 65
   unfolding countOf holders
   few long c = omega (arith, long, count-le (λ row. holds tb row c) ths, bit-le (ltb c (ports tb)))
 
   -- one row is replaced
   module _ (t : ℕ) (h : t < length ths) (row : List ℕ) (c : ℕ) where
-    counts-move : countOf tb (set ths t row) c + bit (holds tb (getD ths t []) c) ≡ countOf tb ths c + bit (holds tb row c)
+    pub counts-move : countOf tb (set ths t row) c + bit (holds tb (getD ths t []) c) ≡ countOf tb ths c + bit (holds tb row c)
     unfolding countOf holders
     counts-move = omega (arith, replaced (λ r. holds tb r c) ths t row [] h)
 
-    waiters-move : waiters tb (set ths t row) c + bit (isWaiting (getD ths t []) && holds tb (getD ths t []) c) ≡ waiters tb ths c + bit (isWaiting row && holds tb row c)
+    pub waiters-move : waiters tb (set ths t row) c + bit (isWaiting (getD ths t []) && holds tb (getD ths t []) c) ≡ waiters tb ths c + bit (isWaiting row && holds tb row c)
     unfolding waiters
     waiters-move = replaced (λ r. isWaiting r && holds tb r c) ths t row [] h
 
-  settled-rows : (chs : List (List ℕ)) (ty : ℕ → ℕ) → Settled chs ty (countOf tb ths) (waiters tb ths) → chs ≡ recount tb ths ty
+  pub settled-rows : (chs : List (List ℕ)) (ty : ℕ → ℕ) → Settled chs ty (countOf tb ths) (waiters tb ths) → chs ≡ recount tb ths ty
   unfolding recount
   settled-rows chs ty (long, says) = is-tabulate chs 128 (λ c. channelRow (ty c) (countOf tb ths c) (waiters tb ths c)) [] long says
 
@@ -71,14 +71,14 @@ module _ (tb : Table) (ths chs : List (List ℕ)) (e : chs ≡ recount tb ths (�
   counted-row c h =
       ap (λ (l : List (List ℕ)). getD l c []) e ∙ getD-tabulate 128 c (λ i. channelRow (at chs i 0) (countOf tb ths i) (waiters tb ths i)) [] h
 
-  raw-start : Raw chs (λ c. at chs c 0) (countOf tb ths) (waiters tb ths)
+  pub raw-start : Raw chs (λ c. at chs c 0) (countOf tb ths) (waiters tb ths)
   unfolding recount
   raw-start = (
     ap (λ (l : List (List ℕ)). length l) e ∙ length-tabulate 128 (λ c. channelRow (at chs c 0) (countOf tb ths c) (waiters tb ths c)),
     λ c h. raw-row (getD chs c []) (countOf tb ths c) (waiters tb ths c) (counted-row c h) (waiters-le tb ths c),
   )
 
-  free-start : (c : ℕ) → c < 128 → countOf tb ths c ≡ 0 → at chs c 0 ≡ 0
+  pub free-start : (c : ℕ) → c < 128 → countOf tb ths c ≡ 0 → at chs c 0 ≡ 0
   free-start c h z = free-type (getD chs c []) (countOf tb ths c) (waiters tb ths c) (counted-row c h) z
 
 -- ---- the channel rows after one thread row is replaced, after two are, and after one is and a channel's type is written
@@ -98,7 +98,7 @@ module _ (tb : Table) (ths : List (List ℕ)) (row : List ℕ) (c : ℕ) where
   entered-le long = omega (arith, few tb ths long c, bit-le (holds tb row c))
 
 module _ (tb : Table) (ths : List (List ℕ)) (long : length ths ≡ 64) where
-  low-start : Low (countOf tb ths) (waiters tb ths)
+  pub low-start : Low (countOf tb ths) (waiters tb ths)
   low-start c h = (omega (arith, few tb ths long c), omega (arith, few tb ths long c, waiters-le tb ths c))
 
   low-entered : (row : List ℕ) → Low (entered tb ths row) (enteredWaiting tb ths row)
@@ -204,7 +204,7 @@ module _ (tb : Table) (s : State) where
 -- ---- the upkeep comes to the recount
 
 module _ (tb : Table) (s : State) (long : length (s .threads) ≡ 64) (e : settled tb s ≡ s) where
-  counted : s .channels ≡ recount tb (s .threads) (λ c. at (s .channels) c 0)
+  pub counted : s .channels ≡ recount tb (s .threads) (λ c. at (s .channels) c 0)
   unfolding settled withChannels
   counted = sym (ap (λ (x : State). x .channels) e)
 

@@ -2,7 +2,7 @@
 // listed; after them every new row is entered and then every old one left, so that no channel is freed that a new row holds.
 ghost use mathlib.Core.Path.{_≡_};
 ghost use Prim.Native.Nat.{_+_, _≤_, _<_};
-ghost use lib.ListN.{length};
+ghost use lib.ListN.{length, replicate};
 ghost use lib.Dec.{eqb};
 ghost use Rattle.numbers.specs.Count.{bit};
 ghost use Rattle.table.specs.Table.{tableOf, slotRow};
@@ -11,8 +11,8 @@ ghost use Rattle.table.specs.declared.Part.the-variants.{Slots};
 ghost use Rattle.table.specs.Index.{Indexed};
 ghost use Rattle.state.specs.State.{view, stateLength, thread, isWaiting};
 ghost use Rattle.counts.specs.Own.{ownList};
-ghost use Rattle.counts.specs.Own.Listing.{channelIn, listed, ownBy, listedTo, room};
-ghost use Rattle.counts.specs.Shift.{rowCounted, channelShifted, shifted, rowEntered, rowLeft, settledOne, settledTwo, settledNew};
+ghost use Rattle.counts.specs.Own.Listing.{channelIn, listed, lastOwn, ownBy, listedTo, room, ownRoom};
+ghost use Rattle.counts.specs.Shift.{rowCounted, channelShifted, shiftedTo, shifted, rowEntered, rowWeighed, rowLeft, settledOne, settledTwo, settledNew};
 use table::Part;
 
 const CHANNELS: u32 = 128;
@@ -59,6 +59,9 @@ fn fresh(table: &[u8], from: usize, n: u32, state: &[u8], t: u32, list: &[u8], k
 {
     if k < n {
         let c = channel_in(table, from, state, t, k);
+        if c == NO_CHANNEL {
+            return NO_CHANNEL;
+        }
         if is_listed(list, k, c) {
             return NO_CHANNEL;
         }
@@ -67,16 +70,32 @@ fn fresh(table: &[u8], from: usize, n: u32, state: &[u8], t: u32, list: &[u8], k
     NO_CHANNEL
 }
 
-// The channels of thread t's n slots are listed, each once.
-fn note(table: &[u8], from: usize, n: u32, state: &[u8], t: u32, list: &mut [u8])
+// How many entries n slots fill in a list.
+fn last_own(n: u32) -> u32
+    ensures { λ r. ⌜ r ≡ lastOwn n ⌝ }
+    ensures { λ r. ⌜ r ≤ 16 ⌝ }
+{
+    if n < ROW_SLOTS {
+        return n;
+    }
+    ROW_SLOTS
+}
+
+// The channels of thread t's n slots are listed, each once, in a list of none. Answers how many entries the slots fill.
+fn note(table: &[u8], from: usize, n: u32, state: &[u8], t: u32, list: &mut [u8]) -> u32
     requires { ⌜ from ≤ 12713792 ⌝ }
     requires { ⌜ length (now list) ≡ 16 ⌝ }
+    requires { ⌜ now list ≡ replicate 16 128 ⌝ }
     ensures { λ _. ⌜ now (list .exit) ≡ listedTo (tableOf (now (table .entry))) from n (thread (view (now (state .entry))) t) (now (list .entry)) 16 ⌝ }
+    ensures { λ r. ⌜ r ≡ lastOwn n ⌝ }
+    ensures { λ r. ⌜ r ≤ 16 ⌝ }
 {
-    for k in 0..ROW_SLOTS {
+    let last = last_own(n);
+    for k in 0..last {
         let c = fresh(table, from, n, state, t, list, k);
         list[k as usize] = c;
     }
+    last
 }
 
 // Where the types of a definition's slots begin in the table.
@@ -108,6 +127,32 @@ fn weight(status: u32) -> u32
     0
 }
 
+// The channels that thread t holds are listed, each once, in a list of none. Answers how many entries its slots fill.
+fn own_channels(table: &[u8], index: &[u32], state: &[u8], t: u32, list: &mut [u8]) -> u32
+    requires { ⌜ Indexed (tableOf (now table)) (now index) ⌝ }
+    requires { ⌜ length (now list) ≡ 16 ⌝ }
+    requires { ⌜ now list ≡ replicate 16 128 ⌝ }
+    ensures { λ _. ⌜ now (list .exit) ≡ ownList (tableOf (now (table .entry))) (thread (view (now (state .entry))) t) ⌝ }
+    ensures { λ r. ⌜ r ≡ ownRoom (tableOf (now (table .entry))) (thread (view (now (state .entry))) t) ⌝ }
+    ensures { λ r. ⌜ r ≤ 16 ⌝ }
+{
+    let status = state::thread_word(state, t as usize, 0);
+    let d = program::definition_of(table, index, state::thread_word(state, t as usize, 1));
+    let from = types_from(table, index, d);
+    let n = slots_in(table, status, d);
+    note(table, from, n, state, t, list)
+}
+
+// A list of no channels.
+fn clear(list: &mut [u8])
+    requires { ⌜ length (now list) ≡ 16 ⌝ }
+    ensures { λ _. ⌜ now (list .exit) ≡ replicate 16 128 ⌝ }
+{
+    for k in 0..ROW_SLOTS {
+        list[k as usize] = NO_CHANNEL;
+    }
+}
+
 // The channels that thread t holds, each once, and what it adds to their counts of waiting holders.
 pub fn take_down(table: &[u8], index: &[u32], state: &[u8], t: u32, list: &mut [u8]) -> u32
     requires { ⌜ Indexed (tableOf (now table)) (now index) ⌝ }
@@ -115,12 +160,9 @@ pub fn take_down(table: &[u8], index: &[u32], state: &[u8], t: u32, list: &mut [
     ensures { λ _. ⌜ now (list .exit) ≡ ownList (tableOf (now (table .entry))) (thread (view (now (state .entry))) t) ⌝ }
     ensures { λ r. ⌜ r ≡ bit (isWaiting (thread (view (now (state .entry))) t)) ⌝ }
 {
-    let status = state::thread_word(state, t as usize, 0);
-    let d = program::definition_of(table, index, state::thread_word(state, t as usize, 1));
-    let from = types_from(table, index, d);
-    let n = slots_in(table, status, d);
-    note(table, from, n, state, t, list);
-    weight(status)
+    clear(list);
+    own_channels(table, index, state, t, list);
+    weight(state::thread_word(state, t as usize, 0))
 }
 
 // Channel c has n holders, w of them waiting: without holders it is freed.
@@ -151,6 +193,17 @@ fn shift(state: &mut [u8], c: usize, dn: u32, dw: u32)
     }
 }
 
+// ... those of the first n channels of a list.
+fn shift_first(state: &mut [u8], list: &[u8], n: u32, dn: u32, dw: u32)
+    requires { ⌜ length (now state) ≡ stateLength ⌝ }
+    requires { ⌜ n ≤ length (now list) ⌝ }
+    ensures { λ _. ⌜ view (now (state .exit)) ≡ shiftedTo (view (now (state .entry))) (now (list .entry)) dn dw n ⌝ }
+{
+    for i in 0..n {
+        shift(state, list[i as usize] as usize, dn, dw);
+    }
+}
+
 // ... those of every channel of a list.
 fn shift_all(state: &mut [u8], list: &[u8], dn: u32, dw: u32)
     requires { ⌜ length (now state) ≡ stateLength ⌝ }
@@ -161,15 +214,35 @@ fn shift_all(state: &mut [u8], list: &[u8], dn: u32, dw: u32)
     }
 }
 
+// The counts of the channels that thread t holds go up by dn and dw, around the end.
+fn shift_own(table: &[u8], index: &[u32], state: &mut [u8], t: u32, dn: u32, dw: u32)
+    requires { ⌜ Indexed (tableOf (now table)) (now index) ⌝ }
+    requires { ⌜ length (now state) ≡ stateLength ⌝ }
+    ensures { λ _. ⌜ view (now (state .exit)) ≡ shifted (view (now (state .entry))) (ownList (tableOf (now (table .entry))) (thread (view (now (state .entry))) t)) dn dw ⌝ }
+{
+    let mut list = [128u8; 16];
+    let n = own_channels(table, index, state, t, &mut list);
+    shift_first(state, &list, n, dn, dw);
+}
+
 // Thread t's row has been written: it is counted at each channel that it holds.
 fn enter(table: &[u8], index: &[u32], state: &mut [u8], t: u32)
     requires { ⌜ Indexed (tableOf (now table)) (now index) ⌝ }
     requires { ⌜ length (now state) ≡ stateLength ⌝ }
     ensures { λ _. ⌜ view (now (state .exit)) ≡ rowEntered (tableOf (now (table .entry))) (view (now (state .entry))) t ⌝ }
 {
-    let mut list = [0u8; 16];
-    let w = take_down(table, index, state, t, &mut list);
-    shift_all(state, &list, 1, w);
+    let w = weight(state::thread_word(state, t as usize, 0));
+    shift_own(table, index, state, t, 1, w);
+}
+
+// Thread t's row has been written and holds what it held before, but its status is another: the counts of waiting holders of its channels go up by
+// dw, around the end.
+pub fn weigh(table: &[u8], index: &[u32], state: &mut [u8], t: u32, dw: u32)
+    requires { ⌜ Indexed (tableOf (now table)) (now index) ⌝ }
+    requires { ⌜ length (now state) ≡ stateLength ⌝ }
+    ensures { λ _. ⌜ view (now (state .exit)) ≡ rowWeighed (tableOf (now (table .entry))) (view (now (state .entry))) t dw ⌝ }
+{
+    shift_own(table, index, state, t, 0, dw);
 }
 
 // A row that held the channels of a list and added w to their counts of waiting holders is gone: channels that nobody holds are freed.

@@ -14,6 +14,8 @@ ghost use Rattle.counts.specs.Shift.{settledTwo};
 ghost use Rattle.moves.specs.Top.{UsedBelow};
 ghost use Rattle.steps.specs.Made.{Writable, Alone, Paired, Creation, made};
 ghost use Rattle.steps.specs.Top.{raisedBy};
+ghost use Rattle.rules.specs.declared.Move.the-variants.{Calls, Waits, Goes, Meets};
+ghost use Rattle.steps.specs.Keeping.{meetingKeeps};
 use rules::Move;
 use rules::Reason;
 use rules::Turn;
@@ -27,6 +29,8 @@ pub struct Round {
     pub turn: Turn,
     pub top: u32,
 }
+
+const MINUS_ONE: u32 = 4294967295;
 
 // What a move of thread t writes.
 fn write_move(table: &[u8], index: &[u32], state: &mut [u8], t: u32, m: Move)
@@ -118,6 +122,89 @@ fn make_paired(table: &[u8], index: &[u32], state: &mut [u8], t: u32, u: u32, m:
     make_noted(table, index, state, t, u, m, &old, waits, &other, awaits);
 }
 
+// Thread t goes on after its branch i. Where it is ready and will hold what it holds, no count changes.
+fn make_gone(table: &[u8], index: &[u32], state: &mut [u8], t: u32, i: u32)
+    requires { ⌜ Indexed (tableOf (now table)) (now index) ⌝ }
+    requires { ⌜ length (now state) ≡ stateLength ⌝ }
+    requires { ⌜ t < 64 ⌝ }
+    requires { ⌜ settled (tableOf (now table)) (view (now state)) ≡ view (now state) ⌝ }
+    ensures { λ _. ⌜ view (now (state .exit)) ≡ perform (tableOf (now (table .entry))) (view (now (state .entry))) t (Goes i) ⌝ }
+{
+    if state::thread_word(state, t as usize, 0) == 1 {
+        if branches::gone_keeps(table, index, state, t, i) {
+            branches::write_gone(table, index, state, t, i);
+            return;
+        }
+    }
+    make_alone(table, index, state, t, Move::Goes(i));
+}
+
+// Thread t makes the call at its node. Where it is ready and will hold what it holds, no count changes.
+fn make_call(table: &[u8], index: &[u32], state: &mut [u8], t: u32)
+    requires { ⌜ Indexed (tableOf (now table)) (now index) ⌝ }
+    requires { ⌜ length (now state) ≡ stateLength ⌝ }
+    requires { ⌜ t < 64 ⌝ }
+    requires { ⌜ settled (tableOf (now table)) (view (now state)) ≡ view (now state) ⌝ }
+    ensures { λ _. ⌜ view (now (state .exit)) ≡ perform (tableOf (now (table .entry))) (view (now (state .entry))) t Calls ⌝ }
+{
+    if state::thread_word(state, t as usize, 0) == 1 {
+        if writes::call_keeps(table, index, state, t) {
+            writes::write_call(table, index, state, t);
+            return;
+        }
+    }
+    make_alone(table, index, state, t, Move::Calls);
+}
+
+// Thread t waits. Where it was ready, its channels have one waiting holder more, and no other count changes.
+fn make_waiting(table: &[u8], index: &[u32], state: &mut [u8], t: u32)
+    requires { ⌜ Indexed (tableOf (now table)) (now index) ⌝ }
+    requires { ⌜ length (now state) ≡ stateLength ⌝ }
+    requires { ⌜ t < 64 ⌝ }
+    requires { ⌜ settled (tableOf (now table)) (view (now state)) ≡ view (now state) ⌝ }
+    ensures { λ _. ⌜ view (now (state .exit)) ≡ perform (tableOf (now (table .entry))) (view (now (state .entry))) t Waits ⌝ }
+{
+    if state::thread_word(state, t as usize, 0) == 1 {
+        writes::write_waiting(state, t);
+        counts::weigh(table, index, state, t, 1);
+        return;
+    }
+    make_alone(table, index, state, t, Move::Waits);
+}
+
+// Whether thread t is ready, u waits, and both will hold what they hold after the meeting of their branches i and j.
+fn meeting_keeps(table: &[u8], index: &[u32], state: &[u8], t: u32, i: u32, u: u32, j: u32) -> bool
+    requires { ⌜ Indexed (tableOf (now table)) (now index) ⌝ }
+    ensures { λ r. ⌜ r ≡ meetingKeeps (tableOf (now (table .entry))) (view (now (state .entry))) t i u j ⌝ }
+{
+    if state::thread_word(state, t as usize, 0) == 1 {
+        if state::thread_word(state, u as usize, 0) == 2 {
+            if branches::met_keeps(table, index, state, t, i) {
+                return branches::met_keeps(table, index, state, u, j);
+            }
+        }
+    }
+    false
+}
+
+// Threads t and u meet by their branches i and j. Where they will hold what they hold, u's channels have one waiting holder less.
+fn make_meeting(table: &[u8], index: &[u32], state: &mut [u8], t: u32, i: u32, u: u32, j: u32)
+    requires { ⌜ Indexed (tableOf (now table)) (now index) ⌝ }
+    requires { ⌜ length (now state) ≡ stateLength ⌝ }
+    requires { ⌜ t < 64 ⌝ }
+    requires { ⌜ settled (tableOf (now table)) (view (now state)) ≡ view (now state) ⌝ }
+    requires { ⌜ u < 64 ⌝ }
+    requires { ⌜ u ≢ t ⌝ }
+    ensures { λ _. ⌜ view (now (state .exit)) ≡ perform (tableOf (now (table .entry))) (view (now (state .entry))) t (Meets i u j) ⌝ }
+{
+    if meeting_keeps(table, index, state, t, i, u, j) {
+        branches::write_meeting(table, index, state, t, i, u, j);
+        counts::weigh(table, index, state, u, MINUS_ONE);
+        return;
+    }
+    make_paired(table, index, state, t, u, Move::Meets(i, u, j));
+}
+
 // A move of thread t; one that lacks a row changes nothing.
 pub fn make_move(table: &[u8], index: &[u32], state: &mut [u8], t: u32, m: Move)
     requires { ⌜ Indexed (tableOf (now table)) (now index) ⌝ }
@@ -129,19 +216,19 @@ pub fn make_move(table: &[u8], index: &[u32], state: &mut [u8], t: u32, m: Move)
 {
     match m {
         Move::Ends => make_alone(table, index, state, t, m),
-        Move::Calls => make_alone(table, index, state, t, m),
-        Move::Waits => make_alone(table, index, state, t, m),
-        Move::Goes(_) => make_alone(table, index, state, t, m),
+        Move::Calls => make_call(table, index, state, t),
+        Move::Waits => make_waiting(table, index, state, t),
+        Move::Goes(i) => make_gone(table, index, state, t, i),
         Move::Creates(i, c) => make_channel(table, index, state, t, c, Move::Creates(i, c)),
         Move::Spawns(i, u) => make_paired(table, index, state, t, u, Move::Spawns(i, u)),
-        Move::Meets(i, u, j) => make_paired(table, index, state, t, u, Move::Meets(i, u, j)),
+        Move::Meets(i, u, j) => make_meeting(table, index, state, t, i, u, j),
         Move::LacksThread => {}
         Move::LacksChannel => {}
     }
 }
 
-// Thread u, met through its branch j by somebody who gives v, goes on.
-pub fn make_met(table: &[u8], index: &[u32], state: &mut [u8], u: u32, j: u32, v: u32)
+// Thread u, met through its branch j by somebody who gives v, goes on: with the upkeep in full.
+fn make_met_anew(table: &[u8], index: &[u32], state: &mut [u8], u: u32, j: u32, v: u32)
     requires { ⌜ Indexed (tableOf (now table)) (now index) ⌝ }
     requires { ⌜ length (now state) ≡ stateLength ⌝ }
     requires { ⌜ u < 64 ⌝ }
@@ -152,6 +239,24 @@ pub fn make_met(table: &[u8], index: &[u32], state: &mut [u8], u: u32, j: u32, v
     let waits = counts::take_down(table, index, state, u, &mut old);
     branches::write_met(table, index, state, u, j, v);
     counts::settle_one(table, index, state, u, &old, waits);
+}
+
+// The same. Where u waits and will hold what it holds, its channels have one waiting holder less, and no other count changes.
+pub fn make_met(table: &[u8], index: &[u32], state: &mut [u8], u: u32, j: u32, v: u32)
+    requires { ⌜ Indexed (tableOf (now table)) (now index) ⌝ }
+    requires { ⌜ length (now state) ≡ stateLength ⌝ }
+    requires { ⌜ u < 64 ⌝ }
+    requires { ⌜ settled (tableOf (now table)) (view (now state)) ≡ view (now state) ⌝ }
+    ensures { λ _. ⌜ view (now (state .exit)) ≡ metByBench (tableOf (now (table .entry))) (view (now (state .entry))) u j v ⌝ }
+{
+    if state::thread_word(state, u as usize, 0) == 2 {
+        if branches::met_keeps(table, index, state, u, j) {
+            branches::write_met(table, index, state, u, j, v);
+            counts::weigh(table, index, state, u, MINUS_ONE);
+            return;
+        }
+    }
+    make_met_anew(table, index, state, u, j, v);
 }
 
 // Thread t, which is ready, makes its move; the move is answered.

@@ -1,10 +1,12 @@
 // What each move writes into the thread rows. The channel rows are settled by those who call.
 ghost use mathlib.Core.Path.{_≡_};
 ghost use mathlib.Core.List.{[], _∷_};
-ghost use Prim.Native.Nat.{_<_, _≤_};
+ghost use Prim.Native.Nat.{_+_, _<_, _≤_};
 ghost use lib.ListN.{length, getD, set, replicate};
-ghost use Rattle.numbers.specs.Search.{tabulate};
-ghost use Rattle.table.specs.Table.{tableOf};
+ghost use Rattle.numbers.specs.Search.{every, tabulate};
+ghost use Rattle.table.specs.Table.{tableOf, slotRow};
+ghost use Rattle.table.specs.Layout.{start};
+ghost use Rattle.table.specs.declared.Part.the-variants.{Slots};
 ghost use Rattle.table.specs.Index.{Indexed};
 ghost use Rattle.state.specs.State.{view, thread, standsAt, slotOf, slotsOf, stateLength, rowSlots, withThread, withMark};
 ghost use Rattle.rules.specs.Program.{blank, callee, argument};
@@ -12,12 +14,15 @@ ghost use Rattle.rules.specs.Start.{freeRow, entered};
 ghost use Rattle.rules.specs.Moves.{resumed, waitingRow, stored, met, goneBy, createdBy, metBy, valueBy, typeBy, sideOf, oneUp, written};
 ghost use Rattle.rules.specs.declared.Move.the-variants.{Calls, Spawns};
 ghost use Rattle.writes.specs.Rows.{reslotted, entryAt, callAt, portAt};
+ghost use Rattle.writes.specs.Calling.{lastSlot, callBy, keptBy, callKeeps};
 use rules::Act;
 use rules::Direction;
 use table::Part;
 
 // The slots of a row.
 const ROW_SLOTS: u32 = 16;
+
+const MINUS_ONE: u32 = 4294967295;
 
 // The node at which thread t stands.
 pub fn stands_at(state: &[u8], t: u32) -> u32
@@ -118,25 +123,146 @@ fn entry_at(table: &[u8], index: &[u32], d: u32, k: u32, given: u32) -> u32
     program::blank_of(table, index, d, k)
 }
 
-// Slot k as the call at thread t's node enters definition d.
-fn call_slot(table: &[u8], index: &[u32], state: &[u8], t: u32, d: u32, k: u32) -> u32
-    requires { ⌜ Indexed (tableOf (now table)) (now index) ⌝ }
-    ensures { λ r. ⌜ r ≡ callAt (tableOf (now (table .entry))) (thread (view (now (state .entry))) t) d k ⌝ }
+// From which slot on all are 0 as a definition with p parameters among n slots is entered.
+fn last_slot(p: u32, n: u32) -> u32
+    ensures { λ r. ⌜ r ≡ lastSlot p n ⌝ }
 {
-    let row = table::node_row(table) + stands_at(state, t) as usize;
-    let given = program::slot(state, t, table::cell(table, row, 3 + k as usize));
-    entry_at(table, index, d, k, given)
+    if p <= n {
+        if n < ROW_SLOTS {
+            return n;
+        }
+    }
+    ROW_SLOTS
 }
 
-// All slots with which the call at thread t's node enters definition d, read before any is written.
+// Slot k as the call in a row enters a definition with p parameters among n slots, whose types stand from a row on.
+fn call_slot(
+    table: &[u8],
+    row: usize,
+    from: usize,
+    p: u32,
+    n: u32,
+    state: &[u8],
+    t: u32,
+    k: u32,
+) -> u32
+    requires { ⌜ from ≤ 12713792 ⌝ }
+    ensures { λ r. ⌜ r ≡ callBy (tableOf (now (table .entry))) row from p n (thread (view (now (state .entry))) t) k ⌝ }
+{
+    if k < p {
+        return program::slot(state, t, table::cell(table, row, 3 + k as usize));
+    }
+    if k < n {
+        if table::cell(table, from + k as usize, 1) == 0 {
+            return 0;
+        }
+        return MINUS_ONE;
+    }
+    0
+}
+
+// All slots, read before any is written.
+fn lay_call(
+    table: &[u8],
+    row: usize,
+    from: usize,
+    p: u32,
+    n: u32,
+    state: &[u8],
+    t: u32,
+    slots: &mut [u32],
+)
+    requires { ⌜ from ≤ 12713792 ⌝ }
+    requires { ⌜ now slots ≡ replicate rowSlots 0 ⌝ }
+    ensures { λ _. ⌜ now (slots .exit) ≡ tabulate rowSlots (callBy (tableOf (now (table .entry))) row from p n (thread (view (now (state .entry))) t)) ⌝ }
+{
+    let last = last_slot(p, n);
+    for k in 0..last {
+        numbers::put_cell(
+            slots,
+            k as usize,
+            call_slot(table, row, from, p, n, state, t, k),
+        );
+    }
+}
+
+// Where the types of a definition's slots begin in the table.
+fn types_from(table: &[u8], index: &[u32], d: u32) -> usize
+    requires { ⌜ Indexed (tableOf (now table)) (now index) ⌝ }
+    ensures { λ r. ⌜ r ≡ slotRow (tableOf (now (table .entry))) + start (tableOf (now (table .entry))) Slots d ⌝ }
+    ensures { λ r. ⌜ r ≤ 12713792 ⌝ }
+{
+    table::slot_row(table) + table::start_of(table, index, Part::Slots, d) as usize
+}
+
+// All slots with which the call at thread t's node enters definition d.
 fn call_slots(table: &[u8], index: &[u32], state: &[u8], t: u32, d: u32, slots: &mut [u32])
     requires { ⌜ Indexed (tableOf (now table)) (now index) ⌝ }
     requires { ⌜ now slots ≡ replicate rowSlots 0 ⌝ }
     ensures { λ _. ⌜ now (slots .exit) ≡ tabulate rowSlots (callAt (tableOf (now (table .entry))) (thread (view (now (state .entry))) t) d) ⌝ }
 {
-    for k in 0..ROW_SLOTS {
-        numbers::put_cell(slots, k as usize, call_slot(table, index, state, t, d, k));
+    let row = table::node_row(table) + stands_at(state, t) as usize;
+    let from = types_from(table, index, d);
+    let p = table::parameters_of(table, d);
+    let n = table::slots_of(table, d);
+    lay_call(table, row, from, p, n, state, t, slots);
+}
+
+// Whether slot k gets by the call in a row what it has, if it is a channel slot.
+fn slot_keeps(
+    table: &[u8],
+    row: usize,
+    from: usize,
+    p: u32,
+    n: u32,
+    state: &[u8],
+    t: u32,
+    k: u32,
+) -> bool
+    requires { ⌜ from ≤ 12713792 ⌝ }
+    ensures { λ r. ⌜ r ≡ keptBy (tableOf (now (table .entry))) row from p n (thread (view (now (state .entry))) t) k ⌝ }
+{
+    if k < n {
+        if table::cell(table, from + k as usize, 1) == 0 {
+            return true;
+        }
+        return call_slot(table, row, from, p, n, state, t, k) == program::slot(state, t, k);
     }
+    true
+}
+
+// ... all channel slots.
+fn slots_keep(table: &[u8], row: usize, from: usize, p: u32, n: u32, state: &[u8], t: u32) -> bool
+    requires { ⌜ from ≤ 12713792 ⌝ }
+    ensures { λ r. ⌜ r ≡ every (keptBy (tableOf (now (table .entry))) row from p n (thread (view (now (state .entry))) t)) rowSlots ⌝ }
+{
+    let last = last_slot(p, n);
+    for k in 0..last {
+        if !slot_keeps(table, row, from, p, n, state, t, k) {
+            return false;
+        }
+    }
+    true
+}
+
+// Whether the call at thread t's node is to its own definition and every channel slot gets what it has.
+pub fn call_keeps(table: &[u8], index: &[u32], state: &[u8], t: u32) -> bool
+    requires { ⌜ Indexed (tableOf (now table)) (now index) ⌝ }
+    ensures { λ r. ⌜ r ≡ callKeeps (tableOf (now (table .entry))) (thread (view (now (state .entry))) t) ⌝ }
+{
+    let node = stands_at(state, t);
+    let row = table::node_row(table) + node as usize;
+    let d = table::cell(table, row, 2);
+    if program::definition_of(table, index, node) == d {
+        let entry = table::start_of(table, index, Part::Nodes, d);
+        if program::definition_of(table, index, entry) == d {
+            let from = types_from(table, index, d);
+            let p = table::parameters_of(table, d);
+            let n = table::slots_of(table, d);
+            return slots_keep(table, row, from, p, n, state, t);
+        }
+    }
+    false
 }
 
 // The slots with which thread 0 starts: parameter k is port k.

@@ -8,6 +8,7 @@ fresh-spec =
     tie.close
     (tie.spec
     (λ c κs. search needs)
+    (λ c. search freshes)
     (λ c κs. search needs)
     (λ c. search freshes)
     (λ c. search freshes)

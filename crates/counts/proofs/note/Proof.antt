@@ -6,16 +6,16 @@ use borrow.Author.Needs.{needs}
 use Rattle.table.specs.Table.{tableOf}
 use Rattle.state.specs.State.{view, thread}
 use Rattle.counts.specs.Own.Listing.{listedTo}
-use Rattle.counts.proofs.Listings.{notes}
+use Rattle.counts.proofs.Listings.{note-none, note-more, note-all}
 use Rattle.counts.proofs.note.Statement.{statement}
 use Rattle.counts.proofs.note.Tie as tie
 
 abbrev Inv-loop : tie.InvT-loop
-Inv-loop table from n state t list₀ k₀ list k =
-    (k ≤ 16) × (length list ≡ length list₀) × (list ≡ listedTo (tableOf table) from n (thread (view state) t) list₀ k)
+Inv-loop table from n state t list₀ last k₀ list k =
+    (k ≤ last) × (length list ≡ length list₀) × (list ≡ listedTo (tableOf table) from n (thread (view state) t) list₀ k)
 
 abbrev μ-loop : tie.MeasureT-loop
-μ-loop table from n state t list₀ k₀ list k = 16 - k
+μ-loop table from n state t list₀ last k₀ list k = last - k
 
 pub note-spec : {M : Type 1} → statement M
 note-spec =
@@ -23,12 +23,13 @@ note-spec =
     (tie.spec
     Inv-loop
     μ-loop
-    (λ c. search (notes, needs))
+    (λ c κs. search needs)
+    (λ c. search (note-none, needs))
     (λ c κs. search needs)
     (λ c. search needs)
     (λ c. search needs)
     (λ c. search needs)
     (λ c. search needs)
-    (λ c. search (notes, needs))
+    (λ c. search (note-more, needs))
     (λ c. search needs)
-    (λ c. search notes))
+    (λ c. (search note-all, (search, search))))

@@ -1,4 +1,4 @@
-use Rattle.counts.proofs.Listings.{taken-list, taken-weight}
+use Rattle.counts.proofs.Listings.{taken-weight}
 use borrow.Author.Needs.{needs}
 use Rattle.counts.proofs.take_down.Statement.{statement}
 use Rattle.counts.proofs.take_down.Tie as tie
@@ -8,11 +8,8 @@ take-down-spec =
     tie.close
     (tie.spec
     (λ c κs. search needs)
-    (λ c κs. search needs)
-    (λ c κs. search needs)
-    (λ c κs. search needs)
-    (λ c κs. search needs)
+    (λ c κs. (search, (search needs, search)))
     (λ c κs. search needs)
     (λ c κs. search needs)
     (λ c. search needs)
-    (λ c. (search taken-list, search taken-weight)))
+    (λ c. (search, search taken-weight)))

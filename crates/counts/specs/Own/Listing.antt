@@ -8,12 +8,17 @@ use lib.ListN.{getD, set}
 use Rattle.numbers.specs.Rows.{at}
 use Rattle.numbers.specs.Search.{some}
 use Rattle.table.specs.Table.{Table, slotCount}
-use Rattle.state.specs.State.{maxChannels, slotOf, inUse}
+use Rattle.table.specs.Layout.{definitionOf}
+use Rattle.state.specs.State.{maxChannels, rowSlots, status, standsAt, slotOf, inUse}
 use Rattle.rules.specs.Holding.{hasAt}
 
 -- whether one of the first n entries of a list is c
 unfoldable pub listed : List ℕ → ℕ → ℕ → Bool
 listed l n c = some (λ i. eqb (getD l i 0) c) n
+
+-- how many entries of the list n slots fill: past them there is no channel
+unfoldable pub lastOwn : ℕ → ℕ
+lastOwn n = cond (ltb n rowSlots) n rowSlots
 
 module _ (tb : Table) where
   -- how many slots a row of this status has, by its definition
@@ -34,6 +39,10 @@ module _ (tb : Table) where
     unfoldable pub listedTo : List ℕ → ℕ → List ℕ
     listedTo l zero = l
     listedTo l (suc k) = set (listedTo l k) k (ownBy (listedTo l k) k)
+
+  -- how many entries the slots of a row fill
+  unfoldable pub ownRoom : List ℕ → ℕ
+  ownRoom row = lastOwn (room (status row) (definitionOf tb (standsAt row)))
 
   -- whether a row holds c by one of its first k slots
   unfoldable pub holdsTo : List ℕ → ℕ → ℕ → Bool

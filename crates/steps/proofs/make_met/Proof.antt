@@ -1,4 +1,4 @@
-use Rattle.steps.specs.Made.Laws.{met-made}
+use Rattle.steps.specs.Keeping.Laws.{resumes-made}
 use borrow.Author.Needs.{needs}
 use Rattle.steps.proofs.make_met.Statement.{statement}
 use Rattle.steps.proofs.make_met.Tie as tie
@@ -7,10 +7,12 @@ pub make-met-spec : {M : Type 1} → statement M
 make-met-spec =
     tie.close
     (tie.spec
-    (λ c. search needs)
+    (λ c κs. search needs)
+    (λ c κs. search needs)
     (λ c κs. search needs)
     (λ c κs. search needs)
     (λ c. search needs)
+    (λ c. search resumes-made)
     (λ c κs. search needs)
     (λ c. search needs)
-    (λ c. search met-made))
+    (λ c. search needs))

@@ -1,8 +1,8 @@
-use Rattle.steps.specs.Made.Laws.{made-arm, made-anew, lacking-arm, alone-from, writable-channel, writable-child, writable-aside, writable-other, writable-apart}
-use Rattle.steps.specs.Made.{made, Alone, Creation, Paired}
 use borrow.Author.Needs.{needs}
 use Rattle.steps.proofs.make_move.Statement.{statement}
 use Rattle.steps.proofs.make_move.Tie as tie
+use Rattle.steps.specs.Made.Laws.{made-arm, made-anew, lacking-arm, alone-from, writable-channel, writable-child, writable-aside, writable-other, writable-apart}
+use Rattle.steps.specs.Made.{made, Alone, Creation, Paired}
 
 pub make-move-spec : {M : Type 1} → statement M
 unfolding Alone Creation Paired made
@@ -12,17 +12,17 @@ make-move-spec =
     (λ c. search needs)
     (λ c κs. (search, (search, (search, (search, search alone-from)))))
     (λ c. search needs)
-    (λ c κs. (search, (search, (search, (search, search alone-from)))))
+    (λ c κs. search needs)
     (λ c. search needs)
-    (λ c κs. (search, (search, (search, (search, search alone-from)))))
+    (λ c κs. search needs)
     (λ c. search needs)
-    (λ c κs. (search, (search, (search, (search, search alone-from)))))
+    (λ c κs. search needs)
     (λ c. search needs)
     (λ c κs. (search, (search, (search, (search, (search, search writable-channel))))))
     (λ c. search needs)
     (λ c κs. (search, (search, (search, (search, (search, search writable-child, search writable-aside))))))
     (λ c. search needs)
-    (λ c κs. (search, (search, (search, (search, (search, search writable-other, search writable-apart))))))
+    (λ c κs. (search, (search, (search, (search, (search writable-other, search writable-apart))))))
     (λ c. search needs)
     (λ c. search needs)
     (λ c. search needs)

@@ -1,19 +1,18 @@
-use Rattle.writes.specs.Rows.{callAt}
+use Rattle.writes.specs.Calling.Laws.{call-ways}
 use borrow.Author.Needs.{needs}
 use Rattle.writes.proofs.call_slot.Statement.{statement}
 use Rattle.writes.proofs.call_slot.Tie as tie
 
 pub call-slot-spec : {M : Type 1} → statement M
-unfolding callAt
 call-slot-spec =
     tie.close
     (tie.spec
-    (λ c κs. search needs)
-    (λ c κs. search needs)
-    (λ c. search needs)
-    (λ c. search needs)
     (λ c. search needs)
     (λ c κs. search needs)
     (λ c κs. search needs)
+    (λ c. search call-ways)
+    (λ c. search needs)
     (λ c κs. search needs)
-    (λ c. cc))
+    (λ c. search call-ways)
+    (λ c. search call-ways)
+    (λ c. search call-ways))

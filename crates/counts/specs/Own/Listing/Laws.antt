@@ -21,7 +21,7 @@ use Rattle.counts.specs.Own.{ownOf, ownList}
 use Rattle.counts.specs.Own.Laws.{holds-none, own-suc}
 use Rattle.counts.specs.Own.Listing.{listed, room, channelIn, ownBy, listedTo, holdsTo}
 
-same-whether : {A : Type 0} (b : Bool) (x : A) → cond b x x ≡ x
+pub same-whether : {A : Type 0} (b : Bool) (x : A) → cond b x x ≡ x
 same-whether true x = refl
 same-whether false x = refl
 

@@ -1,0 +1,19 @@
+use Rattle.steps.specs.Keeping.Laws.{gone-made}
+use Rattle.steps.specs.Made.{Alone}
+use borrow.Author.Needs.{needs}
+use Rattle.steps.proofs.make_gone.Statement.{statement}
+use Rattle.steps.proofs.make_gone.Tie as tie
+
+pub make-gone-spec : {M : Type 1} → statement M
+unfolding Alone
+make-gone-spec =
+    tie.close
+    (tie.spec
+    (λ c κs. search needs)
+    (λ c κs. search needs)
+    (λ c κs. search needs)
+    (λ c. search needs)
+    (λ c. search gone-made)
+    (λ c κs. (search, (search, (search, (search, tt)))))
+    (λ c. search needs)
+    (λ c. search needs))

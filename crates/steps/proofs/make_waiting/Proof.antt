@@ -1,0 +1,19 @@
+use Rattle.steps.specs.Keeping.Laws.{waits-made}
+use Rattle.steps.specs.Made.{Alone}
+use borrow.Author.Needs.{needs}
+use Rattle.steps.proofs.make_waiting.Statement.{statement}
+use Rattle.steps.proofs.make_waiting.Tie as tie
+
+pub make-waiting-spec : {M : Type 1} → statement M
+unfolding Alone
+make-waiting-spec =
+    tie.close
+    (tie.spec
+    (λ c κs. search needs)
+    (λ c κs. search needs)
+    (λ c κs. search needs)
+    (λ c. search needs)
+    (λ c. search waits-made)
+    (λ c κs. (search, (search, (search, (search, tt)))))
+    (λ c. search needs)
+    (λ c. search needs))

@@ -1,0 +1,16 @@
+use Rattle.writes.specs.Calling.Laws.{kept-ways}
+use borrow.Author.Needs.{needs}
+use Rattle.writes.proofs.slot_keeps.Statement.{statement}
+use Rattle.writes.proofs.slot_keeps.Tie as tie
+
+pub slot-keeps-spec : {M : Type 1} → statement M
+slot-keeps-spec =
+    tie.close
+    (tie.spec
+    (λ c. search needs)
+    (λ c κs. search needs)
+    (λ c. search kept-ways)
+    (λ c κs. search needs)
+    (λ c κs. search needs)
+    (λ c. search kept-ways)
+    (λ c. search kept-ways))
