@@ -15,19 +15,19 @@ module _ (tb : Table) where
   unfoldable pub hasAt : List ℕ → ℕ → ℕ → Bool
   hasAt row c k = channelSlot tb (definitionOf tb (standsAt row)) k && eqb (slotOf row k) c
 
-  -- a thread holds (document 01: knows, or holds) a channel if any of its channel slots has its number. The number of no channel, as -1 is, is not held
+  -- a thread holds (document 01 also says: knows) each channel whose number stands in a channel slot of it. The number of no channel, as -1 is, is not held
   unfoldable pub holds : List ℕ → ℕ → Bool
   holds row c = inUse row && (ltb c maxChannels && some (hasAt row c) rowSlots)
 
   module _ (ths : List (List ℕ)) (c : ℕ) where
-    -- the threads that hold a channel, each counted once, and the waiting ones among them
+    -- how many threads hold a channel, and how many of those wait
     unfoldable pub holders : ℕ
     holders = count (λ row. holds row c) ths
 
     unfoldable pub waiters : ℕ
     waiters = count (λ row. isWaiting row && holds row c) ths
 
-    -- the bench holds every port for good
+    -- the bench is one holder more of each port, always
     unfoldable pub countOf : ℕ
     countOf = bit (ltb c (ports tb)) + holders
 

@@ -192,6 +192,6 @@ module _ (tb : Table) where
     unfoldable pub perform : Move → State
     perform m = settled tb (written m)
 
-  -- ---- what the environment does: thread u, met through its branch j by somebody who gives v, goes on as a partner does in a step
+  -- ---- the environment as the other side: thread u, met through its branch j by somebody who gives v, goes on just as if a thread had met it
   unfoldable pub metByBench : State → ℕ → ℕ → ℕ → State
   metByBench s u j v = settled tb (withThread s u (metBy (thread s u) j v))

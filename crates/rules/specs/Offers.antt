@@ -35,7 +35,7 @@ module _ (tb : Table) where
   unfoldable pub offeringBranch : List ℕ → Direction → ℕ → ℕ
   offeringBranch row d c = first (offersAt row d c) (branchCount tb (standsAt row))
 
-  -- a waiting thread offers all its true-guarded sends and receives. What is no channel, as -1 is not, is not offered
+  -- only a thread that waits offers, by each meeting among its branches whose guard is true. What is no channel, as -1 is not, is not offered
   unfoldable pub offers : List ℕ → Direction → ℕ → Bool
   offers row d c = ltb c maxChannels && (isWaiting row && some (offersAt row d c) (branchCount tb (standsAt row)))
 

@@ -33,7 +33,7 @@ module _ (tb : Table) where
       not (inUse row) || every (λ k. ltb k (slotCount tb (definitionOf tb (standsAt row))) || eqb (slotOf row k) 0) rowSlots
 
   module _ (s : State) where
-    -- channel slot k of a thread has -1 or a channel in use of the slot's type; a number slot may have any number
+    -- what stands in channel slot k of a thread is -1, or a channel that is in use and has the type of the slot; number slots are not asked
     unfoldable pub slotTyped : List ℕ → ℕ → Bool
     slotTyped row k =
         not (channelSlot tb (definitionOf tb (standsAt row)) k)
@@ -43,7 +43,7 @@ module _ (tb : Table) where
     unfoldable pub slotsTyped : List ℕ → Bool
     slotsTyped row = not (inUse row) || every (slotTyped row) rowSlots
 
-  -- a channel slot is filled if it is a parameter or is written on every path to the node: no path to the node leaves it unwritten
+  -- a channel slot that no path to the node leaves unwritten is filled. Parameters are such slots
   unfoldable pub slotFilled : List ℕ → ℕ → Bool
   slotFilled row k =
       not (channelSlot tb (definitionOf tb (standsAt row)) k) || (mayLack tb (standsAt row) k || not (eqb (slotOf row k) minusOne))
@@ -63,7 +63,7 @@ module _ (tb : Table) where
     unfoldable pub portTyped : ℕ → Bool
     portTyped c = eqb (typeIn s c) 1
 
-    -- a waiting thread stands at a choice of which no branch could go ahead (a spawn or a new with a true guard could, row or no row)
+    -- a waiting thread stands at a choice, and none of its branches could go ahead, where a lacking row does not hold back a spawn or a new
     unfoldable pub waitsRightly : ℕ → Bool
     waitsRightly t =
         not (isWaiting (thread s t))
