@@ -6,15 +6,16 @@ use mathlib.Core.Logic.{_≢_}
 use mathlib.Core.List.{List}
 use Rattle.numbers.specs.Rows.{at}
 use Rattle.table.specs.Table.{Table}
-use Rattle.state.specs.State.{State, view, thread, standsAt, withThread}
+use Rattle.state.specs.State.{State, stateOf, thread, standsAt, withThread}
 use Rattle.state.specs.State.Laws.{length-threads, thread-same, thread-other, thread-twice}
 use Rattle.rules.specs.Program.{branchAt, nextOf}
-use Rattle.rules.specs.Moves.{resumed, stored, met, gone, sideOf, createdBy, metBy, valueBy, written}
-use Rattle.rules.specs.declared.Move.the-variants.{Meets}
+use Rattle.rules.specs.Moves.{resumed, stored, met, gone, sideOf, createdBy}
 use Rattle.rules.specs.declared.Direction.{Direction}
 use Rattle.rules.specs.declared.Direction.the-variants.{Out, In}
 use Rattle.rules.specs.declared.Act.{Act}
 use Rattle.rules.specs.declared.Act.the-variants.{Tau, Meeting, New, Spawn, Assignment}
+use Rattle.branches.specs.Way.{valueAlong, metAlong, metAlongBoth}
+use Rattle.branches.specs.declared.Way.{Way}
 
 pub side-arm : (r : Direction) (a b : Act) → a ≡ b → r ≡ sideOf b → r ≡ sideOf a
 side-arm r a b e f = rw e f
@@ -22,64 +23,64 @@ side-arm r a b e f = rw e f
 -- ---- a row that is written twice: s₁ has row r for thread t, and s₂ has v in its slot k besides
 
 module _ (b : List ℕ) (t : ℕ) (r : List ℕ) (s₁ s₂ : State) (k v : ℕ) where
-  stored-after : s₂ ≡ withThread s₁ t (stored (thread s₁ t) k v) → s₁ ≡ withThread (view b) t r → t < 64 → s₂ ≡ withThread (view b) t (stored r k v)
+  stored-after : s₂ ≡ withThread s₁ t (stored (thread s₁ t) k v) → s₁ ≡ withThread (stateOf b) t r → t < 64 → s₂ ≡ withThread (stateOf b) t (stored r k v)
   stored-after e f h =
-      let w : thread s₁ t ≡ r = ap (λ (s : State). thread s t) f ∙ thread-same (view b) t r (omega (arith, length-threads b)) in
-      e ∙ rw (w, f, thread-twice (view b) t r (stored r k v))
+      let w : thread s₁ t ≡ r = ap (λ (s : State). thread s t) f ∙ thread-same (stateOf b) t r (omega (arith, length-threads b)) in
+      e ∙ rw (w, f, thread-twice (stateOf b) t r (stored r k v))
 
-module _ (b : List ℕ) (t n k v : ℕ) (s₁ : State) (e : s₁ ≡ withThread (view b) t (resumed (thread (view b) t) n)) where
+module _ (b : List ℕ) (t n k v : ℕ) (s₁ : State) (e : s₁ ≡ withThread (stateOf b) t (resumed (thread (stateOf b) t) n)) where
   -- a meeting
-  pub sender-goes : (d : Direction) → d ≡ Out → s₁ ≡ withThread (view b) t (met d (thread (view b) t) n k v)
+  pub sender-goes : (d : Direction) → d ≡ Out → s₁ ≡ withThread (stateOf b) t (met d (thread (stateOf b) t) n k v)
   unfolding met
   sender-goes d f = rw f e
 
   -- an act of its own
   module _ (a : Act) where
-    pub tau-goes : a ≡ Tau → s₁ ≡ withThread (view b) t (gone a (thread (view b) t) n k v)
+    pub tau-goes : a ≡ Tau → s₁ ≡ withThread (stateOf b) t (gone a (thread (stateOf b) t) n k v)
     unfolding gone
     tau-goes f = rw f e
 
-    pub meeting-goes : (d : Direction) → a ≡ Meeting d → s₁ ≡ withThread (view b) t (gone a (thread (view b) t) n k v)
+    pub meeting-goes : (d : Direction) → a ≡ Meeting d → s₁ ≡ withThread (stateOf b) t (gone a (thread (stateOf b) t) n k v)
     unfolding gone
     meeting-goes d f = rw f e
 
-    pub new-goes : a ≡ New → s₁ ≡ withThread (view b) t (gone a (thread (view b) t) n k v)
+    pub new-goes : a ≡ New → s₁ ≡ withThread (stateOf b) t (gone a (thread (stateOf b) t) n k v)
     unfolding gone
     new-goes f = rw f e
 
-    pub spawn-goes : a ≡ Spawn → s₁ ≡ withThread (view b) t (gone a (thread (view b) t) n k v)
+    pub spawn-goes : a ≡ Spawn → s₁ ≡ withThread (stateOf b) t (gone a (thread (stateOf b) t) n k v)
     unfolding gone
     spawn-goes f = rw f e
 
   module _ (s₂ : State) (g : s₂ ≡ withThread s₁ t (stored (thread s₁ t) k v)) (h : t < 64) where
-    pub receiver-goes : (d : Direction) → d ≡ In → s₂ ≡ withThread (view b) t (met d (thread (view b) t) n k v)
+    pub receiver-goes : (d : Direction) → d ≡ In → s₂ ≡ withThread (stateOf b) t (met d (thread (stateOf b) t) n k v)
     unfolding met
-    receiver-goes d f = rw f (stored-after b t (resumed (thread (view b) t) n) s₁ s₂ k v g e h)
+    receiver-goes d f = rw f (stored-after b t (resumed (thread (stateOf b) t) n) s₁ s₂ k v g e h)
 
-    pub assignment-goes : (a : Act) → a ≡ Assignment → s₂ ≡ withThread (view b) t (gone a (thread (view b) t) n k v)
+    pub assignment-goes : (a : Act) → a ≡ Assignment → s₂ ≡ withThread (stateOf b) t (gone a (thread (stateOf b) t) n k v)
     unfolding gone
-    assignment-goes a f = rw f (stored-after b t (resumed (thread (view b) t) n) s₁ s₂ k v g e h)
+    assignment-goes a f = rw f (stored-after b t (resumed (thread (stateOf b) t) n) s₁ s₂ k v g e h)
 
     -- a new channel v in slot k
-    pub holder-goes : (tb : Table) (i m r : ℕ) → k ≡ at tb r 5 → n ≡ nextOf tb m r → r ≡ branchAt tb m i → m ≡ standsAt (thread (view b) t)
-        → s₂ ≡ withThread (view b) t (createdBy tb (thread (view b) t) i v)
+    pub holder-goes : (tb : Table) (i m r : ℕ) → k ≡ at tb r 5 → n ≡ nextOf tb m r → r ≡ branchAt tb m i → m ≡ standsAt (thread (stateOf b) t)
+        → s₂ ≡ withThread (stateOf b) t (createdBy tb (thread (stateOf b) t) i v)
     unfolding createdBy
     holder-goes tb i m r p q x y =
-        stored-after b t (resumed (thread (view b) t) n) s₁ s₂ k v g e h ∙ rw (p, q, x, y)
+        stored-after b t (resumed (thread (stateOf b) t) n) s₁ s₂ k v g e h ∙ rw (p, q, x, y)
 
 pub ruleset goings = (sender-goes, receiver-goes, tau-goes, meeting-goes, new-goes, spawn-goes, assignment-goes)
 
 -- ---- two rows
 
-module _ (tb : Table) (s s₁ s₂ : State) (t i x u j y : ℕ) where
-  pub both-go : s₂ ≡ withThread s₁ u (metBy tb (thread s₁ u) j y) → s₁ ≡ withThread s t (metBy tb (thread s t) i x)
-      → u ≢ t → s₂ ≡ withThread (withThread s t (metBy tb (thread s t) i x)) u (metBy tb (thread s u) j y)
+module _ (tb : Table) (s s₁ s₂ : State) (t : ℕ) (own : Way) (x u : ℕ) (other : Way) (y : ℕ) where
+  pub both-go : s₂ ≡ withThread s₁ u (metAlong tb (thread s₁ u) other y) → s₁ ≡ withThread s t (metAlong tb (thread s t) own x)
+      → u ≢ t → s₂ ≡ withThread (withThread s t (metAlong tb (thread s t) own x)) u (metAlong tb (thread s u) other y)
   both-go e f n =
-      let w : thread s₁ u ≡ thread s u = ap (λ (z : State). thread z u) f ∙ thread-other s t (metBy tb (thread s t) i x) u n in
+      let w : thread s₁ u ≡ thread s u = ap (λ (z : State). thread z u) f ∙ thread-other s t (metAlong tb (thread s t) own x) u n in
       e ∙ rw (w, f)
 
-module _ (tb : Table) (s s₁ : State) (t i x u j y : ℕ) where
-  pub meeting-goes-on : s₁ ≡ withThread (withThread s t (metBy tb (thread s t) i x)) u (metBy tb (thread s u) j y)
-      → x ≡ valueBy tb (thread s u) j → y ≡ valueBy tb (thread s t) i → s₁ ≡ written tb s t (Meets i u j)
-  unfolding written
+module _ (tb : Table) (s s₁ : State) (t : ℕ) (own : Way) (x u : ℕ) (other : Way) (y : ℕ) where
+  pub meeting-goes-on : s₁ ≡ withThread (withThread s t (metAlong tb (thread s t) own x)) u (metAlong tb (thread s u) other y)
+      → x ≡ valueAlong tb (thread s u) other → y ≡ valueAlong tb (thread s t) own → s₁ ≡ metAlongBoth tb s t own u other
+  unfolding metAlongBoth
   meeting-goes-on e f g = e ∙ rw (f, g)

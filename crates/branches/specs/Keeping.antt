@@ -2,13 +2,9 @@
 pub mod Laws
 use Prim.Native.Nat.{ℕ}
 use mathlib.Core.Bool.{Bool, _&&_}
-use mathlib.Core.List.{List}
 use lib.Dec.{eqb}
 use Rattle.table.specs.Table.{Table}
 use Rattle.table.specs.Layout.{definitionOf, slotType}
-use Rattle.state.specs.State.{standsAt}
-use Rattle.rules.specs.Program.{nextOf, fieldA, fieldB, actOf}
-use Rattle.rules.specs.Moves.{rowOf, sideOf}
 use Rattle.rules.specs.declared.Direction.{Direction}
 use Rattle.rules.specs.declared.Direction.the-variants.{Out, In}
 use Rattle.rules.specs.declared.Act.{Act}
@@ -35,11 +31,3 @@ module _ (tb : Table) where
   unfoldable pub sideKeeps : Direction → ℕ → ℕ → ℕ → Bool
   sideKeeps Out d n k = within d n
   sideKeeps In d n k = spares d n k
-
-  -- a thread's row and its branch i: a tau or an assignment, and a side of a meeting
-  module _ (row : List ℕ) (i : ℕ) where
-    unfoldable pub goneKeeps : Bool
-    goneKeeps = actKeeps (actOf tb (rowOf tb row i)) (definitionOf tb (standsAt row)) (nextOf tb (standsAt row) (rowOf tb row i)) (fieldA tb (rowOf tb row i))
-
-    unfoldable pub metKeeps : Bool
-    metKeeps = sideKeeps (sideOf (actOf tb (rowOf tb row i))) (definitionOf tb (standsAt row)) (nextOf tb (standsAt row) (rowOf tb row i)) (fieldB tb (rowOf tb row i))

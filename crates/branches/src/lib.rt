@@ -2,18 +2,16 @@
 ghost use mathlib.Core.Path.{_≡_};
 ghost use mathlib.Core.Logic.{_≢_};
 ghost use Prim.Native.Nat.{_<_, _≤_};
-ghost use lib.ListN.{length};
 ghost use Rattle.table.specs.Table.{tableOf};
 ghost use Rattle.table.specs.Index.{Indexed};
-ghost use Rattle.state.specs.State.{view, thread, stateLength, withThread};
+ghost use Rattle.state.specs.State.{stateOf, thread, withThread};
 ghost use Rattle.rules.specs.Program.{actOf};
-ghost use Rattle.rules.specs.Moves.{met, gone, goneBy, createdBy, metBy, rowOf, valueBy, typeBy, sideOf, typed, spawnedBy, written};
-ghost use Rattle.rules.specs.declared.Move.the-variants.{Creates, Spawns, Meets};
-ghost use Rattle.branches.specs.Keeping.{within, spares, actKeeps, sideKeeps, goneKeeps, metKeeps};
+ghost use Rattle.rules.specs.Moves.{met, gone, createdBy, typeBy, sideOf, typed, spawnedBy, written};
+ghost use Rattle.rules.specs.declared.Move.the-variants.{Creates, Spawns};
+ghost use Rattle.branches.specs.Keeping.{within, spares, actKeeps, sideKeeps};
+ghost use Rattle.branches.specs.Way.{wayOf, valueAlong, metAlong, metAlongBoth, goneAlong, metKeeps, goneKeeps};
 use rules::Act;
 use rules::Direction;
-
-const ROW_SLOTS: usize = 16;
 
 const MAX_THREADS: u32 = 64;
 
@@ -32,31 +30,39 @@ fn side_of(act: Act) -> Direction
     }
 }
 
-// The row of branch i of the node at which thread t stands.
-fn row_of(table: &[u8], index: &[u32], state: &[u8], t: u32, i: u32) -> usize
-    requires { ⌜ Indexed (tableOf (now table)) (now index) ⌝ }
-    ensures { λ r. ⌜ r ≡ rowOf (tableOf (now (table .entry))) (thread (view (now (state .entry))) t) i ⌝ }
-{
-    program::branch_at(table, index, writes::stands_at(state, t), i)
+// A branch that a thread takes: its row in the table, what it does and the node to which it leads on.
+pub struct Way {
+    pub row: usize,
+    pub act: Act,
+    pub next: u32,
 }
 
-// What thread t gives at a meeting by its branch i.
-pub fn value_by(table: &[u8], index: &[u32], state: &[u8], t: u32, i: u32) -> u32
+// Branch i of thread t.
+pub fn way_by(table: &[u8], index: &[u32], state: &[u32; state::WORDS], t: u32, i: u32) -> Way
     requires { ⌜ Indexed (tableOf (now table)) (now index) ⌝ }
-    ensures { λ r. ⌜ r ≡ valueBy (tableOf (now (table .entry))) (thread (view (now (state .entry))) t) i ⌝ }
+    ensures { λ r. ⌜ r ≡ wayOf (tableOf (now (table .entry))) (thread (stateOf (now (state .entry))) t) i ⌝ }
 {
-    program::slot(
-        state,
-        t,
-        table::cell(table, row_of(table, index, state, t, i), 6),
-    )
+    let node = writes::stands_at(state, t);
+    let row = program::branch_at(table, index, node, i);
+    Way {
+        row: row,
+        act: program::act_of(table, index, row),
+        next: program::next_of(table, index, node, row),
+    }
+}
+
+// What thread t gives at a meeting.
+pub fn value_by(table: &[u8], index: &[u32], state: &[u32; state::WORDS], t: u32, way: Way) -> u32
+    requires { ⌜ Indexed (tableOf (now table)) (now index) ⌝ }
+    ensures { λ r. ⌜ r ≡ valueAlong (tableOf (now (table .entry))) (thread (stateOf (now (state .entry))) t) way ⌝ }
+{
+    program::slot(state, t, table::cell_of(table, index, way.row, 6))
 }
 
 // Thread t goes on at a node after a meeting: a receiver has v in its slot.
-fn go_on(state: &mut [u8], t: u32, d: Direction, node: u32, slot: u32, v: u32)
-    requires { ⌜ length (now state) ≡ stateLength ⌝ }
+fn go_on(state: &mut [u32; state::WORDS], t: u32, d: Direction, node: u32, slot: u32, v: u32)
     requires { ⌜ t < 64 ⌝ }
-    ensures { λ _. ⌜ view (now (state .exit)) ≡ withThread (view (now (state .entry))) t (met d (thread (view (now (state .entry))) t) node slot v) ⌝ }
+    ensures { λ _. ⌜ stateOf (now (state .exit)) ≡ withThread (stateOf (now (state .entry))) t (met d (thread (stateOf (now (state .entry))) t) node slot v) ⌝ }
 {
     writes::resume(state, t, node);
     match d {
@@ -65,69 +71,71 @@ fn go_on(state: &mut [u8], t: u32, d: Direction, node: u32, slot: u32, v: u32)
     }
 }
 
-// Thread t goes on after a meeting by its branch i with somebody who gives v.
-pub fn write_met(table: &[u8], index: &[u32], state: &mut [u8], t: u32, i: u32, v: u32)
+// Thread t goes on after a meeting with somebody who gives v.
+pub fn write_met(
+    table: &[u8],
+    index: &[u32],
+    state: &mut [u32; state::WORDS],
+    t: u32,
+    way: Way,
+    v: u32,
+)
     requires { ⌜ Indexed (tableOf (now table)) (now index) ⌝ }
-    requires { ⌜ length (now state) ≡ stateLength ⌝ }
     requires { ⌜ t < 64 ⌝ }
-    ensures { λ _. ⌜ view (now (state .exit)) ≡ withThread (view (now (state .entry))) t (metBy (tableOf (now (table .entry))) (thread (view (now (state .entry))) t) i v) ⌝ }
+    ensures { λ _. ⌜ stateOf (now (state .exit)) ≡ withThread (stateOf (now (state .entry))) t (metAlong (tableOf (now (table .entry))) (thread (stateOf (now (state .entry))) t) way v) ⌝ }
 {
-    let node = writes::stands_at(state, t);
-    let row = program::branch_at(table, index, node, i);
-    let next = program::next_of(table, index, node, row);
-    let slot = table::cell(table, row, 6);
-    go_on(
-        state,
-        t,
-        side_of(program::act_of(table, row)),
-        next,
-        slot,
-        v,
-    );
+    let slot = table::cell_of(table, index, way.row, 6);
+    let act = way.act;
+    go_on(state, t, side_of(act), way.next, slot, v);
 }
 
-// Threads t and u go on after the meeting of their branches i and j, at which t is given x and u is given y.
+// Threads t and u go on after their meeting, at which t is given x and u is given y.
 fn write_both(
     table: &[u8],
     index: &[u32],
-    state: &mut [u8],
+    state: &mut [u32; state::WORDS],
     t: u32,
-    i: u32,
+    own: Way,
     x: u32,
     u: u32,
-    j: u32,
+    other: Way,
     y: u32,
 )
     requires { ⌜ Indexed (tableOf (now table)) (now index) ⌝ }
-    requires { ⌜ length (now state) ≡ stateLength ⌝ }
     requires { ⌜ t < 64 ⌝ }
     requires { ⌜ u < 64 ⌝ }
     requires { ⌜ u ≢ t ⌝ }
-    ensures { λ _. ⌜ view (now (state .exit)) ≡ withThread (withThread (view (now (state .entry))) t (metBy (tableOf (now (table .entry))) (thread (view (now (state .entry))) t) i x)) u (metBy (tableOf (now (table .entry))) (thread (view (now (state .entry))) u) j y) ⌝ }
+    ensures { λ _. ⌜ stateOf (now (state .exit)) ≡ withThread (withThread (stateOf (now (state .entry))) t (metAlong (tableOf (now (table .entry))) (thread (stateOf (now (state .entry))) t) own x)) u (metAlong (tableOf (now (table .entry))) (thread (stateOf (now (state .entry))) u) other y) ⌝ }
 {
-    write_met(table, index, state, t, i, x);
-    write_met(table, index, state, u, j, y);
+    write_met(table, index, state, t, own, x);
+    write_met(table, index, state, u, other, y);
 }
 
 // The same, with what they give each other.
-pub fn write_meeting(table: &[u8], index: &[u32], state: &mut [u8], t: u32, i: u32, u: u32, j: u32)
+pub fn write_meeting(
+    table: &[u8],
+    index: &[u32],
+    state: &mut [u32; state::WORDS],
+    t: u32,
+    own: Way,
+    u: u32,
+    other: Way,
+)
     requires { ⌜ Indexed (tableOf (now table)) (now index) ⌝ }
-    requires { ⌜ length (now state) ≡ stateLength ⌝ }
     requires { ⌜ t < 64 ⌝ }
     requires { ⌜ u < 64 ⌝ }
     requires { ⌜ u ≢ t ⌝ }
-    ensures { λ _. ⌜ view (now (state .exit)) ≡ written (tableOf (now (table .entry))) (view (now (state .entry))) t (Meets i u j) ⌝ }
+    ensures { λ _. ⌜ stateOf (now (state .exit)) ≡ metAlongBoth (tableOf (now (table .entry))) (stateOf (now (state .entry))) t own u other ⌝ }
 {
-    let own = value_by(table, index, state, t, i);
-    let other = value_by(table, index, state, u, j);
-    write_both(table, index, state, t, i, other, u, j, own);
+    let x = value_by(table, index, state, u, other);
+    let y = value_by(table, index, state, t, own);
+    write_both(table, index, state, t, own, x, u, other, y);
 }
 
 // Thread t goes on after an act of its own: an assignment stores v in its slot.
-fn go_alone(state: &mut [u8], t: u32, act: Act, node: u32, slot: u32, v: u32)
-    requires { ⌜ length (now state) ≡ stateLength ⌝ }
+fn go_alone(state: &mut [u32; state::WORDS], t: u32, act: Act, node: u32, slot: u32, v: u32)
     requires { ⌜ t < 64 ⌝ }
-    ensures { λ _. ⌜ view (now (state .exit)) ≡ withThread (view (now (state .entry))) t (gone act (thread (view (now (state .entry))) t) node slot v) ⌝ }
+    ensures { λ _. ⌜ stateOf (now (state .exit)) ≡ withThread (stateOf (now (state .entry))) t (gone act (thread (stateOf (now (state .entry))) t) node slot v) ⌝ }
 {
     writes::resume(state, t, node);
     match act {
@@ -139,19 +147,16 @@ fn go_alone(state: &mut [u8], t: u32, act: Act, node: u32, slot: u32, v: u32)
     }
 }
 
-// Thread t goes on after its branch i, a tau or an assignment.
-pub fn write_gone(table: &[u8], index: &[u32], state: &mut [u8], t: u32, i: u32)
+// Thread t goes on after a tau or an assignment.
+pub fn write_gone(table: &[u8], index: &[u32], state: &mut [u32; state::WORDS], t: u32, way: Way)
     requires { ⌜ Indexed (tableOf (now table)) (now index) ⌝ }
-    requires { ⌜ length (now state) ≡ stateLength ⌝ }
     requires { ⌜ t < 64 ⌝ }
-    ensures { λ _. ⌜ view (now (state .exit)) ≡ withThread (view (now (state .entry))) t (goneBy (tableOf (now (table .entry))) (thread (view (now (state .entry))) t) i) ⌝ }
+    ensures { λ _. ⌜ stateOf (now (state .exit)) ≡ withThread (stateOf (now (state .entry))) t (goneAlong (tableOf (now (table .entry))) (thread (stateOf (now (state .entry))) t) way) ⌝ }
 {
-    let node = writes::stands_at(state, t);
-    let row = program::branch_at(table, index, node, i);
-    let next = program::next_of(table, index, node, row);
-    let slot = table::cell(table, row, 5);
-    let v = program::assigned_value(table, row, state, t);
-    go_alone(state, t, program::act_of(table, row), next, slot, v);
+    let slot = table::cell_of(table, index, way.row, 5);
+    let v = program::assigned_value(table, index, way.row, state, t);
+    let act = way.act;
+    go_alone(state, t, act, way.next, slot, v);
 }
 
 // Whether node n is a node of definition d.
@@ -198,80 +203,82 @@ fn side_keeps(table: &[u8], index: &[u32], side: Direction, d: u32, n: u32, k: u
     }
 }
 
-// ... after branch i of thread t, alone.
-pub fn gone_keeps(table: &[u8], index: &[u32], state: &[u8], t: u32, i: u32) -> bool
+// ... after a branch of thread t, alone.
+pub fn gone_keeps(
+    table: &[u8],
+    index: &[u32],
+    state: &[u32; state::WORDS],
+    t: u32,
+    way: Way,
+) -> bool
     requires { ⌜ Indexed (tableOf (now table)) (now index) ⌝ }
-    ensures { λ r. ⌜ r ≡ goneKeeps (tableOf (now (table .entry))) (thread (view (now (state .entry))) t) i ⌝ }
+    ensures { λ r. ⌜ r ≡ goneKeeps (tableOf (now (table .entry))) (thread (stateOf (now (state .entry))) t) way ⌝ }
 {
-    let node = writes::stands_at(state, t);
-    let row = program::branch_at(table, index, node, i);
-    let next = program::next_of(table, index, node, row);
-    let d = program::definition_of(table, index, node);
-    act_keeps(
-        table,
-        index,
-        program::act_of(table, row),
-        d,
-        next,
-        table::cell(table, row, 5),
-    )
+    let d = program::definition_of(table, index, writes::stands_at(state, t));
+    let slot = table::cell_of(table, index, way.row, 5);
+    let act = way.act;
+    act_keeps(table, index, act, d, way.next, slot)
 }
 
-// ... after a meeting by branch i of thread t.
-pub fn met_keeps(table: &[u8], index: &[u32], state: &[u8], t: u32, i: u32) -> bool
+// ... after a meeting by a branch of thread t.
+pub fn met_keeps(table: &[u8], index: &[u32], state: &[u32; state::WORDS], t: u32, way: Way) -> bool
     requires { ⌜ Indexed (tableOf (now table)) (now index) ⌝ }
-    ensures { λ r. ⌜ r ≡ metKeeps (tableOf (now (table .entry))) (thread (view (now (state .entry))) t) i ⌝ }
+    ensures { λ r. ⌜ r ≡ metKeeps (tableOf (now (table .entry))) (thread (stateOf (now (state .entry))) t) way ⌝ }
 {
-    let node = writes::stands_at(state, t);
-    let row = program::branch_at(table, index, node, i);
-    let next = program::next_of(table, index, node, row);
-    let d = program::definition_of(table, index, node);
-    side_keeps(
-        table,
-        index,
-        side_of(program::act_of(table, row)),
-        d,
-        next,
-        table::cell(table, row, 6),
-    )
+    let d = program::definition_of(table, index, writes::stands_at(state, t));
+    let slot = table::cell_of(table, index, way.row, 6);
+    let act = way.act;
+    side_keeps(table, index, side_of(act), d, way.next, slot)
 }
 
 // Thread t's branch i has made channel c.
-fn write_holder(table: &[u8], index: &[u32], state: &mut [u8], t: u32, i: u32, c: u32)
+fn write_holder(
+    table: &[u8],
+    index: &[u32],
+    state: &mut [u32; state::WORDS],
+    t: u32,
+    i: u32,
+    c: u32,
+)
     requires { ⌜ Indexed (tableOf (now table)) (now index) ⌝ }
-    requires { ⌜ length (now state) ≡ stateLength ⌝ }
     requires { ⌜ t < 64 ⌝ }
-    ensures { λ _. ⌜ view (now (state .exit)) ≡ withThread (view (now (state .entry))) t (createdBy (tableOf (now (table .entry))) (thread (view (now (state .entry))) t) i c) ⌝ }
+    ensures { λ _. ⌜ stateOf (now (state .exit)) ≡ withThread (stateOf (now (state .entry))) t (createdBy (tableOf (now (table .entry))) (thread (stateOf (now (state .entry))) t) i c) ⌝ }
 {
     let node = writes::stands_at(state, t);
     let row = program::branch_at(table, index, node, i);
     let next = program::next_of(table, index, node, row);
-    let slot = table::cell(table, row, 5);
+    let slot = table::cell_of(table, index, row, 5);
     writes::resume(state, t, next);
     writes::store(state, t, slot, c);
 }
 
 // The type of the channel that thread t's branch i makes.
-fn type_by(table: &[u8], index: &[u32], state: &[u8], t: u32, i: u32) -> u32
+fn type_by(table: &[u8], index: &[u32], state: &[u32; state::WORDS], t: u32, i: u32) -> u32
     requires { ⌜ Indexed (tableOf (now table)) (now index) ⌝ }
-    ensures { λ r. ⌜ r ≡ typeBy (tableOf (now (table .entry))) (thread (view (now (state .entry))) t) i ⌝ }
+    ensures { λ r. ⌜ r ≡ typeBy (tableOf (now (table .entry))) (thread (stateOf (now (state .entry))) t) i ⌝ }
 {
     let node = writes::stands_at(state, t);
     program::type_at(
         table,
         index,
         node,
-        table::cell(table, program::branch_at(table, index, node, i), 5),
+        table::cell_of(table, index, program::branch_at(table, index, node, i), 5),
     )
 }
 
 // Thread t makes channel c by its branch i, and the channels' mark moves one past it.
-pub fn write_creation(table: &[u8], index: &[u32], state: &mut [u8], t: u32, i: u32, c: u32)
+pub fn write_creation(
+    table: &[u8],
+    index: &[u32],
+    state: &mut [u32; state::WORDS],
+    t: u32,
+    i: u32,
+    c: u32,
+)
     requires { ⌜ Indexed (tableOf (now table)) (now index) ⌝ }
-    requires { ⌜ length (now state) ≡ stateLength ⌝ }
     requires { ⌜ t < 64 ⌝ }
     requires { ⌜ c < 128 ⌝ }
-    ensures { λ _. ⌜ view (now (state .exit)) ≡ written (tableOf (now (table .entry))) (view (now (state .entry))) t (Creates i c) ⌝ }
+    ensures { λ _. ⌜ stateOf (now (state .exit)) ≡ written (tableOf (now (table .entry))) (stateOf (now (state .entry))) t (Creates i c) ⌝ }
 {
     let kind = type_by(table, index, state, t, i);
     write_holder(table, index, state, t, i, c);
@@ -280,14 +287,13 @@ pub fn write_creation(table: &[u8], index: &[u32], state: &mut [u8], t: u32, i: 
 }
 
 // Thread t's branch i makes the child u: both go on with the slots of t.
-fn write_child(table: &[u8], index: &[u32], state: &mut [u8], t: u32, i: u32, u: u32)
+fn write_child(table: &[u8], index: &[u32], state: &mut [u32; state::WORDS], t: u32, i: u32, u: u32)
     requires { ⌜ Indexed (tableOf (now table)) (now index) ⌝ }
-    requires { ⌜ length (now state) ≡ stateLength ⌝ }
     requires { ⌜ t < 64 ⌝ }
     requires { ⌜ u < 64 ⌝ }
-    ensures { λ _. ⌜ view (now (state .exit)) ≡ spawnedBy (tableOf (now (table .entry))) (view (now (state .entry))) t i u ⌝ }
+    ensures { λ _. ⌜ stateOf (now (state .exit)) ≡ spawnedBy (tableOf (now (table .entry))) (stateOf (now (state .entry))) t i u ⌝ }
 {
-    let mut slots = [0u32; ROW_SLOTS];
+    let mut slots = [0u32; writes::SLOTS];
     writes::copy_slots(state, t, &mut slots);
     let node = writes::stands_at(state, t);
     let row = program::branch_at(table, index, node, i);
@@ -302,12 +308,18 @@ fn write_child(table: &[u8], index: &[u32], state: &mut [u8], t: u32, i: u32, u:
 }
 
 // The same, and the threads' mark moves one past the child.
-pub fn write_spawn(table: &[u8], index: &[u32], state: &mut [u8], t: u32, i: u32, u: u32)
+pub fn write_spawn(
+    table: &[u8],
+    index: &[u32],
+    state: &mut [u32; state::WORDS],
+    t: u32,
+    i: u32,
+    u: u32,
+)
     requires { ⌜ Indexed (tableOf (now table)) (now index) ⌝ }
-    requires { ⌜ length (now state) ≡ stateLength ⌝ }
     requires { ⌜ t < 64 ⌝ }
     requires { ⌜ u < 64 ⌝ }
-    ensures { λ _. ⌜ view (now (state .exit)) ≡ written (tableOf (now (table .entry))) (view (now (state .entry))) t (Spawns i u) ⌝ }
+    ensures { λ _. ⌜ stateOf (now (state .exit)) ≡ written (tableOf (now (table .entry))) (stateOf (now (state .entry))) t (Spawns i u) ⌝ }
 {
     write_child(table, index, state, t, i, u);
     state::put_mark(state, 0, moves::one_up(MAX_THREADS, u));

@@ -1,14 +1,12 @@
-// The calls whose buffers have been admitted: step, give, take and run, with the grounds of their own.
+// The calls on a state that has been admitted: step, give, take and run, with the grounds of their own.
 ghost use mathlib.Core.Path.{_≡_};
-ghost use mathlib.Core.List.{List};
 ghost use Prim.Native.Nat.{_≤_};
-ghost use lib.ListN.{length};
 ghost use Rattle.table.specs.Table.{tableOf};
 ghost use Rattle.table.specs.Index.{Indexed};
-ghost use Rattle.state.specs.State.{view, stateLength};
+ghost use Rattle.state.specs.State.{stateOf};
 ghost use Rattle.rules.specs.Holding.{settled};
-ghost use Rattle.rules.specs.Calls.{Outcome, canStep, stepAnswer, stepBy, giveBy, takeBy, runBy};
-ghost use Rattle.rules.specs.declared.Admission.the-variants.{Admitted};
+ghost use Rattle.rules.specs.Calls.{canStep, stepAnswer};
+ghost use Rattle.calls.specs.States.{After, stepOn, giveOn, takeOn, runOn};
 use rules::Deed;
 use rules::Direction;
 use rules::Given;
@@ -44,8 +42,8 @@ fn step_answer(node: u32, m: Move) -> Stepped
 }
 
 // Ground 11: whether thread t is there and ready.
-fn can_step(state: &[u8], t: u32) -> bool
-    ensures { λ r. ⌜ r ≡ canStep (view (now (state .entry))) t ⌝ }
+fn can_step(state: &[u32; state::WORDS], t: u32) -> bool
+    ensures { λ r. ⌜ r ≡ canStep (stateOf (now (state .entry))) t ⌝ }
 {
     if t < MAX_THREADS {
         return state::thread_word(state, t as usize, 0) == 1;
@@ -54,11 +52,10 @@ fn can_step(state: &[u8], t: u32) -> bool
 }
 
 // A step of thread t.
-pub fn step(table: &[u8], index: &[u32], state: &mut [u8], t: u32) -> Stepped
+pub fn step(table: &[u8], index: &[u32], state: &mut [u32; state::WORDS], t: u32) -> Stepped
     requires { ⌜ Indexed (tableOf (now table)) (now index) ⌝ }
-    requires { ⌜ length (now state) ≡ stateLength ⌝ }
-    requires { ⌜ settled (tableOf (now table)) (view (now state)) ≡ view (now state) ⌝ }
-    ensures { λ r. ⌜ _≡_ {A = Outcome Stepped} (record { answer = r; state = now (state .exit) }) (stepBy Admitted (now (table .entry)) (now (state .entry)) t) ⌝ }
+    requires { ⌜ settled (tableOf (now table)) (stateOf (now state)) ≡ stateOf (now state) ⌝ }
+    ensures { λ r. ⌜ _≡_ {A = After Stepped} (record { answer = r; state = stateOf (now (state .exit)) }) (stepOn (tableOf (now (table .entry))) (stateOf (now (state .entry))) t) ⌝ }
 {
     if can_step(state, t) {
         let node = state::thread_word(state, t as usize, 1);
@@ -69,13 +66,12 @@ pub fn step(table: &[u8], index: &[u32], state: &mut [u8], t: u32) -> Stepped
 }
 
 // The number of pattern v is given on port p.
-pub fn give(table: &[u8], index: &[u32], state: &mut [u8], p: u32, v: u32) -> Given
+pub fn give(table: &[u8], index: &[u32], state: &mut [u32; state::WORDS], p: u32, v: u32) -> Given
     requires { ⌜ Indexed (tableOf (now table)) (now index) ⌝ }
-    requires { ⌜ length (now state) ≡ stateLength ⌝ }
-    requires { ⌜ settled (tableOf (now table)) (view (now state)) ≡ view (now state) ⌝ }
-    ensures { λ r. ⌜ _≡_ {A = Outcome Given} (record { answer = r; state = now (state .exit) }) (giveBy Admitted (now (table .entry)) (now (state .entry)) p v) ⌝ }
+    requires { ⌜ settled (tableOf (now table)) (stateOf (now state)) ≡ stateOf (now state) ⌝ }
+    ensures { λ r. ⌜ _≡_ {A = After Given} (record { answer = r; state = stateOf (now (state .exit)) }) (giveOn (tableOf (now (table .entry))) (stateOf (now (state .entry))) p v) ⌝ }
 {
-    if table::cell(table, 0, 6) <= p {
+    if table::cell_of(table, index, 0, 6) <= p {
         return Given::Refused(Refusal::Port);
     }
     match moves::find_partner(table, index, state, BENCH, Direction::In, p, MAX_THREADS) {
@@ -88,19 +84,19 @@ pub fn give(table: &[u8], index: &[u32], state: &mut [u8], p: u32, v: u32) -> Gi
 }
 
 // A number is taken from port p.
-pub fn take(table: &[u8], index: &[u32], state: &mut [u8], p: u32) -> Taken
+pub fn take(table: &[u8], index: &[u32], state: &mut [u32; state::WORDS], p: u32) -> Taken
     requires { ⌜ Indexed (tableOf (now table)) (now index) ⌝ }
-    requires { ⌜ length (now state) ≡ stateLength ⌝ }
-    requires { ⌜ settled (tableOf (now table)) (view (now state)) ≡ view (now state) ⌝ }
-    ensures { λ r. ⌜ _≡_ {A = Outcome Taken} (record { answer = r; state = now (state .exit) }) (takeBy Admitted (now (table .entry)) (now (state .entry)) p) ⌝ }
+    requires { ⌜ settled (tableOf (now table)) (stateOf (now state)) ≡ stateOf (now state) ⌝ }
+    ensures { λ r. ⌜ _≡_ {A = After Taken} (record { answer = r; state = stateOf (now (state .exit)) }) (takeOn (tableOf (now (table .entry))) (stateOf (now (state .entry))) p) ⌝ }
 {
-    if table::cell(table, 0, 6) <= p {
+    if table::cell_of(table, index, 0, 6) <= p {
         return Taken::Refused(Refusal::Port);
     }
     match moves::find_partner(table, index, state, BENCH, Direction::Out, p, MAX_THREADS) {
         Partner::Nobody => Taken::Nobody,
         Partner::At(u, j) => {
-            let v = branches::value_by(table, index, state, u, j);
+            let way = branches::way_by(table, index, state, u, j);
+            let v = branches::value_by(table, index, state, u, way);
             steps::make_met(table, index, state, u, j, 0);
             Taken::Met(u, v)
         }
@@ -108,11 +104,10 @@ pub fn take(table: &[u8], index: &[u32], state: &mut [u8], p: u32) -> Taken
 }
 
 // At most n steps.
-pub fn run(table: &[u8], index: &[u32], state: &mut [u8], n: u16) -> Ran
+pub fn run(table: &[u8], index: &[u32], state: &mut [u32; state::WORDS], n: u16) -> Ran
     requires { ⌜ Indexed (tableOf (now table)) (now index) ⌝ }
-    requires { ⌜ length (now state) ≡ stateLength ⌝ }
-    requires { ⌜ settled (tableOf (now table)) (view (now state)) ≡ view (now state) ⌝ }
-    ensures { λ r. ⌜ _≡_ {A = Outcome Ran} (record { answer = r; state = now (state .exit) }) (runBy Admitted (now (table .entry)) (now (state .entry)) n) ⌝ }
+    requires { ⌜ settled (tableOf (now table)) (stateOf (now state)) ≡ stateOf (now state) ⌝ }
+    ensures { λ r. ⌜ _≡_ {A = After Ran} (record { answer = r; state = stateOf (now (state .exit)) }) (runOn (tableOf (now (table .entry))) (stateOf (now (state .entry))) n) ⌝ }
 {
     let mut top = moves::rows_used(state);
     for i in 0..n {

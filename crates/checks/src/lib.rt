@@ -13,6 +13,7 @@ ghost use Rattle.checks.specs.Types.{roleTyped, portTyped, portsTyped, a
 use table::Part;
 use table::Role;
 use table::cell;
+use table::cell_of;
 use table::definition_at;
 use table::definition_row;
 use table::is_within;
@@ -22,7 +23,7 @@ use table::operand_of;
 use table::owner_of;
 use table::parameters_of;
 use table::role_of;
-use table::slot_row;
+use table::slot_row_of;
 use table::slots_of;
 use table::start_of;
 
@@ -266,9 +267,10 @@ fn slot_type(table: &[u8], index: &[u32], d: u32, k: u32) -> u32
     ensures { λ r. ⌜ r ≡ slotType (tableOf (now (table .entry))) d k ⌝ }
     ensures { λ r. ⌜ r < 65536 ⌝ }
 {
-    let first = slot_row(table);
-    cell(
+    let first = slot_row_of(table, index);
+    cell_of(
         table,
+        index,
         first + (start_of(table, index, Part::Slots, d) as usize + k as usize),
         1,
     )

@@ -6,21 +6,19 @@ use mathlib.Core.Path.{_≡_, refl, sym, _∙_}
 use mathlib.Core.Bool.{Bool, true, false}
 use mathlib.Core.List.{List, []}
 use lib.Dec.{eqb}
-use lib.ListN.{length, getD, set, replicate, length-replicate}
-use lib.Seq.{getD-set-same, getD-set-other, ext-getD}
-use borrow.Author.Tests.{eqb-true, eqb-false, eq-eqb, ne-eqb, lt-ltb, le-ltb}
+use lib.ListN.{getD, set, replicate, length-replicate}
+use borrow.Author.Tests.{eq-eqb, ne-eqb, lt-ltb, le-ltb}
 use Rattle.numbers.specs.Count.{bit}
 use Rattle.numbers.specs.Rows.{at}
-use Rattle.numbers.specs.Search.Laws.{caseB, some-intro}
+use Rattle.numbers.specs.Search.Laws.{some-intro, some-zero, some-suc}
 use Rattle.table.specs.Table.{Table, slotRow, slotCount}
 use Rattle.table.specs.Layout.{start, definitionOf}
 use Rattle.table.specs.declared.Part.the-variants.{Slots}
 use Rattle.state.specs.State.{slotOf, isWaiting}
-use Rattle.counts.specs.General.{some-zero, some-suc}
 use Rattle.counts.specs.Own.{ownList}
 use Rattle.counts.specs.Own.Listing.{lastOwn, listed, room, channelIn, ownBy, listedTo, ownRoom}
 use Rattle.counts.specs.Own.Listing.Laws.{same-whether, listed-own}
-use Rattle.counts.specs.Own.Rest.{full-at, rest-listed}
+use Rattle.counts.specs.Own.Rest.{rest-listed}
 
 -- channel_in: x is the type of slot k, v what the slot has
 module _ (tb : Table) (from : ℕ) (row : List ℕ) (k x : ℕ) (e : x ≡ at tb (from + k) 1) where
@@ -93,18 +91,6 @@ module _ (tb : Table) (from n : ℕ) (row l : List ℕ) where
   note-all m k x e f g h i = let q : k ≡ lastOwn n = omega (arith, f) in e ∙ rw q (rest-listed tb from n row l g)
 
 pub ruleset notes = (note-none, note-more, note-all)
-
--- clear: l₀ is the list before
-module _ (l₀ l : List ℕ) (k : ℕ) (e : length l ≡ length l₀) (f : length l₀ ≡ 16) (g : (i : ℕ) → i < k → getD l i 0 ≡ 128) where
-  pub clear-all : 16 ≤ k → l ≡ replicate 16 128
-  clear-all h =
-      ext-getD 0 l (replicate 16 128) (e ∙ f ∙ sym (length-replicate {A = ℕ} 16 128)) (λ i j. g i (omega arith) ∙ sym (full-at 16 i (omega arith)))
-
-  pub clear-more : k < 16 → (i : ℕ) → i < k + 1 → getD (set l k 128) i 0 ≡ 128
-  clear-more h i j =
-      caseB (eqb i k)
-      (λ y. let q : i ≡ k = eqb-true i k y in rw q (getD-set-same l k 128 0 (omega arith)))
-      (λ z. let d = eqb-false i k z in getD-set-other l k i 128 0 d ∙ g i (omega arith))
 
 -- slots_in
 module _ (tb : Table) (s d : ℕ) where

@@ -7,14 +7,11 @@ use mathlib.Core.List.{List, [], _∷_}
 use lib.Dec.{eqb}
 use lib.ListN.{length, getD, set}
 use lib.Seq.{set-out, set-set, getD-set-same}
-use mir.Syntax.{w8, w64}
-use mir.Val.{Fits}
-use mir.Facts.{fits-widen}
 use Rattle.numbers.specs.Count.{bit}
 use Rattle.numbers.specs.Rows.{at}
 use Rattle.numbers.specs.Signed.{sum, difference}
 use Rattle.table.specs.Table.{Table}
-use Rattle.state.specs.State.{State, view, stateLength, thread, channel, withChannel, withChannels}
+use Rattle.state.specs.State.{State, stateOf, stateWords, thread, channel, withChannel, withChannels}
 use Rattle.state.specs.State.Laws.{length-channels, length-channel}
 use Rattle.rules.specs.Holding.{channelRow}
 use Rattle.counts.specs.Own.{ownList}
@@ -43,20 +40,20 @@ held-row ty (suc n) w h = refl
 put-put : (chs : List (List ℕ)) (c k v : ℕ) (r : List ℕ) → c < length chs → set (set chs c r) c (set (getD (set chs c r) c []) k v) ≡ set chs c (set r k v)
 put-put chs c k v r h = rw (getD-set-same chs c r [] h, set-set chs c r (set r k v))
 
-module _ (b : List ℕ) (c n w : ℕ) (s₁ s₂ : State) (e : length b ≡ stateLength) (h : c < 128) where
-  pub counts-put : (n ≡ 0 → ⊥) → s₁ ≡ withChannel (view b) c (set (channel (view b) c) 1 n) → s₂ ≡ withChannel s₁ c (set (channel s₁ c) 2 w) → s₂ ≡ rowCounted (view b) c n w
+module _ (b : List ℕ) (c n w : ℕ) (s₁ s₂ : State) (e : length b ≡ stateWords) (h : c < 128) where
+  pub counts-put : (n ≡ 0 → ⊥) → s₁ ≡ withChannel (stateOf b) c (set (channel (stateOf b) c) 1 n) → s₂ ≡ withChannel s₁ c (set (channel s₁ c) 2 w) → s₂ ≡ rowCounted (stateOf b) c n w
   unfolding withChannel rowCounted withChannels
   counts-put z f g =
-      let i : c < length (view b .channels) = omega (arith, length-channels b) in
-      rw (g, f, put-put (view b .channels) c 2 w (set (channel (view b) c) 1 n) i, two (channel (view b) c) n w (length-channel b e c h), held-row (at (view b .channels) c 0) n w z)
+      let i : c < length (stateOf b .channels) = omega (arith, length-channels b) in
+      rw (g, f, put-put (stateOf b .channels) c 2 w (set (channel (stateOf b) c) 1 n) i, two (channel (stateOf b) c) n w (length-channel b e c h), held-row (at (stateOf b .channels) c 0) n w z)
 
-  pub counts-free : (s₃ : State) → n ≡ 0 → s₁ ≡ withChannel (view b) c (set (channel (view b) c) 0 0) → s₂ ≡ withChannel s₁ c (set (channel s₁ c) 1 0) → s₃ ≡ withChannel s₂ c (set (channel s₂ c) 2 0)
-      → s₃ ≡ rowCounted (view b) c n w
+  pub counts-free : (s₃ : State) → n ≡ 0 → s₁ ≡ withChannel (stateOf b) c (set (channel (stateOf b) c) 0 0) → s₂ ≡ withChannel s₁ c (set (channel s₁ c) 1 0) → s₃ ≡ withChannel s₂ c (set (channel s₂ c) 2 0)
+      → s₃ ≡ rowCounted (stateOf b) c n w
   unfolding withChannel rowCounted withChannels channelRow
   counts-free s₃ z f g k =
-      let i : c < length (view b .channels) = omega (arith, length-channels b) in
-      let r = channel (view b) c in
-      rw (k, g, f, z, put-put (view b .channels) c 1 0 (set r 0 0) i, put-put (view b .channels) c 2 0 (set (set r 0 0) 1 0) i, three r 0 0 0 (length-channel b e c h))
+      let i : c < length (stateOf b .channels) = omega (arith, length-channels b) in
+      let r = channel (stateOf b) c in
+      rw (k, g, f, z, put-put (stateOf b .channels) c 1 0 (set r 0 0) i, put-put (stateOf b .channels) c 2 0 (set (set r 0 0) 1 0) i, three r 0 0 0 (length-channel b e c h))
 
 pub ruleset puts = (counts-put, counts-free)
 
@@ -65,23 +62,20 @@ pub shift-in : (s s₂ : State) (c dn dw n w a b : ℕ) → s₂ ≡ rowCounted 
 unfolding rowCounted channelShifted shiftRow
 shift-in s s₂ c dn dw n w a b k g h e f = rw (k, g, h, e, f)
 
-pub shift-out : (b : List ℕ) (c dn dw : ℕ) → 128 ≤ c → view b ≡ channelShifted (view b) c dn dw
+pub shift-out : (b : List ℕ) (c dn dw : ℕ) → 128 ≤ c → stateOf b ≡ channelShifted (stateOf b) c dn dw
 unfolding channelShifted shiftRow withChannels
 shift-out b c dn dw h =
-    rw (set-out (view b .channels) c (channelRow (at (view b .channels) c 0) (sum (at (view b .channels) c 1) dn) (sum (at (view b .channels) c 2) dw)) (omega (arith, length-channels b)))
+    rw (set-out (stateOf b .channels) c (channelRow (at (stateOf b .channels) c 0) (sum (at (stateOf b .channels) c 1) dn) (sum (at (stateOf b .channels) c 2) dw)) (omega (arith, length-channels b)))
 
 -- shift_all
-pub byte-fits : (l : List ℕ) (i : ℕ) → ((j : ℕ) → Fits w8 (getD l j 0)) → Fits w64 (getD l i 0)
-byte-fits l i f = fits-widen tt (f i)
-
 module _ (s : State) (l : List ℕ) (dn dw : ℕ) where
   pub shifts-none : s ≡ shiftedTo s l dn dw 0
   unfolding shiftedTo shiftTo withChannels
   shifts-none = refl
 
-  pub shifts-more : (s₁ s₂ : State) (k : ℕ) → s₁ ≡ shiftedTo s l dn dw k → s₂ ≡ channelShifted s₁ (getD l k 0) dn dw → s₂ ≡ shiftedTo s l dn dw (k + 1)
+  pub shifts-more : (s₁ s₂ : State) (k c : ℕ) → s₁ ≡ shiftedTo s l dn dw k → s₂ ≡ channelShifted s₁ c dn dw → c ≡ getD l k 0 → s₂ ≡ shiftedTo s l dn dw (k + 1)
   unfolding shiftedTo shiftTo channelShifted withChannels
-  shifts-more s₁ s₂ k e f = rw (f, e, add-one k)
+  shifts-more s₁ s₂ k c e f g = rw (f, g, e, add-one k)
 
   pub shifts-all : (s₁ : State) (k : ℕ) → s₁ ≡ shiftedTo s l dn dw k → k ≤ length l → length l ≤ k → s₁ ≡ shifted s l dn dw
   unfolding shifted
@@ -94,11 +88,11 @@ module _ (s : State) (l : List ℕ) (dn dw : ℕ) where
 pub ruleset shifts = (shifts-none, shifts-more, shifts-all)
 
 -- shift_own
-pub own-shifted : (tb : Table) (b : List ℕ) (s₂ : State) (t dn dw n : ℕ) (l : List ℕ) → s₂ ≡ shiftedTo (view b) l dn dw n → l ≡ ownList tb (thread (view b) t) → n ≡ ownRoom tb (thread (view b) t)
-    → s₂ ≡ shifted (view b) (ownList tb (thread (view b) t)) dn dw
+pub own-shifted : (tb : Table) (b : List ℕ) (s₂ : State) (t dn dw n : ℕ) (l : List ℕ) → s₂ ≡ shiftedTo (stateOf b) l dn dw n → l ≡ ownList tb (thread (stateOf b) t) → n ≡ ownRoom tb (thread (stateOf b) t)
+    → s₂ ≡ shifted (stateOf b) (ownList tb (thread (stateOf b) t)) dn dw
 unfolding shifted shiftedTo withChannels
 own-shifted tb b s₂ t dn dw n l f e g =
-    f ∙ rw (e, g, rest-shifted tb (thread (view b) t) dn dw (view b .channels) (length-channels b))
+    f ∙ rw (e, g, rest-shifted tb (thread (stateOf b) t) dn dw (stateOf b .channels) (length-channels b))
 
 -- enter, weigh, leave
 pub enter-is : (tb : Table) (s s₂ : State) (t w x : ℕ) → s₂ ≡ shifted s (ownList tb (thread s t)) 1 w → w ≡ bit (eqb x 2) → x ≡ at (s .threads) t 0 → s₂ ≡ rowEntered tb s t

@@ -1,4 +1,3 @@
-pub mod General
 pub mod Keeping
 pub mod Own
 pub mod Shift

@@ -14,12 +14,11 @@ use Rattle.numbers.specs.Count.{bit, count}
 use Rattle.numbers.specs.Count.Laws.{bit-le, bit-and-le, count-le, replaced}
 use Rattle.numbers.specs.Rows.{at, put}
 use Rattle.numbers.specs.Search.{tabulate}
-use Rattle.numbers.specs.Search.Laws.{caseB, getD-tabulate, length-tabulate, tabulate-cong}
+use Rattle.numbers.specs.Search.Laws.{caseB, getD-tabulate, length-tabulate, tabulate-cong, is-tabulate}
 use Rattle.table.specs.Table.{Table, ports}
 use Rattle.state.specs.State.{State, thread, isWaiting, typeIn, withMark, withThread, withChannel, withChannels}
 use Rattle.rules.specs.Holding.{holds, holders, waiters, countOf, channelRow, recount, settled}
 use Rattle.rules.specs.Moves.{typed}
-use Rattle.counts.specs.General.{is-tabulate}
 use Rattle.counts.specs.Own.{ownList}
 use Rattle.counts.specs.Shift.{shiftRow, channelShifted, shiftedTo, shifted, rowEntered, rowLeft, settledOne, settledTwo, settledNew}
 use Rattle.counts.specs.Shift.Laws.{Raw, Settled, Low, entering, leaving, enter-law, settle, freed-law, leave-law}

@@ -9,14 +9,15 @@ use lib.ListN.{length, getD}
 use mir.Syntax.{w8}
 use mir.Val.{Fits}
 use borrow.Author.Tests.{eqb-true, eq-eqb, ne-eqb, not-true, not-false}
+use Rattle.numbers.specs.Bytes.{words}
 use Rattle.numbers.specs.Bytes.Laws.{bytes-fit}
 use Rattle.numbers.specs.Search.Laws.{caseB, contra}
+use Rattle.numbers.specs.Tests.{and-left, and-right}
 use Rattle.table.specs.Table.{tableOf}
 use Rattle.table.specs.Index.{Indexed}
-use Rattle.table.specs.Form.Laws.{and-left, and-right}
 use Rattle.loader.specs.Load.{tableLength, accepted}
-use Rattle.state.specs.State.{stateLength, view, stateBytes}
-use Rattle.state.specs.State.Laws.{bytes-view}
+use Rattle.state.specs.State.{State, stateLength, view, stateOf, stateBytes}
+use Rattle.state.specs.State.Laws.{words-long}
 use Rattle.rules.specs.Holding.{settled}
 use Rattle.rules.specs.Start.{started}
 use Rattle.rules.specs.Sound.{sound}
@@ -35,6 +36,8 @@ use Rattle.rules.specs.declared.Taken.{Taken}
 use Rattle.rules.specs.declared.Taken.the-variants as Taken
 use Rattle.rules.specs.declared.Ran.{Ran}
 use Rattle.rules.specs.declared.Ran.the-variants as Ran
+use Rattle.calls.specs.States.{After, afterwards, stepOn, giveOn, takeOn, runOn}
+use Rattle.calls.specs.States.Laws.{bytesAfter, step-bytes, give-bytes, take-bytes, run-bytes}
 use Rattle.engine.specs.Settled.{sound-settled}
 
 -- ---- grounds 8, 9 and 10
@@ -102,14 +105,14 @@ module _ (table b : List ℕ) (a : Admission) where
     unfolding startAdmission admission
     still-refused g f = two g (lengthsRight table b) (accepted table) (sound (tableOf table) (view b)) (sym e ∙ f)
 
-    module _ (f : a ≡ Admitted) (x : Bool) (h : x ≡ sound (tableOf table) (view b)) where
+    module _ (f : a ≡ Admitted) (x : Bool) (w : List ℕ) (i : w ≡ words b) (h : x ≡ sound (tableOf table) (stateOf w)) where
       pub state-sound : x ≡ true → Admitted ≡ admission table b
       unfolding startAdmission admission
-      state-sound i = let (p, q) = both (lengthsRight table b) (accepted table) (sym e ∙ f) in rw (p, q, ← h, i)
+      state-sound j = let (p, q) = both (lengthsRight table b) (accepted table) (sym e ∙ f) in rw (p, q, ← i, ← h, j)
 
       pub state-unsound : x ≡ false → Refused Ground.State ≡ admission table b
       unfolding startAdmission admission
-      state-unsound i = let (p, q) = both (lengthsRight table b) (accepted table) (sym e ∙ f) in rw (p, q, ← h, i)
+      state-unsound j = let (p, q) = both (lengthsRight table b) (accepted table) (sym e ∙ f) in rw (p, q, ← i, ← h, j)
 
   -- a: what the grounds say
   module _ (e : a ≡ admission table b) (f : a ≡ Admitted) where
@@ -117,9 +120,12 @@ module _ (table b : List ℕ) (a : Admission) where
     unfolding admission
     admitted-length = right-length (all-three (lengthsRight table b) (accepted table) (sound (tableOf table) (view b)) (sym e ∙ f) .0)
 
-    pub admitted-settled : settled (tableOf table) (view b) ≡ view b
+    -- w: its words
+    pub admitted-settled : (w : List ℕ) → (a ≡ Admitted → w ≡ words b) → settled (tableOf table) (stateOf w) ≡ stateOf w
     unfolding admission
-    admitted-settled = sound-settled (tableOf table) b admitted-length (all-three (lengthsRight table b) (accepted table) (sound (tableOf table) (view b)) (sym e ∙ f) .1)
+    admitted-settled w q =
+        rw (q f) (sound-settled (tableOf table) (words b) (words-long b admitted-length)
+        (all-three (lengthsRight table b) (accepted table) (sound (tableOf table) (view b)) (sym e ∙ f) .1))
 
 -- the index of a table that was accepted, and of one that was admitted
 pub accepted-indexed : (table l : List ℕ) (y : Bool) → (y ≡ true → Indexed (tableOf table) l) → y ≡ true → Indexed (tableOf table) l
@@ -131,6 +137,10 @@ admitted-indexed table l a f g = f g
 pub not-admitted : (table l : List ℕ) (g : Refusal) → Refused g ≡ Admitted → Indexed (tableOf table) l
 not-admitted table l g e = clash g e
 
+-- ... and the words of a state
+pub not-read : (b l : List ℕ) (g : Refusal) → Refused g ≡ Admitted → l ≡ words b
+not-read b l g e = clash g e
+
 -- ---- the calls
 
 module _ (table b : List ℕ) (a : Admission) (e : a ≡ startAdmission table b) where
@@ -138,11 +148,14 @@ module _ (table b : List ℕ) (a : Admission) (e : a ≡ startAdmission table b)
   unfolding startCall startBy
   start-refused g f = rw (← e, f)
 
-  pub start-done : (b₁ : List ℕ) → view b₁ ≡ started (tableOf table) → length b₁ ≡ length b → ((i : ℕ) → Fits w8 (getD b₁ i 0)) → a ≡ Admitted → outcome Started.Done b₁ ≡ startCall table b
+  pub start-done : (b₁ w : List ℕ) → b₁ ≡ stateBytes (stateOf w) → stateOf w ≡ started (tableOf table) → a ≡ Admitted → outcome Started.Done b₁ ≡ startCall table b
   unfolding startCall startBy
-  start-done b₁ h l k f =
-      let q : b₁ ≡ stateBytes (started (tableOf table)) = sym (bytes-view b₁ (l ∙ start-length table b a e f) (bytes-fit b₁ k)) ∙ ap stateBytes h in
-      rw (← e, f) (ap (outcome _) q)
+  start-done b₁ w h k f = rw (← e, f) (ap (outcome _) (h ∙ ap stateBytes k))
+
+-- the bytes b₁ of a state after a call
+after-bytes : {A : Type 0} (k : After A) (r : A) (s : State) (b₁ : List ℕ) → afterwards r s ≡ k → b₁ ≡ stateBytes s → outcome r b₁ ≡ bytesAfter k
+unfolding bytesAfter
+after-bytes k r s b₁ e h = rw (← e, h)
 
 module _ (table b : List ℕ) (a : Admission) (e : a ≡ admission table b) where
   module _ (g : Refusal) (f : a ≡ Refused g) where
@@ -162,19 +175,23 @@ module _ (table b : List ℕ) (a : Admission) (e : a ≡ admission table b) wher
     unfolding runCall runBy
     run-refused n = rw (← e, f)
 
-  module _ (f : a ≡ Admitted) where
-    pub step-admitted : (k : Outcome Stepped) (t : ℕ) → k ≡ stepBy Admitted table b t → k ≡ stepCall table b t
+  -- w: its words, and w₁ those after the call, of which b₁ are the bytes
+  module _ (f : a ≡ Admitted) (fit : (i : ℕ) → Fits w8 (getD b i 0)) (w w₁ b₁ : List ℕ) (q : a ≡ Admitted → w ≡ words b) (h : b₁ ≡ stateBytes (stateOf w₁)) where
+    pub step-admitted : (r : Stepped) (t : ℕ) → afterwards r (stateOf w₁) ≡ stepOn (tableOf table) (stateOf w) t → outcome r b₁ ≡ stepCall table b t
     unfolding stepCall
-    step-admitted k t h = rw (← e, f) h
+    step-admitted r t k = rw (← e, f)
+        (after-bytes _ r (stateOf w₁) b₁ (k ∙ rw (q f)) h ∙ step-bytes table b (admitted-length table b a e f) (bytes-fit b fit) t)
 
-    pub give-admitted : (k : Outcome Given) (p v : ℕ) → k ≡ giveBy Admitted table b p v → k ≡ giveCall table b p v
+    pub give-admitted : (r : Given) (p v : ℕ) → afterwards r (stateOf w₁) ≡ giveOn (tableOf table) (stateOf w) p v → outcome r b₁ ≡ giveCall table b p v
     unfolding giveCall
-    give-admitted k p v h = rw (← e, f) h
+    give-admitted r p v k = rw (← e, f)
+        (after-bytes _ r (stateOf w₁) b₁ (k ∙ rw (q f)) h ∙ give-bytes table b (admitted-length table b a e f) (bytes-fit b fit) p v)
 
-    pub take-admitted : (k : Outcome Taken) (p : ℕ) → k ≡ takeBy Admitted table b p → k ≡ takeCall table b p
+    pub take-admitted : (r : Taken) (p : ℕ) → afterwards r (stateOf w₁) ≡ takeOn (tableOf table) (stateOf w) p → outcome r b₁ ≡ takeCall table b p
     unfolding takeCall
-    take-admitted k p h = rw (← e, f) h
+    take-admitted r p k = rw (← e, f)
+        (after-bytes _ r (stateOf w₁) b₁ (k ∙ rw (q f)) h ∙ take-bytes table b (admitted-length table b a e f) (bytes-fit b fit) p)
 
-    pub run-admitted : (k : Outcome Ran) (n : ℕ) → k ≡ runBy Admitted table b n → k ≡ runCall table b n
+    pub run-admitted : (r : Ran) (n : ℕ) → afterwards r (stateOf w₁) ≡ runOn (tableOf table) (stateOf w) n → outcome r b₁ ≡ runCall table b n
     unfolding runCall
-    run-admitted k n h = rw (← e, f) h
+    run-admitted r n k = rw (← e, f) (after-bytes _ r (stateOf w₁) b₁ (k ∙ rw (q f)) h ∙ run-bytes table b n)

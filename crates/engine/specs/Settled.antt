@@ -9,14 +9,13 @@ use lib.ListN.{length, getD}
 use borrow.Author.Tests.{eqb-true, ltb-true}
 use Rattle.numbers.specs.Rows.{at}
 use Rattle.numbers.specs.Search.{every}
-use Rattle.numbers.specs.Search.Laws.{caseB, every-elim}
+use Rattle.numbers.specs.Search.Laws.{caseB, every-elim, is-tabulate}
+use Rattle.numbers.specs.Tests.{parts}
 use Rattle.table.specs.Table.{Table}
-use Rattle.table.specs.Form.Laws.{parts}
-use Rattle.state.specs.State.{State, stateLength, view, channel, typeIn, isWaiting, withChannels}
+use Rattle.state.specs.State.{State, stateWords, stateOf, channel, typeIn, isWaiting, withChannels}
 use Rattle.state.specs.State.Laws.{length-channel, length-channels}
 use Rattle.rules.specs.Holding.{holds, holders, waiters, countOf, channelRow, recount, settled}
 use Rattle.rules.specs.Sound.{countTrue, sound}
-use Rattle.counts.specs.General.{is-tabulate}
 use Rattle.counts.specs.Upkeep.{count-and-le}
 
 -- three words that say what a channel's row should
@@ -35,26 +34,26 @@ row-is (a ∷ b ∷ []) n w l e f z u = absurd (omega arith)
 row-is (a ∷ b ∷ c ∷ []) n w l e f z u = three a b c n w e f z u
 row-is (a ∷ b ∷ c ∷ d ∷ row) n w l e f z u = absurd (omega arith)
 
-module _ (tb : Table) (b : List ℕ) (l : length b ≡ stateLength) where
-  no-waiters : (c : ℕ) → countOf tb (view b .threads) c ≡ 0 → waiters tb (view b .threads) c ≡ 0
+module _ (tb : Table) (b : List ℕ) (l : length b ≡ stateWords) where
+  no-waiters : (c : ℕ) → countOf tb (stateOf b .threads) c ≡ 0 → waiters tb (stateOf b .threads) c ≡ 0
   unfolding countOf holders waiters
-  no-waiters c e = omega (arith, e, count-and-le isWaiting (λ row. holds tb row c) (view b .threads))
+  no-waiters c e = omega (arith, e, count-and-le isWaiting (λ row. holds tb row c) (stateOf b .threads))
 
-  true-row : (c : ℕ) → c < 128 → countTrue tb (view b) c ≡ true → channelRow (typeIn (view b) c) (countOf tb (view b .threads) c) (waiters tb (view b .threads) c) ≡ channel (view b) c
+  true-row : (c : ℕ) → c < 128 → countTrue tb (stateOf b) c ≡ true → channelRow (typeIn (stateOf b) c) (countOf tb (stateOf b .threads) c) (waiters tb (stateOf b .threads) c) ≡ channel (stateOf b) c
   unfolding countTrue
   true-row c h e =
-      row-is (channel (view b) c) (countOf tb (view b .threads) c) (waiters tb (view b .threads) c) (length-channel b l c h)
-      (eqb-true (at (view b .channels) c 1) (countOf tb (view b .threads) c) (search parts))
-      (eqb-true (at (view b .channels) c 2) (waiters tb (view b .threads) c) (search parts))
+      row-is (channel (stateOf b) c) (countOf tb (stateOf b .threads) c) (waiters tb (stateOf b .threads) c) (length-channel b l c h)
+      (eqb-true (at (stateOf b .channels) c 1) (countOf tb (stateOf b .threads) c) (search parts))
+      (eqb-true (at (stateOf b .channels) c 2) (waiters tb (stateOf b .threads) c) (search parts))
       (no-waiters c) (search parts)
 
-  counts-settled : every (countTrue tb (view b)) 128 ≡ true → settled tb (view b) ≡ view b
+  counts-settled : every (countTrue tb (stateOf b)) 128 ≡ true → settled tb (stateOf b) ≡ stateOf b
   unfolding settled recount withChannels
   counts-settled e =
-      ap {B = State} (λ (y : List (List ℕ)). record { marks = view b .marks; threads = view b .threads; channels = y })
-      (sym (is-tabulate (view b .channels) 128 (λ c. channelRow (typeIn (view b) c) (countOf tb (view b .threads) c) (waiters tb (view b .threads) c)) [] (length-channels b)
-      (λ c h. sym (true-row c h (every-elim (countTrue tb (view b)) 128 c e h)))))
+      ap {B = State} (λ (y : List (List ℕ)). record { marks = stateOf b .marks; threads = stateOf b .threads; channels = y })
+      (sym (is-tabulate (stateOf b .channels) 128 (λ c. channelRow (typeIn (stateOf b) c) (countOf tb (stateOf b .threads) c) (waiters tb (stateOf b .threads) c)) [] (length-channels b)
+      (λ c h. sym (true-row c h (every-elim (countTrue tb (stateOf b)) 128 c e h)))))
 
-  pub sound-settled : sound tb (view b) ≡ true → settled tb (view b) ≡ view b
+  pub sound-settled : sound tb (stateOf b) ≡ true → settled tb (stateOf b) ≡ stateOf b
   unfolding sound
   sound-settled e = counts-settled (search parts depth 12)

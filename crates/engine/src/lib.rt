@@ -1,6 +1,7 @@
 // The calls of the engine: start, step, give, take, run. Each judges its buffers first, and a call that is refused changes nothing.
 ghost use mathlib.Core.Path.{_≡_};
 ghost use lib.ListN.{replicate};
+ghost use Rattle.numbers.specs.Bytes.{words as wordsOf};
 ghost use Rattle.table.specs.Table.{tableOf};
 ghost use Rattle.table.specs.Index.{Indexed, indexLength};
 ghost use Rattle.rules.specs.Calls.{Outcome, lengthsRight, startAdmission, admission, startCall, stepCall, giveCall, takeCall, runCall};
@@ -15,9 +16,9 @@ use rules::Taken;
 
 const TABLE: usize = 20760;
 
-const STATE: usize = 6156;
+const STATE_BYTES: usize = 6156;
 
-const INDEX: usize = 803;
+const INDEX: usize = 807;
 
 // Ground 8.
 fn lengths_right(table: &[u8], state: &[u8]) -> bool
@@ -26,7 +27,7 @@ fn lengths_right(table: &[u8], state: &[u8]) -> bool
     if table.len() != TABLE {
         return false;
     }
-    state.len() == STATE
+    state.len() == STATE_BYTES
 }
 
 // Grounds 8 and 9. The index of an admitted table is left in `index`, which comes as zeros.
@@ -44,16 +45,23 @@ fn admit_start(table: &[u8], state: &[u8], index: &mut [u32]) -> Admission
     Admission::Refused(Refusal::Table)
 }
 
-// Grounds 8, 9 and 10.
-fn admit(table: &[u8], state: &[u8], index: &mut [u32]) -> Admission
+// Grounds 8, 9 and 10. The words of an admitted state are left in `words`.
+fn admit(
+    table: &[u8],
+    state: &[u8],
+    index: &mut [u32],
+    words: &mut [u32; state::WORDS],
+) -> Admission
     requires { ⌜ now index ≡ replicate indexLength 0 ⌝ }
     ensures { λ r. ⌜ r ≡ admission (now (table .entry)) (now (state .entry)) ⌝ }
     ensures { λ r. ⌜ (r ≡ Admitted → Indexed (tableOf (now (table .entry))) (now (index .exit))) ⌝ }
+    ensures { λ r. ⌜ (r ≡ Admitted → now (words .exit) ≡ wordsOf (now (state .entry))) ⌝ }
 {
     match admit_start(table, state, index) {
         Admission::Refused(ground) => Admission::Refused(ground),
         Admission::Admitted => {
-            if sound::is_sound(table, index, state) {
+            buffers::read(state, words);
+            if sound::is_sound(table, index, words) {
                 return Admission::Admitted;
             }
             Admission::Refused(Refusal::State)
@@ -69,7 +77,9 @@ pub fn start(table: &[u8], state: &mut [u8]) -> Started
     match admit_start(table, state, &mut index) {
         Admission::Refused(ground) => Started::Refused(ground),
         Admission::Admitted => {
-            starts::write_started(table, &index, state);
+            let mut words = [0u32; state::WORDS];
+            starts::write_started(table, &index, &mut words);
+            buffers::write(&words, state);
             Started::Done
         }
     }
@@ -80,9 +90,14 @@ pub fn step(table: &[u8], state: &mut [u8], t: u32) -> Stepped
     ensures { λ r. ⌜ _≡_ {A = Outcome Stepped} (record { answer = r; state = now (state .exit) }) (stepCall (now (table .entry)) (now (state .entry)) t) ⌝ }
 {
     let mut index = [0u32; INDEX];
-    match admit(table, state, &mut index) {
+    let mut words = [0u32; state::WORDS];
+    match admit(table, state, &mut index, &mut words) {
         Admission::Refused(ground) => Stepped::Refused(ground),
-        Admission::Admitted => calls::step(table, &index, state, t),
+        Admission::Admitted => {
+            let answer = calls::step(table, &index, &mut words, t);
+            buffers::write(&words, state);
+            answer
+        }
     }
 }
 
@@ -91,9 +106,14 @@ pub fn give(table: &[u8], state: &mut [u8], p: u32, v: u32) -> Given
     ensures { λ r. ⌜ _≡_ {A = Outcome Given} (record { answer = r; state = now (state .exit) }) (giveCall (now (table .entry)) (now (state .entry)) p v) ⌝ }
 {
     let mut index = [0u32; INDEX];
-    match admit(table, state, &mut index) {
+    let mut words = [0u32; state::WORDS];
+    match admit(table, state, &mut index, &mut words) {
         Admission::Refused(ground) => Given::Refused(ground),
-        Admission::Admitted => calls::give(table, &index, state, p, v),
+        Admission::Admitted => {
+            let answer = calls::give(table, &index, &mut words, p, v);
+            buffers::write(&words, state);
+            answer
+        }
     }
 }
 
@@ -102,9 +122,14 @@ pub fn take(table: &[u8], state: &mut [u8], p: u32) -> Taken
     ensures { λ r. ⌜ _≡_ {A = Outcome Taken} (record { answer = r; state = now (state .exit) }) (takeCall (now (table .entry)) (now (state .entry)) p) ⌝ }
 {
     let mut index = [0u32; INDEX];
-    match admit(table, state, &mut index) {
+    let mut words = [0u32; state::WORDS];
+    match admit(table, state, &mut index, &mut words) {
         Admission::Refused(ground) => Taken::Refused(ground),
-        Admission::Admitted => calls::take(table, &index, state, p),
+        Admission::Admitted => {
+            let answer = calls::take(table, &index, &mut words, p);
+            buffers::write(&words, state);
+            answer
+        }
     }
 }
 
@@ -113,8 +138,13 @@ pub fn run(table: &[u8], state: &mut [u8], n: u16) -> Ran
     ensures { λ r. ⌜ _≡_ {A = Outcome Ran} (record { answer = r; state = now (state .exit) }) (runCall (now (table .entry)) (now (state .entry)) n) ⌝ }
 {
     let mut index = [0u32; INDEX];
-    match admit(table, state, &mut index) {
+    let mut words = [0u32; state::WORDS];
+    match admit(table, state, &mut index, &mut words) {
         Admission::Refused(ground) => Ran::Refused(ground),
-        Admission::Admitted => calls::run(table, &index, state, n),
+        Admission::Admitted => {
+            let answer = calls::run(table, &index, &mut words, n);
+            buffers::write(&words, state);
+            answer
+        }
     }
 }

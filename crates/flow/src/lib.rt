@@ -134,7 +134,7 @@ fn first_branch(table: &[u8], index: &[u32], n: u32) -> usize
     ensures { λ r. ⌜ r ≡ branchRow (tableOf (now (table .entry))) + start (tableOf (now (table .entry))) Branches n ⌝ }
     ensures { λ r. ⌜ r < 4295229440 ⌝ }
 {
-    table::branch_row(table) + table::start_of(table, index, Part::Branches, n) as usize
+    table::branch_row_of(table, index) + table::start_of(table, index, Part::Branches, n) as usize
 }
 
 // Each branch of node n, which has the marks m, leads on.
@@ -144,7 +144,7 @@ fn follow_branches(table: &[u8], index: &[u32], n: u32, m: u32, marks: &mut [u32
 {
     let f = first_node(table, index, n);
     let row = first_branch(table, index, n);
-    let count = table::branch_count(table, n);
+    let count = table::branch_count_of(table, index, n);
     for i in 0..count {
         follow_branch(table, f, m, row + i as usize, marks);
     }

@@ -23,7 +23,7 @@ const ROW_BYTES: usize = 24;
 
 const TABLE: usize = 20760;
 
-const INDEX: usize = 803;
+const INDEX: usize = 807;
 
 const MAX_NODES: usize = 192;
 
@@ -148,6 +148,7 @@ fn judge_rows(table: &[u8], index: &[u32], n: usize) -> Verdict
 
 // Grounds 3 and on, of a table of n lines. The index of a table in which there is no fault is left in `index`.
 fn judge(table: &[u8], index: &mut [u32], n: usize) -> Verdict
+    requires { ⌜ length (now table) ≡ tableLength ⌝ }
     requires { ⌜ now index ≡ replicate indexLength 0 ⌝ }
     ensures { λ r. ⌜ r ≡ judged (tableOf (now (table .entry))) n ⌝ }
     ensures { λ r. ⌜ (r ≡ Verdict.Sound → Indexed (tableOf (now (table .entry))) (now (index .exit))) ⌝ }

@@ -10,10 +10,11 @@ use borrow.Author.Tests.{ltb-true, ltb-false, lt-ltb, le-ltb, eqb-true, not-fals
 use Rattle.numbers.specs.Rows.{at}
 use Rattle.numbers.specs.Search.{first}
 use Rattle.numbers.specs.Search.Laws.{caseB, contra, first-below, every-elim}
+use Rattle.numbers.specs.Tests.{and-left, and-right, parts}
 use Rattle.table.specs.Table.{Table, definitions, nodes, branches, definitionRow, slotRow, nodeRow, branchRow, lineTotal, parameters, slotCount, nodeCount}
 use Rattle.table.specs.Layout.{blocks, lines, size, start, branchCount, definitionOf, nodeOf}
 use Rattle.table.specs.Form.{within, headerInRange, kindDue, kindWrong, sumsAgree}
-use Rattle.table.specs.Form.Laws.{and-left, and-right, parts, within-most, header-counts}
+use Rattle.table.specs.Form.Laws.{within-most, header-counts}
 use Rattle.table.specs.Roles.{operand, operandRole, reads, writes}
 use Rattle.table.specs.declared.Part.{Part}
 use Rattle.table.specs.declared.Part.the-variants.{Slots, Nodes, Branches}

@@ -9,9 +9,9 @@ use lib.Dec.{ltb, eqb}
 use borrow.Author.Tests.{lt-ltb, ltb-true, ltb-false, eq-eqb, ne-eqb, eqb-true}
 use Rattle.numbers.specs.Search.{first}
 use Rattle.numbers.specs.Search.Laws.{caseB, contra, first-le, first-passes, first-below}
+use Rattle.numbers.specs.Tests.{and-left}
 use Rattle.table.specs.Table.{maxRows, lineTotal}
 use Rattle.table.specs.Form.{headerInRange, kindWrong, sumsAgree}
-use Rattle.table.specs.Form.Laws.{and-left}
 use Rattle.checks.specs.Ranges.{outOfRange}
 use Rattle.checks.specs.Types.{typesDisagree}
 use Rattle.flow.specs.Flow.{readsUnwritten, unreachable}

@@ -11,13 +11,13 @@ use borrow.Author.Tests.{lt-ltb, le-ltb, ltb-true, ltb-false, le-leb, leb-true, 
 use Rattle.numbers.specs.Rows.{at}
 use Rattle.numbers.specs.Search.{every, first, tabulate}
 use Rattle.numbers.specs.Search.Laws.{caseB, contra, every-elim, every-intro, first-le, first-below, first-void, length-tabulate, getD-tabulate}
+use Rattle.numbers.specs.Tests.{and-left, and-right}
 use Rattle.text.specs.Text.{fileText, fieldOf, readNumber}
 use Rattle.text.specs.Text.Laws.{length-file, prints-read, prints-end, read-prints}
 use Rattle.text.specs.Text.Characters.{Characters, file-fits}
 use Rattle.text.specs.declared.Reading.{Reading}
 use Rattle.text.specs.declared.Reading.the-variants.{Value, Wrong}
 use Rattle.table.specs.Table.{Table, maxRows, rowNumbers}
-use Rattle.table.specs.Form.Laws.{and-left, and-right}
 use Rattle.loader.specs.File.{isValue, valueOf, lineCount, notLines, fieldIsNumber, wellFormed, malformed, numberAt, rowAt, fileTable}
 use Rattle.loader.specs.Verdict.{atFault, judged, verdict}
 use Rattle.loader.specs.Verdict.Laws.{no-sound}

@@ -9,9 +9,9 @@ use borrow.Author.Tests.{ltb-true, eqb-true, not-true, not-false}
 use Rattle.numbers.specs.Rows.{at}
 use Rattle.numbers.specs.Search.{first, every}
 use Rattle.numbers.specs.Search.Laws.{caseB, first-below, first-void, every-elim, every-intro}
+use Rattle.numbers.specs.Tests.{parts}
 use Rattle.table.specs.Table.{Table, nodes, nodeRow, branchRow, lineTotal, parameters, slotCount}
 use Rattle.table.specs.Layout.{branchCount, definitionOf, start}
-use Rattle.table.specs.Form.Laws.{parts}
 use Rattle.table.specs.Roles.{operand, operandRole, reads}
 use Rattle.table.specs.declared.Part.the-variants.{Branches}
 use Rattle.checks.specs.Ranges.{argumentInRange, callInRange, nodeInRange}

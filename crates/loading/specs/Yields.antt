@@ -14,9 +14,10 @@ use Rattle.numbers.specs.Rows.Laws.{length-rows, length-row, at-in}
 use Rattle.numbers.specs.Bytes.{shorts, joined}
 use Rattle.numbers.specs.Bytes.Laws.{length-numbers, length-encode, encode-numbers, numbers-encode, numbers-fit, joined-rows, rows-joined}
 use Rattle.numbers.specs.Search.Laws.{caseB, contra, every-elim, every-intro, length-tabulate, getD-tabulate}
+use Rattle.numbers.specs.Tests.{and-left, and-right}
 use Rattle.table.specs.Table.{Table, maxRows, rowNumbers, tableOf, lineTotal}
 use Rattle.table.specs.Form.{headerInRange}
-use Rattle.table.specs.Form.Laws.{and-left, and-right, header-counts}
+use Rattle.table.specs.Form.Laws.{header-counts}
 use Rattle.checks.specs.Ranges.{unusedFrom, restUnused}
 use Rattle.text.specs.Text.{fileText, fieldOf, readNumber}
 use Rattle.text.specs.Text.Laws.{reads-value, length-joined}

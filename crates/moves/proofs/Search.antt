@@ -1,21 +1,24 @@
 -- What the search for a partner has shown at each place. Assumes nothing.
-use Prim.Native.Nat.{ℕ, _+_, _<_, _≤_}
+use Prim.Native.Nat.{ℕ, _+_, _-_, _<_, _≤_}
 use native.Mathlib.Omega.{arith}
 use mathlib.Core.Path.{_≡_, refl, sym, _∙_}
 use mathlib.Core.Bool.{Bool, true, false}
-use lib.Dec.{eqb}
-use borrow.Author.Tests.{lt-ltb, le-ltb}
+use lib.Dec.{ltb, eqb}
+use borrow.Author.Tests.{lt-ltb, le-ltb, ltb-true, ltb-false, ne-eqb}
+use Rattle.numbers.specs.Rows.{at}
 use Rattle.numbers.specs.Search.{first, some}
-use Rattle.numbers.specs.Search.Laws.{caseB, first-more, first-hit, first-void, some-intro}
+use Rattle.numbers.specs.Search.Laws.{caseB, first-more, first-hit, first-below, first-void, some-intro}
 use Rattle.table.specs.Table.{Table}
 use Rattle.table.specs.Layout.{branchCount}
 use Rattle.state.specs.State.{State, maxThreads, thread, standsAt}
 use Rattle.rules.specs.Offers.{offersIn, offersAt, offeringBranch, offers, answers, answering, partnerOf}
+use Rattle.rules.specs.Moves.{firstFrom}
 use Rattle.rules.specs.declared.Direction.{Direction}
 use Rattle.rules.specs.declared.Partner.{Partner}
 use Rattle.rules.specs.declared.Partner.the-variants.{Nobody, At}
+use Rattle.moves.specs.Around.{from-more, from-hit, from-ge, from-before}
 use Rattle.moves.specs.Top.{UsedBelow, top-le, answers-rest}
-use Rattle.moves.specs.Tried.{tried, firstRow, row-tried, answers-tried, tried-all}
+use Rattle.moves.specs.Tried.{isWaitingThread, tried, firstRow, row-tried, answers-tried, only-waiting, tried-all}
 
 -- branch i of thread u, of which n are tried, in row r + i, was tried
 module _ (tb : Table) (s : State) (d : Direction) (c u r i n : ℕ) (f : r ≡ firstRow tb s u n) (q : Bool) (e : q ≡ offersIn tb (thread s u) d c (r + i)) (h : i < n) where
@@ -38,9 +41,13 @@ module _ (tb : Table) (s : State) (t : ℕ) (d : Direction) (c : ℕ) where
   no-channel h =
       none-answers (first-void (answers tb s t d c) maxThreads (λ u l. rw (le-ltb c 128 h) (caseB (eqb u t) (λ e. rw e) (λ e. rw e))))
 
-  -- no other length is met
-  pub no-length : (n : ℕ) → (n ≡ 6156 → ⊥) → n ≡ 6156 → Nobody ≡ partnerOf tb s t d c
-  no-length n h e = absurd (h e)
+  -- the threads from m up to the first that waits, r, are passed over
+  pub threads-skipped : (n m r : ℕ) → r ≡ firstFrom n m (isWaitingThread s) → first (answers tb s t d c) m ≡ m → first (answers tb s t d c) r ≡ r
+  threads-skipped n m r e past =
+      first-void (answers tb s t d c) r
+      (λ k l. caseB (ltb k m)
+      (λ y. first-below (answers tb s t d c) m k (rw past (ltb-true k m y)))
+      (λ y. only-waiting tb s t d c k (from-before (isWaitingThread s) m n r e k (ltb-false k m y) l)))
 
   pub nobody-is : (f : Partner) (u top : ℕ) → f ≡ Nobody → first (answers tb s t d c) u ≡ u → top ≤ u → UsedBelow s top → f ≡ partnerOf tb s t d c
   nobody-is f u top e past h k = e ∙ none-answers (answers-rest s top k tb t d c u past h)
@@ -75,3 +82,19 @@ module _ (tb : Table) (s : State) (t : ℕ) (d : Direction) (c : ℕ) where
         let w : i ≡ n = omega arith in
         let all : first (offersAt tb (thread s u) d c) n ≡ n = rw w at g in
         first-more (answers tb s t d c) u (answers tb s t d c u) past refl (rw (answers-tried tb s t d c u l, ← b, all) (le-ltb n n (omega arith)))
+
+-- ---- the next thread that waits
+
+-- the word of thread u was read, and none from m upward and below u waits
+module _ (s : State) (m u w : ℕ) (e : firstFrom u m (isWaitingThread s) ≡ u) (f : w ≡ at (s .threads) u 0) (l : m ≤ u) where
+  pub waiting-hit : (n : ℕ) → w ≡ 2 → u < n → u ≡ firstFrom n m (isWaitingThread s)
+  unfolding isWaitingThread
+  waiting-hit n g h = from-hit (isWaitingThread s) m u e true (rw (← f, g)) l n refl h
+
+  pub waiting-more : (w ≡ 2 → ⊥) → firstFrom (u + 1) m (isWaitingThread s) ≡ u + 1
+  unfolding isWaitingThread
+  waiting-more g = from-more (isWaitingThread s) m u e false (rw (← f, ne-eqb w 2 g)) l refl
+
+-- it comes after the thread that was tried
+pub waiting-less : (s : State) (n u r : ℕ) → r ≡ firstFrom n (u + 1) (isWaitingThread s) → u < n → r ≤ n → n - r < n - u
+waiting-less s n u r e h l = omega (arith, from-ge (isWaitingThread s) (u + 1) n r e (omega arith))

@@ -1,13 +1,13 @@
 -- A search that goes up from a mark and around the end: what its loop keeps true, and what it finds. Assumes nothing.
 use Prim.Native.Nat.{ℕ, _+_, _≤_, _<_}
 use native.Mathlib.Omega.{arith}
-use mathlib.Core.Path.{_≡_, refl, sym}
+use mathlib.Core.Path.{_≡_, sym}
 use mathlib.Core.Bool.{Bool, true, false, _&&_}
 use lib.Dec.{ltb, leb}
-use borrow.Author.Tests.{lt-ltb, le-ltb, le-leb, lt-leb, ltb-true}
+use borrow.Author.Tests.{lt-ltb, le-ltb, le-leb, lt-leb, ltb-true, ltb-false}
 use Rattle.numbers.specs.Search.{first}
 use Rattle.numbers.specs.Search.Laws.{caseB, contra, first-more, first-hit, first-le, first-passes, first-below, first-void, first-cong}
-use Rattle.numbers.specs.Tests.{and-yes}
+use Rattle.numbers.specs.Tests.{and-left, and-right, and-yes}
 use Rattle.state.specs.State.{State, maxThreads, thread, isReady}
 use Rattle.rules.specs.Moves.{firstFrom, around}
 use Rattle.rules.specs.Calls.{isReadyThread, nextReady}
@@ -33,6 +33,24 @@ module _ (p : ℕ → Bool) (m : ℕ) where
     unfolding firstFrom
     from-all n h =
         sym (first-void (λ k. leb m k && p k) n (λ k l. first-below (λ j. leb m j && p j) i k (let q : k < i = omega arith in rw e q)))
+
+  -- what is found is not below m, and none before it from m upward passes
+  module _ (n r : ℕ) (e : r ≡ firstFrom n m p) where
+    pub from-ge : m ≤ n → m ≤ r
+    unfolding firstFrom
+    from-ge h =
+        caseB (ltb r m)
+        (λ y. absurd (let l : r < m = ltb-true r m y in
+        let k : first (λ i. leb m i && p i) n < n = rw (← e) (omega arith) in
+        let w : (leb m r && p r) ≡ true = rw e (first-passes (λ i. leb m i && p i) n k) in
+        contra (and-left (leb m r) (p r) w) (lt-leb m r l)))
+        (λ y. ltb-false r m y)
+
+    pub from-before : (k : ℕ) → m ≤ k → k < r → p k ≡ false
+    unfolding firstFrom
+    from-before k h l =
+        let f : (leb m k && p k) ≡ false = first-below (λ i. leb m i && p i) n k (rw (← e) l) in
+        rw (le-leb m k h) at f
 
 pub ruleset from-laws = (from-none, from-more, from-hit, from-all)
 
@@ -69,10 +87,6 @@ module _ (n m : ℕ) (p : ℕ → Bool) where
       caseB (ltb (first (λ i. leb m i && p i) n) n)
       (λ t. rw t (and-right (leb m (first (λ i. leb m i && p i) n)) (p (first (λ i. leb m i && p i) n)) (first-passes (λ i. leb m i && p i) n (ltb-true (first (λ i. leb m i && p i) n) n t))))
       (λ f. rw f (first-passes p n (rw f at h)))
-    where
-      and-right : (a b : Bool) → (a && b) ≡ true → b ≡ true
-      and-right true b e = e
-      and-right false b e = contra e refl
 
   -- where none is found, none passes
   pub around-none : n ≤ around n m p → (i : ℕ) → i < n → p i ≡ false

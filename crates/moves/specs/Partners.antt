@@ -1,13 +1,14 @@
 -- What an offer and a partner that is found say of the state. Assumes nothing.
 use Prim.Native.Nat.{ℕ, _<_}
 use mathlib.Core.Path.{_≡_, refl, sym, _∙_}
-use mathlib.Core.Bool.{Bool, true, false, not, _&&_}
+use mathlib.Core.Bool.{true, not, _&&_}
 use mathlib.Core.List.{List}
 use mathlib.Core.Logic.{_≢_}
 use lib.Dec.{ltb, eqb}
 use borrow.Author.Tests.{ltb-true, eq-eqb}
 use Rattle.numbers.specs.Search.{first, some}
 use Rattle.numbers.specs.Search.Laws.{caseB, contra, first-passes}
+use Rattle.numbers.specs.Tests.{and-left, and-right}
 use Rattle.table.specs.Table.{Table}
 use Rattle.table.specs.Layout.{branchCount}
 use Rattle.state.specs.State.{State, maxThreads, maxChannels, thread, standsAt, isWaiting}
@@ -15,10 +16,6 @@ use Rattle.rules.specs.Offers.{offersAt, offeringBranch, offers, answers, answe
 use Rattle.rules.specs.declared.Direction.{Direction}
 use Rattle.rules.specs.declared.Partner.{Partner}
 use Rattle.rules.specs.declared.Partner.the-variants.{Nobody, At}
-
-and-both : (a b : Bool) → (a && b) ≡ true → (a ≡ true) × (b ≡ true)
-and-both true b e = (refl, e)
-and-both false b e = contra e refl
 
 -- a thread that offers waits, on a channel, and its offering branch is one of its branches and offers
 pub offers-says : (tb : Table) (row : List ℕ) (d : Direction) (c : ℕ) → offers tb row d c ≡ true
@@ -30,9 +27,9 @@ unfolding offers some offeringBranch
 offers-says tb row d c e =
     let n = branchCount tb (standsAt row) in
     let p = offersAt tb row d c in
-    let (a, f) = and-both (ltb c maxChannels) (isWaiting row && ltb (first p n) n) e in
-    let (w, g) = and-both (isWaiting row) (ltb (first p n) n) f in
-    (ltb-true c maxChannels a, w, ltb-true (first p n) n g, first-passes p n (ltb-true (first p n) n g))
+    let f = and-right (ltb c maxChannels) (isWaiting row && ltb (first p n) n) e in
+    let l = ltb-true (first p n) n (and-right (isWaiting row) (ltb (first p n) n) f) in
+    (ltb-true c maxChannels (and-left (ltb c maxChannels) _ e), and-left (isWaiting row) _ f, l, first-passes p n l)
 
 module _ (tb : Table) (s : State) (t : ℕ) (d : Direction) (c : ℕ) where
   -- thread u is another than t and offers d on c, first through its branch j
@@ -53,7 +50,9 @@ module _ (tb : Table) (s : State) (t : ℕ) (d : Direction) (c : ℕ) where
   unfolding answering answers
   answering-in h =
       let u = first (answers tb s t d c) maxThreads in
-      let (n, o) = and-both (not (eqb u t)) (offers tb (thread s u) d c) (first-passes (answers tb s t d c) maxThreads h) in
+      let a = first-passes (answers tb s t d c) maxThreads h in
+      let n = and-left (not (eqb u t)) (offers tb (thread s u) d c) a in
+      let o = and-right (not (eqb u t)) (offers tb (thread s u) d c) a in
       let (l, w, b, p) = offers-says tb (thread s u) d c o in
       (h, (λ q. contra n (rw (eq-eqb u t q))), o, refl, b)
 

@@ -7,9 +7,9 @@ use mathlib.Core.List.{List}
 use lib.Dec.{ltb, leb, eqb}
 use borrow.Author.Tests.{ltb-true, ltb-false, eqb-true, not-true, not-false}
 use Rattle.numbers.specs.Search.{first}
-use Rattle.numbers.specs.Search.Laws.{caseB, first-void, first-below}
+use Rattle.numbers.specs.Search.Laws.{caseB, first-rest}
 use Rattle.table.specs.Table.{Table}
-use Rattle.state.specs.State.{State, maxThreads, view, thread, status, isReady, isWaiting}
+use Rattle.state.specs.State.{State, maxThreads, stateOf, thread, status, isReady, isWaiting}
 use Rattle.state.specs.State.Laws.{thread-row-out}
 use Rattle.rules.specs.Offers.{offers, answers}
 use Rattle.rules.specs.Moves.{firstFrom, isFreeThread}
@@ -19,13 +19,6 @@ use Rattle.moves.specs.Around.{from-hit}
 
 unfoldable pub UsedBelow : State → ℕ → Type 0
 UsedBelow s top = (top ≤ maxThreads) × ((u : ℕ) → top ≤ u → status (thread s u) ≡ 0)
-
--- none below i passes, and none from i on
-pub first-rest : (p : ℕ → Bool) (i n : ℕ) → first p i ≡ i → ((k : ℕ) → i ≤ k → p k ≡ false) → first p n ≡ n
-first-rest p i n e h =
-    first-void p n (λ k l. caseB (ltb k i)
-    (λ y. first-below p i k (let q : k < i = ltb-true k i y in rw e q))
-    (λ y. h k (ltb-false k i y)))
 
 module _ (s : State) (top : ℕ) (used : UsedBelow s top) where
   pub top-le : top ≤ 64
@@ -85,6 +78,6 @@ module _ (s : State) (top : ℕ) (used : UsedBelow s top) where
   used-none l = let q : top ≡ 0 = omega arith in rw q at used
 
 -- there are no more rows
-pub used-all : (b : List ℕ) → UsedBelow (view b) 64
+pub used-all : (b : List ℕ) → UsedBelow (stateOf b) 64
 unfolding UsedBelow
 used-all b = (omega arith, λ u l. sym (thread-row-out b u 0 l))

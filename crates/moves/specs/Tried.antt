@@ -3,8 +3,8 @@
 use Prim.Native.Nat.{ℕ, _+_, _<_}
 use native.Mathlib.Omega.{arith}
 use mathlib.Core.Path.{_≡_}
-use mathlib.Core.Bool.{false, cond}
-use lib.Dec.{eqb}
+use mathlib.Core.Bool.{Bool, false, cond}
+use lib.Dec.{ltb, eqb}
 use borrow.Author.Tests.{lt-ltb, ne-eqb}
 use Rattle.numbers.specs.Search.{some}
 use Rattle.numbers.specs.Search.Laws.{caseB, first-none}
@@ -15,6 +15,10 @@ use Rattle.state.specs.State.{State, maxChannels, thread, standsAt, isWaiting}
 use Rattle.rules.specs.Program.{branchAt}
 use Rattle.rules.specs.Offers.{offersAt, offers, answers}
 use Rattle.rules.specs.declared.Direction.{Direction}
+
+-- the threads whose branches are tried
+unfoldable pub isWaitingThread : State → ℕ → Bool
+isWaitingThread s u = isWaiting (thread s u)
 
 module _ (tb : Table) (s : State) where
   -- how many branches of thread u are tried for thread t: none of its own, and none of a thread that does not wait
@@ -38,6 +42,12 @@ module _ (tb : Table) (s : State) where
       let none = first-none (offersAt tb (thread s u) d c) in
       rw (lt-ltb c maxChannels l)
       (caseB (eqb u t) (λ e. rw (e, none)) (λ e. rw e (caseB (isWaiting (thread s u)) (λ w. rw w) (λ w. rw (w, none)))))
+
+  -- a thread that does not wait does not answer
+  pub only-waiting : (t : ℕ) (d : Direction) (c u : ℕ) → isWaitingThread s u ≡ false → answers tb s t d c u ≡ false
+  unfolding isWaitingThread answers offers
+  only-waiting t d c u w =
+      rw w (caseB (eqb u t) (λ e. rw e) (λ e. rw e (caseB (ltb c maxChannels) (λ l. rw l) (λ l. rw l))))
 
   -- where a branch is tried, all of the thread's branches are
   pub tried-all : (t u i : ℕ) → i < tried t u → tried t u ≡ branchCount tb (standsAt (thread s u))

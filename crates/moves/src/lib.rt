@@ -1,18 +1,17 @@
 // Which move a ready thread makes: the search for a partner, for a free row and for the next ready thread, and the choice of a branch.
 ghost use mathlib.Core.Path.{_≡_};
 ghost use Prim.Native.Nat.{_+_, _≤_, _<_};
-ghost use lib.ListN.{length};
 ghost use Rattle.table.specs.Table.{tableOf, nodeRow, branchRow};
 ghost use Rattle.table.specs.Layout.{branchCount, start};
 ghost use Rattle.table.specs.declared.Part.the-variants.{Branches};
 ghost use Rattle.table.specs.Index.{Indexed};
-ghost use Rattle.state.specs.State.{view, thread, standsAt, slotOf, stateLength};
+ghost use Rattle.state.specs.State.{stateOf, thread, standsAt, slotOf};
 ghost use Rattle.rules.specs.Program.{branchAt, fieldA, actOf, opposite};
 ghost use Rattle.rules.specs.Offers.{meets?, offersIn, partnerOf};
 ghost use Rattle.rules.specs.Moves.{firstFrom, oneUp, isFreeThread, isFreeChannel, freeThread, freeChannel, meeting, creation, spawning, goesAhead, actMove, branchMove, choice, move};
 ghost use Rattle.rules.specs.Calls.{isReadyThread, nextReady};
 ghost use Rattle.moves.specs.Top.{UsedBelow};
-ghost use Rattle.moves.specs.Tried.{tried, firstRow};
+ghost use Rattle.moves.specs.Tried.{isWaitingThread, tried, firstRow};
 use rules::Act;
 use rules::Direction;
 use rules::Move;
@@ -23,13 +22,12 @@ const THREADS: u32 = 64;
 
 const CHANNELS: u32 = 128;
 
-const STATE_BYTES: usize = 6156;
-
 // Whether the branch in a row is a meeting of direction d.
-fn is_meeting(table: &[u8], row: usize, d: Direction) -> bool
+fn is_meeting(table: &[u8], index: &[u32], row: usize, d: Direction) -> bool
+    requires { ⌜ Indexed (tableOf (now table)) (now index) ⌝ }
     ensures { λ r. ⌜ r ≡ meets? (actOf (tableOf (now (table .entry))) row) d ⌝ }
 {
-    let code = table::cell(table, row, 4);
+    let code = table::cell_of(table, index, row, 4);
     match d {
         Direction::Out => code == 1,
         Direction::In => code == 2,
@@ -37,37 +35,55 @@ fn is_meeting(table: &[u8], row: usize, d: Direction) -> bool
 }
 
 // Whether the branch in a row, of thread u, is a meeting of direction d on channel c, and its guard is true.
-fn offers_in(table: &[u8], row: usize, state: &[u8], u: u32, d: Direction, c: u32) -> bool
-    ensures { λ r. ⌜ r ≡ offersIn (tableOf (now (table .entry))) (thread (view (now (state .entry))) u) d c row ⌝ }
+fn offers_in(
+    table: &[u8],
+    index: &[u32],
+    row: usize,
+    state: &[u32; state::WORDS],
+    u: u32,
+    d: Direction,
+    c: u32,
+) -> bool
+    requires { ⌜ Indexed (tableOf (now table)) (now index) ⌝ }
+    ensures { λ r. ⌜ r ≡ offersIn (tableOf (now (table .entry))) (thread (stateOf (now (state .entry))) u) d c row ⌝ }
 {
-    if !is_meeting(table, row, d) {
+    if !is_meeting(table, index, row, d) {
         return false;
     }
-    if program::slot(state, u, table::cell(table, row, 5)) != c {
+    if program::slot(state, u, table::cell_of(table, index, row, 5)) != c {
         return false;
     }
-    program::guard_holds(table, row, state, u)
+    program::guard_holds(table, index, row, state, u)
 }
 
 // The number of branches of a node, where the rows of the nodes begin at a row.
-fn branches_of(table: &[u8], nodes: usize, node: u32) -> u32
+fn branches_of(table: &[u8], index: &[u32], nodes: usize, node: u32) -> u32
+    requires { ⌜ Indexed (tableOf (now table)) (now index) ⌝ }
     requires { ⌜ nodes ≡ nodeRow (tableOf (now table)) ⌝ }
     requires { ⌜ nodes ≤ 196608 ⌝ }
     ensures { λ r. ⌜ r ≡ branchCount (tableOf (now (table .entry))) node ⌝ }
     ensures { λ r. ⌜ r < 65536 ⌝ }
 {
     let row = nodes + node as usize;
-    if table::cell(table, row, 1) == 1 {
-        return table::cell(table, row, 2);
+    if table::cell_of(table, index, row, 1) == 1 {
+        return table::cell_of(table, index, row, 2);
     }
     0
 }
 
 // How many branches of thread u are tried for thread t: none of its own, and none of a thread that does not wait.
-fn branches_tried(table: &[u8], nodes: usize, state: &[u8], t: u32, u: u32) -> u32
+fn branches_tried(
+    table: &[u8],
+    index: &[u32],
+    nodes: usize,
+    state: &[u32; state::WORDS],
+    t: u32,
+    u: u32,
+) -> u32
+    requires { ⌜ Indexed (tableOf (now table)) (now index) ⌝ }
     requires { ⌜ nodes ≡ nodeRow (tableOf (now table)) ⌝ }
     requires { ⌜ nodes ≤ 196608 ⌝ }
-    ensures { λ r. ⌜ r ≡ tried (tableOf (now (table .entry))) (view (now (state .entry))) t u ⌝ }
+    ensures { λ r. ⌜ r ≡ tried (tableOf (now (table .entry))) (stateOf (now (state .entry))) t u ⌝ }
 {
     if state::thread_word(state, u as usize, 0) != 2 {
         return 0;
@@ -75,7 +91,12 @@ fn branches_tried(table: &[u8], nodes: usize, state: &[u8], t: u32, u: u32) -> u
     if u == t {
         return 0;
     }
-    branches_of(table, nodes, state::thread_word(state, u as usize, 1))
+    branches_of(
+        table,
+        index,
+        nodes,
+        state::thread_word(state, u as usize, 1),
+    )
 }
 
 // The row of the first branch of a node, where the rows of the nodes begin at a row.
@@ -86,16 +107,23 @@ fn first_branch(table: &[u8], index: &[u32], nodes: usize, node: u32) -> usize
     ensures { λ r. ⌜ r ≡ branchRow (tableOf (now (table .entry))) + start (tableOf (now (table .entry))) Branches node ⌝ }
     ensures { λ r. ⌜ r ≤ 12844864 ⌝ }
 {
-    let branches = nodes + table::cell(table, 0, 4) as usize;
+    let branches = nodes + table::cell_of(table, index, 0, 4) as usize;
     branches + table::start_of(table, index, Part::Branches, node) as usize
 }
 
 // The row of the first branch of thread u, of which n are tried; 0 where none is.
-fn first_row(table: &[u8], index: &[u32], nodes: usize, state: &[u8], u: u32, n: u32) -> usize
+fn first_row(
+    table: &[u8],
+    index: &[u32],
+    nodes: usize,
+    state: &[u32; state::WORDS],
+    u: u32,
+    n: u32,
+) -> usize
     requires { ⌜ Indexed (tableOf (now table)) (now index) ⌝ }
     requires { ⌜ nodes ≡ nodeRow (tableOf (now table)) ⌝ }
     requires { ⌜ nodes ≤ 196608 ⌝ }
-    ensures { λ r. ⌜ r ≡ firstRow (tableOf (now (table .entry))) (view (now (state .entry))) u n ⌝ }
+    ensures { λ r. ⌜ r ≡ firstRow (tableOf (now (table .entry))) (stateOf (now (state .entry))) u n ⌝ }
     ensures { λ r. ⌜ r ≤ 12844864 ⌝ }
 {
     if n == 0 {
@@ -110,9 +138,9 @@ fn first_row(table: &[u8], index: &[u32], nodes: usize, state: &[u8], u: u32, n:
 }
 
 // The number from which on no row is in use, seen to be at most that of all rows.
-fn at_most_all(state: &[u8], top: u32) -> u32
-    requires { ⌜ UsedBelow (view (now state)) top ⌝ }
-    ensures { λ r. ⌜ UsedBelow (view (now (state .entry))) r ⌝ }
+fn at_most_all(state: &[u32; state::WORDS], top: u32) -> u32
+    requires { ⌜ UsedBelow (stateOf (now state)) top ⌝ }
+    ensures { λ r. ⌜ UsedBelow (stateOf (now (state .entry))) r ⌝ }
 {
     if top < THREADS {
         return top;
@@ -120,66 +148,77 @@ fn at_most_all(state: &[u8], top: u32) -> u32
     THREADS
 }
 
+// The first waiting thread from a number on, below a limit; the limit where there is none.
+fn next_waiting(state: &[u32; state::WORDS], from: u32, limit: u32) -> u32
+    requires { ⌜ from ≤ limit ⌝ }
+    ensures { λ r. ⌜ r ≡ firstFrom limit from (isWaitingThread (stateOf (now (state .entry)))) ⌝ }
+    ensures { λ r. ⌜ r ≤ limit ⌝ }
+{
+    for u in from..limit {
+        if state::thread_word(state, u as usize, 0) == 2 {
+            return u;
+        }
+    }
+    limit
+}
+
 // The first waiting thread other than t that offers d on channel c, and the first of its branches that does. No row from top on is in use.
-// The length is as it is required to be: it is tested, and top taken as 64 at most, so that the reads of the rows need no tests of their own.
 pub fn find_partner(
     table: &[u8],
     index: &[u32],
-    state: &[u8],
+    state: &[u32; state::WORDS],
     t: u32,
     d: Direction,
     c: u32,
     top: u32,
 ) -> Partner
     requires { ⌜ Indexed (tableOf (now table)) (now index) ⌝ }
-    requires { ⌜ length (now state) ≡ stateLength ⌝ }
-    requires { ⌜ UsedBelow (view (now state)) top ⌝ }
-    ensures { λ r. ⌜ r ≡ partnerOf (tableOf (now (table .entry))) (view (now (state .entry))) t d c ⌝ }
+    requires { ⌜ UsedBelow (stateOf (now state)) top ⌝ }
+    ensures { λ r. ⌜ r ≡ partnerOf (tableOf (now (table .entry))) (stateOf (now (state .entry))) t d c ⌝ }
 {
     if CHANNELS <= c {
         return Partner::Nobody;
     }
-    if state.len() != STATE_BYTES {
-        return Partner::Nobody;
-    }
     let limit = at_most_all(state, top);
-    let nodes = table::node_row(table);
+    let nodes = table::node_row_of(table, index);
     let mut found = Partner::Nobody;
-    'threads: for u in 0..limit {
-        let n = branches_tried(table, nodes, state, t, u);
+    let mut u = next_waiting(state, 0, limit);
+    'threads: while u < limit {
+        let n = branches_tried(table, index, nodes, state, t, u);
         let from = first_row(table, index, nodes, state, u, n);
         for i in 0..n {
-            if offers_in(table, from + i as usize, state, u, d, c) {
+            if offers_in(table, index, from + i as usize, state, u, d, c) {
                 found = Partner::At(u, i);
                 break 'threads;
             }
         }
+        u = next_waiting(state, u + 1, limit);
     }
     found
 }
 
 // Whether row u of the threads is free, row c of the channels is, and thread u is ready.
-fn is_free_thread(state: &[u8], u: u32) -> bool
-    ensures { λ r. ⌜ r ≡ isFreeThread (view (now (state .entry))) u ⌝ }
+fn is_free_thread(state: &[u32; state::WORDS], u: u32) -> bool
+    ensures { λ r. ⌜ r ≡ isFreeThread (stateOf (now (state .entry))) u ⌝ }
 {
     state::thread_word(state, u as usize, 0) == 0
 }
 
-fn is_free_channel(state: &[u8], c: u32) -> bool
-    ensures { λ r. ⌜ r ≡ isFreeChannel (view (now (state .entry))) c ⌝ }
+fn is_free_channel(state: &[u32; state::WORDS], c: u32) -> bool
+    ensures { λ r. ⌜ r ≡ isFreeChannel (stateOf (now (state .entry))) c ⌝ }
 {
     state::channel_word(state, c as usize, 0) == 0
 }
 
-fn is_ready_thread(state: &[u8], u: u32) -> bool
-    ensures { λ r. ⌜ r ≡ isReadyThread (view (now (state .entry))) u ⌝ }
+fn is_ready_thread(state: &[u32; state::WORDS], u: u32) -> bool
+    ensures { λ r. ⌜ r ≡ isReadyThread (stateOf (now (state .entry))) u ⌝ }
 {
     state::thread_word(state, u as usize, 0) == 1
 }
 
 // One past the last row of the threads that is in use.
-pub fn rows_used(state: &[u8]) -> u32
-    ensures { λ r. ⌜ UsedBelow (view (now (state .entry))) r ⌝ }
+pub fn rows_used(state: &[u32; state::WORDS]) -> u32
+    ensures { λ r. ⌜ UsedBelow (stateOf (now (state .entry))) r ⌝ }
 {
     let mut top = THREADS;
     while 0 < top {
@@ -192,8 +231,8 @@ pub fn rows_used(state: &[u8]) -> u32
 }
 
 // The first free row of the threads, of the channels, and the first ready thread, each going up from a number; one past the last where there is none.
-fn free_thread_from(state: &[u8], from: u32) -> u32
-    ensures { λ r. ⌜ r ≡ firstFrom 64 from (isFreeThread (view (now (state .entry)))) ⌝ }
+fn free_thread_from(state: &[u32; state::WORDS], from: u32) -> u32
+    ensures { λ r. ⌜ r ≡ firstFrom 64 from (isFreeThread (stateOf (now (state .entry)))) ⌝ }
     ensures { λ r. ⌜ r ≤ 64 ⌝ }
 {
     for u in from..THREADS {
@@ -204,8 +243,8 @@ fn free_thread_from(state: &[u8], from: u32) -> u32
     THREADS
 }
 
-fn free_channel_from(state: &[u8], from: u32) -> u32
-    ensures { λ r. ⌜ r ≡ firstFrom 128 from (isFreeChannel (view (now (state .entry)))) ⌝ }
+fn free_channel_from(state: &[u32; state::WORDS], from: u32) -> u32
+    ensures { λ r. ⌜ r ≡ firstFrom 128 from (isFreeChannel (stateOf (now (state .entry)))) ⌝ }
     ensures { λ r. ⌜ r ≤ 128 ⌝ }
 {
     for c in from..CHANNELS {
@@ -216,9 +255,9 @@ fn free_channel_from(state: &[u8], from: u32) -> u32
     CHANNELS
 }
 
-fn ready_from(state: &[u8], from: u32, top: u32) -> u32
-    requires { ⌜ UsedBelow (view (now state)) top ⌝ }
-    ensures { λ r. ⌜ r ≡ firstFrom 64 from (isReadyThread (view (now (state .entry)))) ⌝ }
+fn ready_from(state: &[u32; state::WORDS], from: u32, top: u32) -> u32
+    requires { ⌜ UsedBelow (stateOf (now state)) top ⌝ }
+    ensures { λ r. ⌜ r ≡ firstFrom 64 from (isReadyThread (stateOf (now (state .entry)))) ⌝ }
     ensures { λ r. ⌜ r ≤ 64 ⌝ }
 {
     for u in from..top {
@@ -230,8 +269,8 @@ fn ready_from(state: &[u8], from: u32, top: u32) -> u32
 }
 
 // The same around the end: from the mark, from the channels' mark, and from the turn.
-pub fn free_thread(state: &[u8]) -> u32
-    ensures { λ r. ⌜ r ≡ freeThread (view (now (state .entry))) ⌝ }
+pub fn free_thread(state: &[u32; state::WORDS]) -> u32
+    ensures { λ r. ⌜ r ≡ freeThread (stateOf (now (state .entry))) ⌝ }
     ensures { λ r. ⌜ r ≤ 64 ⌝ }
 {
     let u = free_thread_from(state, state::mark(state, 0));
@@ -241,8 +280,8 @@ pub fn free_thread(state: &[u8]) -> u32
     free_thread_from(state, 0)
 }
 
-pub fn free_channel(state: &[u8]) -> u32
-    ensures { λ r. ⌜ r ≡ freeChannel (view (now (state .entry))) ⌝ }
+pub fn free_channel(state: &[u32; state::WORDS]) -> u32
+    ensures { λ r. ⌜ r ≡ freeChannel (stateOf (now (state .entry))) ⌝ }
     ensures { λ r. ⌜ r ≤ 128 ⌝ }
 {
     let c = free_channel_from(state, state::mark(state, 1));
@@ -252,9 +291,9 @@ pub fn free_channel(state: &[u8]) -> u32
     free_channel_from(state, 0)
 }
 
-pub fn next_ready(state: &[u8], top: u32) -> u32
-    requires { ⌜ UsedBelow (view (now state)) top ⌝ }
-    ensures { λ r. ⌜ r ≡ nextReady (view (now (state .entry))) ⌝ }
+pub fn next_ready(state: &[u32; state::WORDS], top: u32) -> u32
+    requires { ⌜ UsedBelow (stateOf (now state)) top ⌝ }
+    ensures { λ r. ⌜ r ≡ nextReady (stateOf (now (state .entry))) ⌝ }
     ensures { λ r. ⌜ r ≤ 64 ⌝ }
 {
     let u = ready_from(state, state::mark(state, 2), top);
@@ -281,7 +320,7 @@ pub fn one_up(n: u32, i: u32) -> u32
 fn meeting_move(
     table: &[u8],
     index: &[u32],
-    state: &[u8],
+    state: &[u32; state::WORDS],
     t: u32,
     i: u32,
     row: usize,
@@ -289,11 +328,10 @@ fn meeting_move(
     top: u32,
 ) -> Move
     requires { ⌜ Indexed (tableOf (now table)) (now index) ⌝ }
-    requires { ⌜ length (now state) ≡ stateLength ⌝ }
-    requires { ⌜ UsedBelow (view (now state)) top ⌝ }
-    ensures { λ r. ⌜ r ≡ meeting i (partnerOf (tableOf (now (table .entry))) (view (now (state .entry))) t (opposite d) (slotOf (thread (view (now (state .entry))) t) (fieldA (tableOf (now (table .entry))) row))) ⌝ }
+    requires { ⌜ UsedBelow (stateOf (now state)) top ⌝ }
+    ensures { λ r. ⌜ r ≡ meeting i (partnerOf (tableOf (now (table .entry))) (stateOf (now (state .entry))) t (opposite d) (slotOf (thread (stateOf (now (state .entry))) t) (fieldA (tableOf (now (table .entry))) row))) ⌝ }
 {
-    let c = program::slot(state, t, table::cell(table, row, 5));
+    let c = program::slot(state, t, table::cell_of(table, index, row, 5));
     let side = program::opposite_of(d);
     match find_partner(table, index, state, t, side, c, top) {
         Partner::Nobody => Move::Waits,
@@ -301,8 +339,8 @@ fn meeting_move(
     }
 }
 
-fn creation_move(state: &[u8], i: u32) -> Move
-    ensures { λ r. ⌜ r ≡ creation i (freeChannel (view (now (state .entry)))) ⌝ }
+fn creation_move(state: &[u32; state::WORDS], i: u32) -> Move
+    ensures { λ r. ⌜ r ≡ creation i (freeChannel (stateOf (now (state .entry)))) ⌝ }
 {
     let made = free_channel(state);
     if made < CHANNELS {
@@ -311,8 +349,8 @@ fn creation_move(state: &[u8], i: u32) -> Move
     Move::LacksChannel
 }
 
-fn spawning_move(state: &[u8], i: u32) -> Move
-    ensures { λ r. ⌜ r ≡ spawning i (freeThread (view (now (state .entry)))) ⌝ }
+fn spawning_move(state: &[u32; state::WORDS], i: u32) -> Move
+    ensures { λ r. ⌜ r ≡ spawning i (freeThread (stateOf (now (state .entry)))) ⌝ }
 {
     let child = free_thread(state);
     if child < THREADS {
@@ -322,14 +360,21 @@ fn spawning_move(state: &[u8], i: u32) -> Move
 }
 
 // The move of thread t by branch i, in a row, whose guard is true.
-fn act_move(table: &[u8], index: &[u32], state: &[u8], t: u32, i: u32, row: usize, top: u32) -> Move
+fn act_move(
+    table: &[u8],
+    index: &[u32],
+    state: &[u32; state::WORDS],
+    t: u32,
+    i: u32,
+    row: usize,
+    top: u32,
+) -> Move
     requires { ⌜ Indexed (tableOf (now table)) (now index) ⌝ }
-    requires { ⌜ length (now state) ≡ stateLength ⌝ }
-    requires { ⌜ UsedBelow (view (now state)) top ⌝ }
-    requires { ⌜ row ≡ branchAt (tableOf (now table)) (standsAt (thread (view (now state)) t)) i ⌝ }
-    ensures { λ r. ⌜ r ≡ actMove (tableOf (now (table .entry))) (view (now (state .entry))) t i (actOf (tableOf (now (table .entry))) row) ⌝ }
+    requires { ⌜ UsedBelow (stateOf (now state)) top ⌝ }
+    requires { ⌜ row ≡ branchAt (tableOf (now table)) (standsAt (thread (stateOf (now state)) t)) i ⌝ }
+    ensures { λ r. ⌜ r ≡ actMove (tableOf (now (table .entry))) (stateOf (now (state .entry))) t i (actOf (tableOf (now (table .entry))) row) ⌝ }
 {
-    match program::act_of(table, row) {
+    match program::act_of(table, index, row) {
         Act::Tau => Move::Goes(i),
         Act::Meeting(d) => meeting_move(table, index, state, t, i, row, d, top),
         Act::New => creation_move(state, i),
@@ -342,26 +387,25 @@ fn act_move(table: &[u8], index: &[u32], state: &[u8], t: u32, i: u32, row: usiz
 fn branch_move(
     table: &[u8],
     index: &[u32],
-    state: &[u8],
+    state: &[u32; state::WORDS],
     t: u32,
     i: u32,
     row: usize,
     top: u32,
 ) -> Move
     requires { ⌜ Indexed (tableOf (now table)) (now index) ⌝ }
-    requires { ⌜ length (now state) ≡ stateLength ⌝ }
-    requires { ⌜ UsedBelow (view (now state)) top ⌝ }
-    requires { ⌜ row ≡ branchAt (tableOf (now table)) (standsAt (thread (view (now state)) t)) i ⌝ }
-    ensures { λ r. ⌜ r ≡ branchMove (tableOf (now (table .entry))) (view (now (state .entry))) t i ⌝ }
+    requires { ⌜ UsedBelow (stateOf (now state)) top ⌝ }
+    requires { ⌜ row ≡ branchAt (tableOf (now table)) (standsAt (thread (stateOf (now state)) t)) i ⌝ }
+    ensures { λ r. ⌜ r ≡ branchMove (tableOf (now (table .entry))) (stateOf (now (state .entry))) t i ⌝ }
 {
-    if program::guard_holds(table, row, state, t) {
+    if program::guard_holds(table, index, row, state, t) {
         return act_move(table, index, state, t, i, row, top);
     }
     Move::Waits
 }
 
 // Whether a move by one branch goes ahead.
-pub fn goes_ahead(m: Move) -> bool
+fn goes_ahead(m: Move) -> bool
     ensures { λ r. ⌜ r ≡ goesAhead m ⌝ }
 {
     match m {
@@ -378,14 +422,21 @@ pub fn goes_ahead(m: Move) -> bool
 }
 
 // The move of thread t at a choice of n branches, the first in row from: by the first branch that goes ahead, to wait where none does.
-fn choose(table: &[u8], index: &[u32], state: &[u8], t: u32, n: u32, from: usize, top: u32) -> Move
+fn choose(
+    table: &[u8],
+    index: &[u32],
+    state: &[u32; state::WORDS],
+    t: u32,
+    n: u32,
+    from: usize,
+    top: u32,
+) -> Move
     requires { ⌜ Indexed (tableOf (now table)) (now index) ⌝ }
-    requires { ⌜ length (now state) ≡ stateLength ⌝ }
-    requires { ⌜ UsedBelow (view (now state)) top ⌝ }
-    requires { ⌜ n ≡ branchCount (tableOf (now table)) (standsAt (thread (view (now state)) t)) ⌝ }
-    requires { ⌜ from ≡ branchRow (tableOf (now table)) + start (tableOf (now table)) Branches (standsAt (thread (view (now state)) t)) ⌝ }
+    requires { ⌜ UsedBelow (stateOf (now state)) top ⌝ }
+    requires { ⌜ n ≡ branchCount (tableOf (now table)) (standsAt (thread (stateOf (now state)) t)) ⌝ }
+    requires { ⌜ from ≡ branchRow (tableOf (now table)) + start (tableOf (now table)) Branches (standsAt (thread (stateOf (now state)) t)) ⌝ }
     requires { ⌜ from ≤ 12844864 ⌝ }
-    ensures { λ r. ⌜ r ≡ choice (tableOf (now (table .entry))) (view (now (state .entry))) t ⌝ }
+    ensures { λ r. ⌜ r ≡ choice (tableOf (now (table .entry))) (stateOf (now (state .entry))) t ⌝ }
 {
     for i in 0..n {
         let m = branch_move(table, index, state, t, i, from + i as usize, top);
@@ -397,16 +448,15 @@ fn choose(table: &[u8], index: &[u32], state: &[u8], t: u32, n: u32, from: usize
 }
 
 // The move that thread t makes, if it is ready.
-pub fn decide(table: &[u8], index: &[u32], state: &[u8], t: u32, top: u32) -> Move
+pub fn decide(table: &[u8], index: &[u32], state: &[u32; state::WORDS], t: u32, top: u32) -> Move
     requires { ⌜ Indexed (tableOf (now table)) (now index) ⌝ }
-    requires { ⌜ length (now state) ≡ stateLength ⌝ }
-    requires { ⌜ UsedBelow (view (now state)) top ⌝ }
-    ensures { λ r. ⌜ r ≡ move (tableOf (now (table .entry))) (view (now (state .entry))) t ⌝ }
+    requires { ⌜ UsedBelow (stateOf (now state)) top ⌝ }
+    ensures { λ r. ⌜ r ≡ move (tableOf (now (table .entry))) (stateOf (now (state .entry))) t ⌝ }
 {
     let node = state::thread_word(state, t as usize, 1);
-    let nodes = table::node_row(table);
+    let nodes = table::node_row_of(table, index);
     let row = nodes + node as usize;
-    match table::cell(table, row, 1) {
+    match table::cell_of(table, index, row, 1) {
         1 => {
             let from = first_branch(table, index, nodes, node);
             choose(
@@ -414,7 +464,7 @@ pub fn decide(table: &[u8], index: &[u32], state: &[u8], t: u32, top: u32) -> Mo
                 index,
                 state,
                 t,
-                table::cell(table, row, 2),
+                table::cell_of(table, index, row, 2),
                 from,
                 top,
             )

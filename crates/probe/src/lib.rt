@@ -2,7 +2,7 @@
 ghost use mathlib.Core.Path.{_≡_};
 ghost use Rattle.loader.specs.Load.{accepted};
 
-const INDEX: usize = 803;
+const INDEX: usize = 807;
 
 // Whether a table is one that loading yields.
 #[no_mangle]

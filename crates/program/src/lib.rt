@@ -5,7 +5,7 @@ ghost use Rattle.table.specs.Table.{tableOf};
 ghost use Rattle.table.specs.Layout.{start, definitionOf, slotType};
 ghost use Rattle.table.specs.declared.Part.the-variants.{Nodes};
 ghost use Rattle.table.specs.Index.{Indexed};
-ghost use Rattle.state.specs.State.{view, thread, slotOf};
+ghost use Rattle.state.specs.State.{stateOf, thread, slotOf};
 ghost use Rattle.rules.specs.Program.{typeAt, channelSlot, blank, branchAt, nextOf, childOf, actOf, guardHolds, assigned, opposite};
 use rules::Act;
 use rules::Direction;
@@ -26,7 +26,7 @@ pub fn slot_type(table: &[u8], index: &[u32], d: u32, k: u32) -> u32
     ensures { λ r. ⌜ r < 65536 ⌝ }
 {
     let place = table::start_of(table, index, Part::Slots, d) as usize + k as usize;
-    table::cell(table, table::slot_row(table) + place, 1)
+    table::cell_of(table, index, table::slot_row_of(table, index) + place, 1)
 }
 
 pub fn type_at(table: &[u8], index: &[u32], n: u32, k: u32) -> u32
@@ -42,7 +42,7 @@ pub fn channel_slot(table: &[u8], index: &[u32], d: u32, k: u32) -> bool
     requires { ⌜ Indexed (tableOf (now table)) (now index) ⌝ }
     ensures { λ r. ⌜ r ≡ channelSlot (tableOf (now (table .entry))) d k ⌝ }
 {
-    if k < table::slots_of(table, d) {
+    if k < table::slot_count_of(table, index, d) {
         return slot_type(table, index, d, k) != 0;
     }
     false
@@ -65,7 +65,7 @@ pub fn branch_at(table: &[u8], index: &[u32], n: u32, i: u32) -> usize
     ensures { λ r. ⌜ r ≡ branchAt (tableOf (now (table .entry))) n i ⌝ }
 {
     let place = table::start_of(table, index, Part::Branches, n) as usize + i as usize;
-    table::branch_row(table) + place
+    table::branch_row_of(table, index) + place
 }
 
 // The node that number x of the definition of node n is.
@@ -82,21 +82,22 @@ pub fn next_of(table: &[u8], index: &[u32], n: u32, row: usize) -> u32
     requires { ⌜ Indexed (tableOf (now table)) (now index) ⌝ }
     ensures { λ r. ⌜ r ≡ nextOf (tableOf (now (table .entry))) n row ⌝ }
 {
-    node_within(table, index, n, table::cell(table, row, 8))
+    node_within(table, index, n, table::cell_of(table, index, row, 8))
 }
 
 pub fn child_of(table: &[u8], index: &[u32], n: u32, row: usize) -> u32
     requires { ⌜ Indexed (tableOf (now table)) (now index) ⌝ }
     ensures { λ r. ⌜ r ≡ childOf (tableOf (now (table .entry))) n row ⌝ }
 {
-    node_within(table, index, n, table::cell(table, row, 9))
+    node_within(table, index, n, table::cell_of(table, index, row, 9))
 }
 
 // What the branch in a row does.
-pub fn act_of(table: &[u8], row: usize) -> Act
+pub fn act_of(table: &[u8], index: &[u32], row: usize) -> Act
+    requires { ⌜ Indexed (tableOf (now table)) (now index) ⌝ }
     ensures { λ r. ⌜ r ≡ actOf (tableOf (now (table .entry))) row ⌝ }
 {
-    match table::cell(table, row, 4) {
+    match table::cell_of(table, index, row, 4) {
         1 => Act::Meeting(Direction::Out),
         2 => Act::Meeting(Direction::In),
         3 => Act::New,
@@ -107,22 +108,29 @@ pub fn act_of(table: &[u8], row: usize) -> Act
 }
 
 // Slot k of thread t.
-pub fn slot(state: &[u8], t: u32, k: u32) -> u32
-    ensures { λ r. ⌜ r ≡ slotOf (thread (view (now (state .entry))) t) k ⌝ }
+pub fn slot(state: &[u32; state::WORDS], t: u32, k: u32) -> u32
+    ensures { λ r. ⌜ r ≡ slotOf (thread (stateOf (now (state .entry))) t) k ⌝ }
 {
     state::thread_word(state, t as usize, 2 + k as usize)
 }
 
 // Whether the guard of the branch in a row is true of thread t.
-pub fn guard_holds(table: &[u8], row: usize, state: &[u8], t: u32) -> bool
-    ensures { λ r. ⌜ r ≡ guardHolds (tableOf (now (table .entry))) row (thread (view (now (state .entry))) t) ⌝ }
+pub fn guard_holds(
+    table: &[u8],
+    index: &[u32],
+    row: usize,
+    state: &[u32; state::WORDS],
+    t: u32,
+) -> bool
+    requires { ⌜ Indexed (tableOf (now table)) (now index) ⌝ }
+    ensures { λ r. ⌜ r ≡ guardHolds (tableOf (now (table .entry))) row (thread (stateOf (now (state .entry))) t) ⌝ }
 {
-    let kind = table::cell(table, row, 1);
+    let kind = table::cell_of(table, index, row, 1);
     if kind == 0 {
         return true;
     }
-    let left = slot(state, t, table::cell(table, row, 2));
-    let right = table::cell(table, row, 3);
+    let left = slot(state, t, table::cell_of(table, index, row, 2));
+    let right = table::cell_of(table, index, row, 3);
     match kind {
         1 => left == numbers::widen(right),
         2 => numbers::below(left, numbers::widen(right)),
@@ -132,12 +140,19 @@ pub fn guard_holds(table: &[u8], row: usize, state: &[u8], t: u32) -> bool
 }
 
 // What the assignment in a row gives thread t.
-pub fn assigned_value(table: &[u8], row: usize, state: &[u8], t: u32) -> u32
-    ensures { λ r. ⌜ r ≡ assigned (tableOf (now (table .entry))) row (thread (view (now (state .entry))) t) ⌝ }
+pub fn assigned_value(
+    table: &[u8],
+    index: &[u32],
+    row: usize,
+    state: &[u32; state::WORDS],
+    t: u32,
+) -> u32
+    requires { ⌜ Indexed (tableOf (now table)) (now index) ⌝ }
+    ensures { λ r. ⌜ r ≡ assigned (tableOf (now (table .entry))) row (thread (stateOf (now (state .entry))) t) ⌝ }
 {
-    let first = table::cell(table, row, 6);
-    let second = table::cell(table, row, 7);
-    match table::cell(table, row, 4) {
+    let first = table::cell_of(table, index, row, 6);
+    let second = table::cell_of(table, index, row, 7);
+    match table::cell_of(table, index, row, 4) {
         5 => numbers::widen(first),
         6 => numbers::add(slot(state, t, first), slot(state, t, second)),
         _ => numbers::subtract(slot(state, t, first), slot(state, t, second)),

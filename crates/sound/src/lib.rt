@@ -8,7 +8,7 @@ ghost use Rattle.table.specs.Layout.{definitionOf};
 ghost use Rattle.table.specs.Index.{Indexed};
 ghost use Rattle.flow.specs.Flow.{flow, marked};
 ghost use Rattle.flow.specs.Marks.{marksOf};
-ghost use Rattle.state.specs.State.{view, maxThreads, maxChannels, threadWords, rowSlots, thread, standsAt};
+ghost use Rattle.state.specs.State.{stateOf, maxThreads, maxChannels, threadWords, rowSlots, thread, standsAt};
 ghost use Rattle.rules.specs.Holding.{countOf, holders, waiters};
 ghost use Rattle.rules.specs.Sound.{marksInRange, countTrue, portTyped, sound};
 ghost use Rattle.sound.specs.Rows.{wordZero, slotSound, rowSound};
@@ -31,8 +31,8 @@ const WAITING: u32 = 2;
 const PORT_TYPE: u32 = 1;
 
 // Whether the marks and the turn are in range.
-fn marks_in_range(state: &[u8]) -> bool
-    ensures { λ r. ⌜ r ≡ marksInRange (view (now (state .entry))) ⌝ }
+fn marks_in_range(state: &[u32; state::WORDS]) -> bool
+    ensures { λ r. ⌜ r ≡ marksInRange (stateOf (now (state .entry))) ⌝ }
 {
     if state::mark(state, 0) < THREADS {
         if state::mark(state, 1) < CHANNELS {
@@ -57,7 +57,7 @@ fn slot_sound(
     table: &[u8],
     index: &[u32],
     marks: &[u32],
-    state: &[u8],
+    state: &[u32; state::WORDS],
     t: u32,
     n: u32,
     d: u32,
@@ -65,12 +65,12 @@ fn slot_sound(
 ) -> bool
     requires { ⌜ Indexed (tableOf (now table)) (now index) ⌝ }
     requires { ⌜ marksOf (now marks) ≡ flow (tableOf (now table)) ⌝ }
-    requires { ⌜ n ≡ standsAt (thread (view (now state)) t) ⌝ }
+    requires { ⌜ n ≡ standsAt (thread (stateOf (now state)) t) ⌝ }
     requires { ⌜ d ≡ definitionOf (tableOf (now table)) n ⌝ }
-    ensures { λ r. ⌜ r ≡ slotSound (tableOf (now (table .entry))) (view (now (state .entry))) (thread (view (now (state .entry))) t) k ⌝ }
+    ensures { λ r. ⌜ r ≡ slotSound (tableOf (now (table .entry))) (stateOf (now (state .entry))) (thread (stateOf (now (state .entry))) t) k ⌝ }
 {
     let v = program::slot(state, t, k);
-    if k < table::slots_of(table, d) {
+    if k < table::slot_count_of(table, index, d) {
         let ty = program::slot_type(table, index, d, k);
         if ty == 0 {
             return true;
@@ -90,16 +90,16 @@ fn slots_sound(
     table: &[u8],
     index: &[u32],
     marks: &[u32],
-    state: &[u8],
+    state: &[u32; state::WORDS],
     t: u32,
     n: u32,
     d: u32,
 ) -> bool
     requires { ⌜ Indexed (tableOf (now table)) (now index) ⌝ }
     requires { ⌜ marksOf (now marks) ≡ flow (tableOf (now table)) ⌝ }
-    requires { ⌜ n ≡ standsAt (thread (view (now state)) t) ⌝ }
+    requires { ⌜ n ≡ standsAt (thread (stateOf (now state)) t) ⌝ }
     requires { ⌜ d ≡ definitionOf (tableOf (now table)) n ⌝ }
-    ensures { λ r. ⌜ r ≡ every (slotSound (tableOf (now (table .entry))) (view (now (state .entry))) (thread (view (now (state .entry))) t)) rowSlots ⌝ }
+    ensures { λ r. ⌜ r ≡ every (slotSound (tableOf (now (table .entry))) (stateOf (now (state .entry))) (thread (stateOf (now (state .entry))) t)) rowSlots ⌝ }
 {
     for k in 0..ROW_SLOTS {
         if !slot_sound(table, index, marks, state, t, n, d, k) {
@@ -110,8 +110,8 @@ fn slots_sound(
 }
 
 // Whether all of thread t's row is 0.
-fn row_is_zero(state: &[u8], t: u32) -> bool
-    ensures { λ r. ⌜ r ≡ every (wordZero (thread (view (now (state .entry))) t)) threadWords ⌝ }
+fn row_is_zero(state: &[u32; state::WORDS], t: u32) -> bool
+    ensures { λ r. ⌜ r ≡ every (wordZero (thread (stateOf (now (state .entry))) t)) threadWords ⌝ }
 {
     for k in 0..THREAD_WORDS {
         if state::thread_word(state, t as usize, k as usize) != 0 {
@@ -122,10 +122,16 @@ fn row_is_zero(state: &[u8], t: u32) -> bool
 }
 
 // All tests of thread t's row.
-fn row_sound(table: &[u8], index: &[u32], marks: &[u32], state: &[u8], t: u32) -> bool
+fn row_sound(
+    table: &[u8],
+    index: &[u32],
+    marks: &[u32],
+    state: &[u32; state::WORDS],
+    t: u32,
+) -> bool
     requires { ⌜ Indexed (tableOf (now table)) (now index) ⌝ }
     requires { ⌜ marksOf (now marks) ≡ flow (tableOf (now table)) ⌝ }
-    ensures { λ r. ⌜ r ≡ rowSound (tableOf (now (table .entry))) (view (now (state .entry))) (thread (view (now (state .entry))) t) ⌝ }
+    ensures { λ r. ⌜ r ≡ rowSound (tableOf (now (table .entry))) (stateOf (now (state .entry))) (thread (stateOf (now (state .entry))) t) ⌝ }
 {
     let status = state::thread_word(state, t as usize, 0);
     if status == 0 {
@@ -135,7 +141,7 @@ fn row_sound(table: &[u8], index: &[u32], marks: &[u32], state: &[u8], t: u32) -
         return false;
     }
     let n = state::thread_word(state, t as usize, 1);
-    if n < table::cell(table, 0, 4) {
+    if n < table::cell_of(table, index, 0, 4) {
         return slots_sound(
             table,
             index,
@@ -149,10 +155,10 @@ fn row_sound(table: &[u8], index: &[u32], marks: &[u32], state: &[u8], t: u32) -
     false
 }
 
-fn rows_sound(table: &[u8], index: &[u32], marks: &[u32], state: &[u8]) -> bool
+fn rows_sound(table: &[u8], index: &[u32], marks: &[u32], state: &[u32; state::WORDS]) -> bool
     requires { ⌜ Indexed (tableOf (now table)) (now index) ⌝ }
     requires { ⌜ marksOf (now marks) ≡ flow (tableOf (now table)) ⌝ }
-    ensures { λ r. ⌜ r ≡ every (λ t. rowSound (tableOf (now (table .entry))) (view (now (state .entry))) (thread (view (now (state .entry))) t)) maxThreads ⌝ }
+    ensures { λ r. ⌜ r ≡ every (λ t. rowSound (tableOf (now (table .entry))) (stateOf (now (state .entry))) (thread (stateOf (now (state .entry))) t)) maxThreads ⌝ }
 {
     for t in 0..THREADS {
         if !row_sound(table, index, marks, state, t) {
@@ -163,9 +169,9 @@ fn rows_sound(table: &[u8], index: &[u32], marks: &[u32], state: &[u8]) -> bool
 }
 
 // All tests of all thread rows.
-fn threads_sound(table: &[u8], index: &[u32], state: &[u8]) -> bool
+fn threads_sound(table: &[u8], index: &[u32], state: &[u32; state::WORDS]) -> bool
     requires { ⌜ Indexed (tableOf (now table)) (now index) ⌝ }
-    ensures { λ r. ⌜ r ≡ every (λ t. rowSound (tableOf (now (table .entry))) (view (now (state .entry))) (thread (view (now (state .entry))) t)) maxThreads ⌝ }
+    ensures { λ r. ⌜ r ≡ every (λ t. rowSound (tableOf (now (table .entry))) (stateOf (now (state .entry))) (thread (stateOf (now (state .entry))) t)) maxThreads ⌝ }
 {
     let mut marks = [0u32; 192];
     flow::mark_flow(table, index, &mut marks);
@@ -173,10 +179,10 @@ fn threads_sound(table: &[u8], index: &[u32], state: &[u8]) -> bool
 }
 
 // The count that channel c ought to have: its holders, and the bench if it is a port.
-fn count_due(table: &[u8], state: &[u8], held: &[u8], c: u32) -> u32
-    requires { ⌜ now held ≡ tabulate maxChannels (holders (tableOf (now table)) (view (now state) .threads)) ⌝ }
+fn count_due(table: &[u8], state: &[u32; state::WORDS], held: &[u8], c: u32) -> u32
+    requires { ⌜ now held ≡ tabulate maxChannels (holders (tableOf (now table)) (stateOf (now state) .threads)) ⌝ }
     requires { ⌜ c < maxChannels ⌝ }
-    ensures { λ r. ⌜ r ≡ countOf (tableOf (now (table .entry))) (view (now (state .entry)) .threads) c ⌝ }
+    ensures { λ r. ⌜ r ≡ countOf (tableOf (now (table .entry))) (stateOf (now (state .entry)) .threads) c ⌝ }
 {
     let n = tally::byte_at(held, c) as u32;
     if c < table::cell(table, 0, 6) {
@@ -186,11 +192,17 @@ fn count_due(table: &[u8], state: &[u8], held: &[u8], c: u32) -> u32
 }
 
 // Whether the counts of channel c are true, and it is in use exactly when its count is above 0.
-fn channel_sound(table: &[u8], state: &[u8], held: &[u8], waiting: &[u8], c: u32) -> bool
-    requires { ⌜ now held ≡ tabulate maxChannels (holders (tableOf (now table)) (view (now state) .threads)) ⌝ }
-    requires { ⌜ now waiting ≡ tabulate maxChannels (waiters (tableOf (now table)) (view (now state) .threads)) ⌝ }
+fn channel_sound(
+    table: &[u8],
+    state: &[u32; state::WORDS],
+    held: &[u8],
+    waiting: &[u8],
+    c: u32,
+) -> bool
+    requires { ⌜ now held ≡ tabulate maxChannels (holders (tableOf (now table)) (stateOf (now state) .threads)) ⌝ }
+    requires { ⌜ now waiting ≡ tabulate maxChannels (waiters (tableOf (now table)) (stateOf (now state) .threads)) ⌝ }
     requires { ⌜ c < maxChannels ⌝ }
-    ensures { λ r. ⌜ r ≡ countTrue (tableOf (now (table .entry))) (view (now (state .entry))) c ⌝ }
+    ensures { λ r. ⌜ r ≡ countTrue (tableOf (now (table .entry))) (stateOf (now (state .entry))) c ⌝ }
 {
     let count = state::channel_word(state, c as usize, 1);
     if count != count_due(table, state, held, c) {
@@ -205,10 +217,10 @@ fn channel_sound(table: &[u8], state: &[u8], held: &[u8], waiting: &[u8], c: u32
     0 < count
 }
 
-fn channels_sound(table: &[u8], state: &[u8], held: &[u8], waiting: &[u8]) -> bool
-    requires { ⌜ now held ≡ tabulate maxChannels (holders (tableOf (now table)) (view (now state) .threads)) ⌝ }
-    requires { ⌜ now waiting ≡ tabulate maxChannels (waiters (tableOf (now table)) (view (now state) .threads)) ⌝ }
-    ensures { λ r. ⌜ r ≡ every (countTrue (tableOf (now (table .entry))) (view (now (state .entry)))) maxChannels ⌝ }
+fn channels_sound(table: &[u8], state: &[u32; state::WORDS], held: &[u8], waiting: &[u8]) -> bool
+    requires { ⌜ now held ≡ tabulate maxChannels (holders (tableOf (now table)) (stateOf (now state) .threads)) ⌝ }
+    requires { ⌜ now waiting ≡ tabulate maxChannels (waiters (tableOf (now table)) (stateOf (now state) .threads)) ⌝ }
+    ensures { λ r. ⌜ r ≡ every (countTrue (tableOf (now (table .entry))) (stateOf (now (state .entry)))) maxChannels ⌝ }
 {
     for c in 0..CHANNELS {
         if !channel_sound(table, state, held, waiting, c) {
@@ -219,9 +231,9 @@ fn channels_sound(table: &[u8], state: &[u8], held: &[u8], waiting: &[u8]) -> bo
 }
 
 // Whether the counts of all channels are true.
-fn counts_sound(table: &[u8], index: &[u32], state: &[u8]) -> bool
+fn counts_sound(table: &[u8], index: &[u32], state: &[u32; state::WORDS]) -> bool
     requires { ⌜ Indexed (tableOf (now table)) (now index) ⌝ }
-    ensures { λ r. ⌜ r ≡ every (countTrue (tableOf (now (table .entry))) (view (now (state .entry)))) maxChannels ⌝ }
+    ensures { λ r. ⌜ r ≡ every (countTrue (tableOf (now (table .entry))) (stateOf (now (state .entry)))) maxChannels ⌝ }
 {
     let mut held = [0u8; 128];
     let mut waiting = [0u8; 128];
@@ -230,8 +242,8 @@ fn counts_sound(table: &[u8], index: &[u32], state: &[u8]) -> bool
 }
 
 // Whether the ports are in use, of type 1.
-fn ports_sound(table: &[u8], state: &[u8]) -> bool
-    ensures { λ r. ⌜ r ≡ every (portTyped (tableOf (now (table .entry))) (view (now (state .entry)))) (ports (tableOf (now (table .entry)))) ⌝ }
+fn ports_sound(table: &[u8], state: &[u32; state::WORDS]) -> bool
+    ensures { λ r. ⌜ r ≡ every (portTyped (tableOf (now (table .entry))) (stateOf (now (state .entry)))) (ports (tableOf (now (table .entry)))) ⌝ }
 {
     let n = table::cell(table, 0, 6);
     for c in 0..n {
@@ -243,9 +255,9 @@ fn ports_sound(table: &[u8], state: &[u8]) -> bool
 }
 
 // Ground 10.
-pub fn is_sound(table: &[u8], index: &[u32], state: &[u8]) -> bool
+pub fn is_sound(table: &[u8], index: &[u32], state: &[u32; state::WORDS]) -> bool
     requires { ⌜ Indexed (tableOf (now table)) (now index) ⌝ }
-    ensures { λ r. ⌜ r ≡ sound (tableOf (now (table .entry))) (view (now (state .entry))) ⌝ }
+    ensures { λ r. ⌜ r ≡ sound (tableOf (now (table .entry))) (stateOf (now (state .entry))) ⌝ }
 {
     if !marks_in_range(state) {
         return false;

@@ -2,10 +2,9 @@
 ghost use mathlib.Core.Path.{_≡_};
 ghost use mathlib.Core.List.{[], _∷_};
 ghost use Prim.Native.Nat.{_<_};
-ghost use lib.ListN.{length};
 ghost use Rattle.table.specs.Table.{tableOf};
 ghost use Rattle.table.specs.Index.{Indexed};
-ghost use Rattle.state.specs.State.{view, stateLength, withChannel};
+ghost use Rattle.state.specs.State.{stateOf, withChannel};
 ghost use Rattle.rules.specs.Start.{started};
 ghost use Rattle.starts.specs.Opening.{portHeld, freed, opened, marked, unstarted};
 
@@ -16,9 +15,8 @@ const CHANNELS: u32 = 128;
 const ROW_SLOTS: usize = 16;
 
 // Every thread row is free.
-fn free_threads(state: &mut [u8])
-    requires { ⌜ length (now state) ≡ stateLength ⌝ }
-    ensures { λ _. ⌜ view (now (state .exit)) ≡ freed (view (now (state .entry))) ⌝ }
+fn free_threads(state: &mut [u32; state::WORDS])
+    ensures { λ _. ⌜ stateOf (now (state .exit)) ≡ freed (stateOf (now (state .entry))) ⌝ }
 {
     for t in 0..THREADS {
         writes::write_free(state, t);
@@ -26,21 +24,21 @@ fn free_threads(state: &mut [u8])
 }
 
 // Channel c's row: its type, its count, and no waiting holder.
-fn put_channel_row(state: &mut [u8], c: u32, ty: u32, n: u32)
-    requires { ⌜ length (now state) ≡ stateLength ⌝ }
+fn put_channel_row(state: &mut [u32; state::WORDS], c: u32, ty: u32, n: u32)
     requires { ⌜ c < 128 ⌝ }
-    ensures { λ _. ⌜ view (now (state .exit)) ≡ withChannel (view (now (state .entry))) c (ty ∷ n ∷ 0 ∷ []) ⌝ }
+    ensures { λ _. ⌜ stateOf (now (state .exit)) ≡ withChannel (stateOf (now (state .entry))) c (ty ∷ n ∷ 0 ∷ []) ⌝ }
 {
+    // as a slice the state tells its length
+    let words: &[u32] = state;
     state::put_channel(state, c as usize, 0, ty);
     state::put_channel(state, c as usize, 1, n);
     state::put_channel(state, c as usize, 2, 0);
 }
 
 // Channel c where this many channels are ports: a port is of type 1 and held by the bench, any other channel is free.
-fn open_channel(state: &mut [u8], c: u32, ports: u32)
-    requires { ⌜ length (now state) ≡ stateLength ⌝ }
+fn open_channel(state: &mut [u32; state::WORDS], c: u32, ports: u32)
     requires { ⌜ c < 128 ⌝ }
-    ensures { λ _. ⌜ view (now (state .exit)) ≡ withChannel (view (now (state .entry))) c (portHeld ports c) ⌝ }
+    ensures { λ _. ⌜ stateOf (now (state .exit)) ≡ withChannel (stateOf (now (state .entry))) c (portHeld ports c) ⌝ }
 {
     if c < ports {
         put_channel_row(state, c, 1, 1);
@@ -50,9 +48,8 @@ fn open_channel(state: &mut [u8], c: u32, ports: u32)
 }
 
 // ... every channel.
-fn open_ports(state: &mut [u8], ports: u32)
-    requires { ⌜ length (now state) ≡ stateLength ⌝ }
-    ensures { λ _. ⌜ view (now (state .exit)) ≡ opened (view (now (state .entry))) ports ⌝ }
+fn open_ports(state: &mut [u32; state::WORDS], ports: u32)
+    ensures { λ _. ⌜ stateOf (now (state .exit)) ≡ opened (stateOf (now (state .entry))) ports ⌝ }
 {
     for c in 0..CHANNELS {
         open_channel(state, c, ports);
@@ -60,19 +57,19 @@ fn open_ports(state: &mut [u8], ports: u32)
 }
 
 // The marks: thread row 0 is taken, so are the ports' rows, and the turn is with thread 0.
-fn put_marks(state: &mut [u8], ports: u32)
-    requires { ⌜ length (now state) ≡ stateLength ⌝ }
-    ensures { λ _. ⌜ view (now (state .exit)) ≡ marked (view (now (state .entry))) ports ⌝ }
+fn put_marks(state: &mut [u32; state::WORDS], ports: u32)
+    ensures { λ _. ⌜ stateOf (now (state .exit)) ≡ marked (stateOf (now (state .entry))) ports ⌝ }
 {
+    // as a slice the state tells its length
+    let words: &[u32] = state;
     state::put_mark(state, 0, 1);
     state::put_mark(state, 1, ports);
     state::put_mark(state, 2, 0);
 }
 
 // The state before thread 0 has its row: the bench alone holds the ports.
-fn write_unstarted(table: &[u8], state: &mut [u8])
-    requires { ⌜ length (now state) ≡ stateLength ⌝ }
-    ensures { λ _. ⌜ view (now (state .exit)) ≡ unstarted (tableOf (now (table .entry))) ⌝ }
+fn write_unstarted(table: &[u8], state: &mut [u32; state::WORDS])
+    ensures { λ _. ⌜ stateOf (now (state .exit)) ≡ unstarted (tableOf (now (table .entry))) ⌝ }
 {
     let ports = table::cell(table, 0, 6);
     free_threads(state);
@@ -81,10 +78,9 @@ fn write_unstarted(table: &[u8], state: &mut [u8])
 }
 
 // The state with which the table's file starts.
-pub fn write_started(table: &[u8], index: &[u32], state: &mut [u8])
+pub fn write_started(table: &[u8], index: &[u32], state: &mut [u32; state::WORDS])
     requires { ⌜ Indexed (tableOf (now table)) (now index) ⌝ }
-    requires { ⌜ length (now state) ≡ stateLength ⌝ }
-    ensures { λ _. ⌜ view (now (state .exit)) ≡ started (tableOf (now (table .entry))) ⌝ }
+    ensures { λ _. ⌜ stateOf (now (state .exit)) ≡ started (tableOf (now (table .entry))) ⌝ }
 {
     let mut old = [0u8; ROW_SLOTS];
     write_unstarted(table, state);

@@ -25,7 +25,10 @@ channelWords = 3
 abbrev pub rowSlots : ℕ
 rowSlots = 16
 
--- bytes of a state
+-- words of a state, and its bytes
+abbrev pub stateWords : ℕ
+stateWords = 1539
+
 abbrev pub stateLength : ℕ
 stateLength = 6156
 
@@ -37,6 +40,7 @@ pub record State : Type 0 where
   pub threads : List (List ℕ)
   pub channels : List (List ℕ)
 
+-- the state of a list of words
 unfoldable pub stateOf : List ℕ → State
 stateOf ws = record {
   marks = take 3 ws;

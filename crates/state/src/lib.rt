@@ -1,8 +1,11 @@
-// The words of a state in its buffer. Each function answers for every place: a read outside gives 0, a write outside does nothing.
+// The words of a state. Each function answers for every place: a read outside gives 0, a write outside does nothing.
 ghost use mathlib.Core.Path.{_≡_};
 ghost use lib.ListN.{getD, set};
 ghost use Rattle.numbers.specs.Rows.{at};
-ghost use Rattle.state.specs.State.{view, thread, channel, withMark, withThread, withChannel};
+ghost use Rattle.state.specs.State.{stateOf, thread, channel, withMark, withThread, withChannel};
+
+// All its words.
+pub const WORDS: usize = 1539;
 
 const MARKS: usize = 3;
 
@@ -18,63 +21,63 @@ const CHANNEL_WORDS: usize = 3;
 const CHANNELS_FROM: usize = 1155;
 
 // Mark i: 0 of the threads, 1 of the channels, 2 the turn.
-pub fn mark(state: &[u8], i: usize) -> u32
-    ensures { λ r. ⌜ r ≡ getD (view (now (state .entry)) .marks) i 0 ⌝ }
+pub fn mark(state: &[u32; WORDS], i: usize) -> u32
+    ensures { λ r. ⌜ r ≡ getD (stateOf (now (state .entry)) .marks) i 0 ⌝ }
 {
     if i < MARKS {
-        return numbers::word_at(state, i);
+        return numbers::cell_at(state, i);
     }
     0
 }
 
-pub fn put_mark(state: &mut [u8], i: usize, v: u32)
-    ensures { λ _. ⌜ view (now (state .exit)) ≡ withMark (view (now (state .entry))) i v ⌝ }
+pub fn put_mark(state: &mut [u32; WORDS], i: usize, v: u32)
+    ensures { λ _. ⌜ stateOf (now (state .exit)) ≡ withMark (stateOf (now (state .entry))) i v ⌝ }
 {
     if i < MARKS {
-        numbers::put_word(state, i, v);
+        numbers::put_cell(state, i, v);
     }
 }
 
 // Word k of thread t's row: 0 its status, 1 its node, then its slots.
-pub fn thread_word(state: &[u8], t: usize, k: usize) -> u32
-    ensures { λ r. ⌜ r ≡ at (view (now (state .entry)) .threads) t k ⌝ }
+pub fn thread_word(state: &[u32; WORDS], t: usize, k: usize) -> u32
+    ensures { λ r. ⌜ r ≡ at (stateOf (now (state .entry)) .threads) t k ⌝ }
 {
     if t < THREADS {
         if k < THREAD_WORDS {
-            return numbers::word_at(state, MARKS + t * THREAD_WORDS + k);
+            return numbers::cell_at(state, MARKS + t * THREAD_WORDS + k);
         }
     }
     0
 }
 
-pub fn put_thread(state: &mut [u8], t: usize, k: usize, v: u32)
-    ensures { λ _. ⌜ view (now (state .exit)) ≡ withThread (view (now (state .entry))) t (set (thread (view (now (state .entry))) t) k v) ⌝ }
+pub fn put_thread(state: &mut [u32; WORDS], t: usize, k: usize, v: u32)
+    ensures { λ _. ⌜ stateOf (now (state .exit)) ≡ withThread (stateOf (now (state .entry))) t (set (thread (stateOf (now (state .entry))) t) k v) ⌝ }
 {
     if t < THREADS {
         if k < THREAD_WORDS {
-            numbers::put_word(state, MARKS + t * THREAD_WORDS + k, v);
+            numbers::put_cell(state, MARKS + t * THREAD_WORDS + k, v);
         }
     }
 }
 
 // Word k of channel c's row: 0 its type, 1 its count, 2 its count of waiting holders.
-pub fn channel_word(state: &[u8], c: usize, k: usize) -> u32
-    ensures { λ r. ⌜ r ≡ at (view (now (state .entry)) .channels) c k ⌝ }
+pub fn channel_word(state: &[u32; WORDS], c: usize, k: usize) -> u32
+    ensures { λ r. ⌜ r ≡ at (stateOf (now (state .entry)) .channels) c k ⌝ }
 {
     if c < CHANNELS {
         if k < CHANNEL_WORDS {
-            return numbers::word_at(state, CHANNELS_FROM + c * CHANNEL_WORDS + k);
+            return numbers::cell_at(state, CHANNELS_FROM + c * CHANNEL_WORDS + k);
         }
     }
     0
 }
 
-pub fn put_channel(state: &mut [u8], c: usize, k: usize, v: u32)
-    ensures { λ _. ⌜ view (now (state .exit)) ≡ withChannel (view (now (state .entry))) c (set (channel (view (now (state .entry))) c) k v) ⌝ }
+pub fn put_channel(state: &mut [u32; WORDS], c: usize, k: usize, v: u32)
+    ensures { λ _. ⌜ stateOf (now (state .exit)) ≡ withChannel (stateOf (now (state .entry))) c (set (channel (stateOf (now (state .entry))) c) k v) ⌝ }
 {
     if c < CHANNELS {
         if k < CHANNEL_WORDS {
-            numbers::put_word(state, CHANNELS_FROM + c * CHANNEL_WORDS + k, v);
+            numbers::put_cell(state, CHANNELS_FROM + c * CHANNEL_WORDS + k, v);
         }
     }
 }

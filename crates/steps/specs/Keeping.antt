@@ -4,8 +4,9 @@ use Prim.Native.Nat.{ℕ}
 use mathlib.Core.Bool.{Bool, _&&_}
 use Rattle.table.specs.Table.{Table}
 use Rattle.state.specs.State.{State, thread, isReady, isWaiting}
-use Rattle.branches.specs.Keeping.{metKeeps}
+use Rattle.branches.specs.Way.{metKeeps}
+use Rattle.branches.specs.declared.Way.{Way}
 
--- thread t is ready and u waits, and neither side of the meeting of their branches i and j writes a channel slot
-unfoldable pub meetingKeeps : Table → State → ℕ → ℕ → ℕ → ℕ → Bool
-meetingKeeps tb s t i u j = isReady (thread s t) && (isWaiting (thread s u) && (metKeeps tb (thread s t) i && metKeeps tb (thread s u) j))
+-- thread t is ready and u waits, and neither of the branches by which they meet writes a channel slot
+unfoldable pub meetingKeeps : Table → State → ℕ → Way → ℕ → Way → Bool
+meetingKeeps tb s t own u other = isReady (thread s t) && (isWaiting (thread s u) && (metKeeps tb (thread s t) own && metKeeps tb (thread s u) other))

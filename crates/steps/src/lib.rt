@@ -2,11 +2,10 @@
 ghost use mathlib.Core.Path.{_≡_};
 ghost use mathlib.Core.Logic.{_≢_};
 ghost use Prim.Native.Nat.{_<_};
-ghost use lib.ListN.{length};
 ghost use Rattle.table.specs.Table.{tableOf};
 ghost use Rattle.table.specs.Index.{Indexed};
 ghost use mathlib.Core.Bool.{true};
-ghost use Rattle.state.specs.State.{view, thread, isReady, stateLength};
+ghost use Rattle.state.specs.State.{stateOf, thread, isReady};
 ghost use Rattle.rules.specs.Holding.{settled};
 ghost use Rattle.rules.specs.Moves.{move, written, perform, metByBench};
 ghost use Rattle.rules.specs.Calls.{turnBy, Turned, turnEnd, takeTurn};
@@ -16,11 +15,10 @@ ghost use Rattle.steps.specs.Made.{Writable, Alone, Paired, Creation, ma
 ghost use Rattle.steps.specs.Top.{raisedBy};
 ghost use Rattle.rules.specs.declared.Move.the-variants.{Calls, Waits, Goes, Meets};
 ghost use Rattle.steps.specs.Keeping.{meetingKeeps};
+use branches::Way;
 use rules::Move;
 use rules::Reason;
 use rules::Turn;
-
-const ROW_SLOTS: usize = 16;
 
 const MAX_THREADS: u32 = 64;
 
@@ -32,52 +30,87 @@ pub struct Round {
 
 const MINUS_ONE: u32 = 4294967295;
 
-// What a move of thread t writes.
-fn write_move(table: &[u8], index: &[u32], state: &mut [u8], t: u32, m: Move)
+// Thread t goes on after its branch i, a tau or an assignment.
+fn write_goes(table: &[u8], index: &[u32], state: &mut [u32; state::WORDS], t: u32, i: u32)
     requires { ⌜ Indexed (tableOf (now table)) (now index) ⌝ }
-    requires { ⌜ length (now state) ≡ stateLength ⌝ }
+    requires { ⌜ t < 64 ⌝ }
+    ensures { λ _. ⌜ stateOf (now (state .exit)) ≡ written (tableOf (now (table .entry))) (stateOf (now (state .entry))) t (Goes i) ⌝ }
+{
+    let way = branches::way_by(table, index, state, t, i);
+    branches::write_gone(table, index, state, t, way);
+}
+
+// Threads t and u go on after the meeting of their branches i and j.
+fn write_meets(
+    table: &[u8],
+    index: &[u32],
+    state: &mut [u32; state::WORDS],
+    t: u32,
+    i: u32,
+    u: u32,
+    j: u32,
+)
+    requires { ⌜ Indexed (tableOf (now table)) (now index) ⌝ }
+    requires { ⌜ t < 64 ⌝ }
+    requires { ⌜ u < 64 ⌝ }
+    requires { ⌜ u ≢ t ⌝ }
+    ensures { λ _. ⌜ stateOf (now (state .exit)) ≡ written (tableOf (now (table .entry))) (stateOf (now (state .entry))) t (Meets i u j) ⌝ }
+{
+    let own = branches::way_by(table, index, state, t, i);
+    let other = branches::way_by(table, index, state, u, j);
+    branches::write_meeting(table, index, state, t, own, u, other);
+}
+
+// What a move of thread t writes.
+fn write_move(table: &[u8], index: &[u32], state: &mut [u32; state::WORDS], t: u32, m: Move)
+    requires { ⌜ Indexed (tableOf (now table)) (now index) ⌝ }
     requires { ⌜ t < 64 ⌝ }
     requires { ⌜ Writable t m ⌝ }
-    ensures { λ _. ⌜ view (now (state .exit)) ≡ written (tableOf (now (table .entry))) (view (now (state .entry))) t m ⌝ }
+    ensures { λ _. ⌜ stateOf (now (state .exit)) ≡ written (tableOf (now (table .entry))) (stateOf (now (state .entry))) t m ⌝ }
 {
     match m {
         Move::Ends => writes::write_free(state, t),
         Move::Calls => writes::write_call(table, index, state, t),
         Move::Waits => writes::write_waiting(state, t),
-        Move::Goes(i) => branches::write_gone(table, index, state, t, i),
+        Move::Goes(i) => write_goes(table, index, state, t, i),
         Move::Creates(i, c) => branches::write_creation(table, index, state, t, i, c),
         Move::Spawns(i, u) => branches::write_spawn(table, index, state, t, i, u),
-        Move::Meets(i, u, j) => branches::write_meeting(table, index, state, t, i, u, j),
+        Move::Meets(i, u, j) => write_meets(table, index, state, t, i, u, j),
         Move::LacksThread => {}
         Move::LacksChannel => {}
     }
 }
 
 // A move that changes the row of thread t alone.
-fn make_alone(table: &[u8], index: &[u32], state: &mut [u8], t: u32, m: Move)
+fn make_alone(table: &[u8], index: &[u32], state: &mut [u32; state::WORDS], t: u32, m: Move)
     requires { ⌜ Indexed (tableOf (now table)) (now index) ⌝ }
-    requires { ⌜ length (now state) ≡ stateLength ⌝ }
     requires { ⌜ t < 64 ⌝ }
-    requires { ⌜ settled (tableOf (now table)) (view (now state)) ≡ view (now state) ⌝ }
+    requires { ⌜ settled (tableOf (now table)) (stateOf (now state)) ≡ stateOf (now state) ⌝ }
     requires { ⌜ Alone m ⌝ }
-    ensures { λ _. ⌜ view (now (state .exit)) ≡ perform (tableOf (now (table .entry))) (view (now (state .entry))) t m ⌝ }
+    ensures { λ _. ⌜ stateOf (now (state .exit)) ≡ perform (tableOf (now (table .entry))) (stateOf (now (state .entry))) t m ⌝ }
 {
-    let mut old = [0u8; ROW_SLOTS];
+    let mut old = [0u8; counts::LIST];
     let waits = counts::take_down(table, index, state, t, &mut old);
     write_move(table, index, state, t, m);
     counts::settle_one(table, index, state, t, &old, waits);
 }
 
 // A move that also makes channel c.
-fn make_channel(table: &[u8], index: &[u32], state: &mut [u8], t: u32, c: u32, m: Move)
+fn make_channel(
+    table: &[u8],
+    index: &[u32],
+    state: &mut [u32; state::WORDS],
+    t: u32,
+    c: u32,
+    m: Move,
+)
     requires { ⌜ Indexed (tableOf (now table)) (now index) ⌝ }
-    requires { ⌜ length (now state) ≡ stateLength ⌝ }
     requires { ⌜ t < 64 ⌝ }
-    requires { ⌜ settled (tableOf (now table)) (view (now state)) ≡ view (now state) ⌝ }
+    requires { ⌜ settled (tableOf (now table)) (stateOf (now state)) ≡ stateOf (now state) ⌝ }
     requires { ⌜ Creation c m ⌝ }
-    ensures { λ _. ⌜ view (now (state .exit)) ≡ perform (tableOf (now (table .entry))) (view (now (state .entry))) t m ⌝ }
+    ensures { λ _. ⌜ stateOf (now (state .exit)) ≡ perform (tableOf (now (table .entry))) (stateOf (now (state .entry))) t m ⌝ }
 {
-    let mut old = [0u8; ROW_SLOTS];
+    let mut old = [0u8; counts::LIST];
     let waits = counts::take_down(table, index, state, t, &mut old);
     write_move(table, index, state, t, m);
     counts::settle_new(table, index, state, t, c, &old, waits);
@@ -87,52 +120,57 @@ fn make_channel(table: &[u8], index: &[u32], state: &mut [u8], t: u32, c: u32, m
 fn make_noted(
     table: &[u8],
     index: &[u32],
-    state: &mut [u8],
+    state: &mut [u32; state::WORDS],
     t: u32,
     u: u32,
     m: Move,
-    old: &[u8],
+    old: &[u8; counts::LIST],
     waits: u32,
-    other: &[u8],
+    other: &[u8; counts::LIST],
     awaits: u32,
 )
     requires { ⌜ Indexed (tableOf (now table)) (now index) ⌝ }
-    requires { ⌜ length (now state) ≡ stateLength ⌝ }
     requires { ⌜ t < 64 ⌝ }
     requires { ⌜ Paired t u m ⌝ }
-    ensures { λ _. ⌜ view (now (state .exit)) ≡ settledTwo (tableOf (now (table .entry))) (written (tableOf (now (table .entry))) (view (now (state .entry))) t m) t u (now (old .entry)) waits (now (other .entry)) awaits ⌝ }
+    ensures { λ _. ⌜ stateOf (now (state .exit)) ≡ settledTwo (tableOf (now (table .entry))) (written (tableOf (now (table .entry))) (stateOf (now (state .entry))) t m) t u (now (old .entry)) waits (now (other .entry)) awaits ⌝ }
 {
     write_move(table, index, state, t, m);
     counts::settle_two(table, index, state, t, u, old, waits, other, awaits);
 }
 
 // A move that changes the rows of threads t and u.
-fn make_paired(table: &[u8], index: &[u32], state: &mut [u8], t: u32, u: u32, m: Move)
+fn make_paired(
+    table: &[u8],
+    index: &[u32],
+    state: &mut [u32; state::WORDS],
+    t: u32,
+    u: u32,
+    m: Move,
+)
     requires { ⌜ Indexed (tableOf (now table)) (now index) ⌝ }
-    requires { ⌜ length (now state) ≡ stateLength ⌝ }
     requires { ⌜ t < 64 ⌝ }
-    requires { ⌜ settled (tableOf (now table)) (view (now state)) ≡ view (now state) ⌝ }
+    requires { ⌜ settled (tableOf (now table)) (stateOf (now state)) ≡ stateOf (now state) ⌝ }
     requires { ⌜ Paired t u m ⌝ }
-    ensures { λ _. ⌜ view (now (state .exit)) ≡ perform (tableOf (now (table .entry))) (view (now (state .entry))) t m ⌝ }
+    ensures { λ _. ⌜ stateOf (now (state .exit)) ≡ perform (tableOf (now (table .entry))) (stateOf (now (state .entry))) t m ⌝ }
 {
-    let mut old = [0u8; ROW_SLOTS];
-    let mut other = [0u8; ROW_SLOTS];
+    let mut old = [0u8; counts::LIST];
+    let mut other = [0u8; counts::LIST];
     let waits = counts::take_down(table, index, state, t, &mut old);
     let awaits = counts::take_down(table, index, state, u, &mut other);
     make_noted(table, index, state, t, u, m, &old, waits, &other, awaits);
 }
 
 // Thread t goes on after its branch i. Where it is ready and will hold what it holds, no count changes.
-fn make_gone(table: &[u8], index: &[u32], state: &mut [u8], t: u32, i: u32)
+fn make_gone(table: &[u8], index: &[u32], state: &mut [u32; state::WORDS], t: u32, i: u32)
     requires { ⌜ Indexed (tableOf (now table)) (now index) ⌝ }
-    requires { ⌜ length (now state) ≡ stateLength ⌝ }
     requires { ⌜ t < 64 ⌝ }
-    requires { ⌜ settled (tableOf (now table)) (view (now state)) ≡ view (now state) ⌝ }
-    ensures { λ _. ⌜ view (now (state .exit)) ≡ perform (tableOf (now (table .entry))) (view (now (state .entry))) t (Goes i) ⌝ }
+    requires { ⌜ settled (tableOf (now table)) (stateOf (now state)) ≡ stateOf (now state) ⌝ }
+    ensures { λ _. ⌜ stateOf (now (state .exit)) ≡ perform (tableOf (now (table .entry))) (stateOf (now (state .entry))) t (Goes i) ⌝ }
 {
     if state::thread_word(state, t as usize, 0) == 1 {
-        if branches::gone_keeps(table, index, state, t, i) {
-            branches::write_gone(table, index, state, t, i);
+        let way = branches::way_by(table, index, state, t, i);
+        if branches::gone_keeps(table, index, state, t, way) {
+            branches::write_gone(table, index, state, t, way);
             return;
         }
     }
@@ -140,12 +178,11 @@ fn make_gone(table: &[u8], index: &[u32], state: &mut [u8], t: u32, i: u32)
 }
 
 // Thread t makes the call at its node. Where it is ready and will hold what it holds, no count changes.
-fn make_call(table: &[u8], index: &[u32], state: &mut [u8], t: u32)
+fn make_call(table: &[u8], index: &[u32], state: &mut [u32; state::WORDS], t: u32)
     requires { ⌜ Indexed (tableOf (now table)) (now index) ⌝ }
-    requires { ⌜ length (now state) ≡ stateLength ⌝ }
     requires { ⌜ t < 64 ⌝ }
-    requires { ⌜ settled (tableOf (now table)) (view (now state)) ≡ view (now state) ⌝ }
-    ensures { λ _. ⌜ view (now (state .exit)) ≡ perform (tableOf (now (table .entry))) (view (now (state .entry))) t Calls ⌝ }
+    requires { ⌜ settled (tableOf (now table)) (stateOf (now state)) ≡ stateOf (now state) ⌝ }
+    ensures { λ _. ⌜ stateOf (now (state .exit)) ≡ perform (tableOf (now (table .entry))) (stateOf (now (state .entry))) t Calls ⌝ }
 {
     if state::thread_word(state, t as usize, 0) == 1 {
         if writes::call_keeps(table, index, state, t) {
@@ -157,12 +194,11 @@ fn make_call(table: &[u8], index: &[u32], state: &mut [u8], t: u32)
 }
 
 // Thread t waits. Where it was ready, its channels have one waiting holder more, and no other count changes.
-fn make_waiting(table: &[u8], index: &[u32], state: &mut [u8], t: u32)
+fn make_waiting(table: &[u8], index: &[u32], state: &mut [u32; state::WORDS], t: u32)
     requires { ⌜ Indexed (tableOf (now table)) (now index) ⌝ }
-    requires { ⌜ length (now state) ≡ stateLength ⌝ }
     requires { ⌜ t < 64 ⌝ }
-    requires { ⌜ settled (tableOf (now table)) (view (now state)) ≡ view (now state) ⌝ }
-    ensures { λ _. ⌜ view (now (state .exit)) ≡ perform (tableOf (now (table .entry))) (view (now (state .entry))) t Waits ⌝ }
+    requires { ⌜ settled (tableOf (now table)) (stateOf (now state)) ≡ stateOf (now state) ⌝ }
+    ensures { λ _. ⌜ stateOf (now (state .exit)) ≡ perform (tableOf (now (table .entry))) (stateOf (now (state .entry))) t Waits ⌝ }
 {
     if state::thread_word(state, t as usize, 0) == 1 {
         writes::write_waiting(state, t);
@@ -172,15 +208,23 @@ fn make_waiting(table: &[u8], index: &[u32], state: &mut [u8], t: u32)
     make_alone(table, index, state, t, Move::Waits);
 }
 
-// Whether thread t is ready, u waits, and both will hold what they hold after the meeting of their branches i and j.
-fn meeting_keeps(table: &[u8], index: &[u32], state: &[u8], t: u32, i: u32, u: u32, j: u32) -> bool
+// Whether thread t is ready, u waits, and both will hold what they hold after their meeting.
+fn meeting_keeps(
+    table: &[u8],
+    index: &[u32],
+    state: &[u32; state::WORDS],
+    t: u32,
+    own: Way,
+    u: u32,
+    other: Way,
+) -> bool
     requires { ⌜ Indexed (tableOf (now table)) (now index) ⌝ }
-    ensures { λ r. ⌜ r ≡ meetingKeeps (tableOf (now (table .entry))) (view (now (state .entry))) t i u j ⌝ }
+    ensures { λ r. ⌜ r ≡ meetingKeeps (tableOf (now (table .entry))) (stateOf (now (state .entry))) t own u other ⌝ }
 {
     if state::thread_word(state, t as usize, 0) == 1 {
         if state::thread_word(state, u as usize, 0) == 2 {
-            if branches::met_keeps(table, index, state, t, i) {
-                return branches::met_keeps(table, index, state, u, j);
+            if branches::met_keeps(table, index, state, t, own) {
+                return branches::met_keeps(table, index, state, u, other);
             }
         }
     }
@@ -188,17 +232,26 @@ fn meeting_keeps(table: &[u8], index: &[u32], state: &[u8], t: u32, i: u32, u: u
 }
 
 // Threads t and u meet by their branches i and j. Where they will hold what they hold, u's channels have one waiting holder less.
-fn make_meeting(table: &[u8], index: &[u32], state: &mut [u8], t: u32, i: u32, u: u32, j: u32)
+fn make_meeting(
+    table: &[u8],
+    index: &[u32],
+    state: &mut [u32; state::WORDS],
+    t: u32,
+    i: u32,
+    u: u32,
+    j: u32,
+)
     requires { ⌜ Indexed (tableOf (now table)) (now index) ⌝ }
-    requires { ⌜ length (now state) ≡ stateLength ⌝ }
     requires { ⌜ t < 64 ⌝ }
-    requires { ⌜ settled (tableOf (now table)) (view (now state)) ≡ view (now state) ⌝ }
+    requires { ⌜ settled (tableOf (now table)) (stateOf (now state)) ≡ stateOf (now state) ⌝ }
     requires { ⌜ u < 64 ⌝ }
     requires { ⌜ u ≢ t ⌝ }
-    ensures { λ _. ⌜ view (now (state .exit)) ≡ perform (tableOf (now (table .entry))) (view (now (state .entry))) t (Meets i u j) ⌝ }
+    ensures { λ _. ⌜ stateOf (now (state .exit)) ≡ perform (tableOf (now (table .entry))) (stateOf (now (state .entry))) t (Meets i u j) ⌝ }
 {
-    if meeting_keeps(table, index, state, t, i, u, j) {
-        branches::write_meeting(table, index, state, t, i, u, j);
+    let own = branches::way_by(table, index, state, t, i);
+    let other = branches::way_by(table, index, state, u, j);
+    if meeting_keeps(table, index, state, t, own, u, other) {
+        branches::write_meeting(table, index, state, t, own, u, other);
         counts::weigh(table, index, state, u, MINUS_ONE);
         return;
     }
@@ -206,13 +259,12 @@ fn make_meeting(table: &[u8], index: &[u32], state: &mut [u8], t: u32, i: u32, u
 }
 
 // A move of thread t; one that lacks a row changes nothing.
-pub fn make_move(table: &[u8], index: &[u32], state: &mut [u8], t: u32, m: Move)
+pub fn make_move(table: &[u8], index: &[u32], state: &mut [u32; state::WORDS], t: u32, m: Move)
     requires { ⌜ Indexed (tableOf (now table)) (now index) ⌝ }
-    requires { ⌜ length (now state) ≡ stateLength ⌝ }
     requires { ⌜ t < 64 ⌝ }
-    requires { ⌜ settled (tableOf (now table)) (view (now state)) ≡ view (now state) ⌝ }
+    requires { ⌜ settled (tableOf (now table)) (stateOf (now state)) ≡ stateOf (now state) ⌝ }
     requires { ⌜ Writable t m ⌝ }
-    ensures { λ _. ⌜ view (now (state .exit)) ≡ made (tableOf (now (table .entry))) (view (now (state .entry))) t m ⌝ }
+    ensures { λ _. ⌜ stateOf (now (state .exit)) ≡ made (tableOf (now (table .entry))) (stateOf (now (state .entry))) t m ⌝ }
 {
     match m {
         Move::Ends => make_alone(table, index, state, t, m),
@@ -228,30 +280,44 @@ pub fn make_move(table: &[u8], index: &[u32], state: &mut [u8], t: u32, m: Move)
 }
 
 // Thread u, met through its branch j by somebody who gives v, goes on: with the upkeep in full.
-fn make_met_anew(table: &[u8], index: &[u32], state: &mut [u8], u: u32, j: u32, v: u32)
+fn make_met_anew(
+    table: &[u8],
+    index: &[u32],
+    state: &mut [u32; state::WORDS],
+    u: u32,
+    j: u32,
+    v: u32,
+)
     requires { ⌜ Indexed (tableOf (now table)) (now index) ⌝ }
-    requires { ⌜ length (now state) ≡ stateLength ⌝ }
     requires { ⌜ u < 64 ⌝ }
-    requires { ⌜ settled (tableOf (now table)) (view (now state)) ≡ view (now state) ⌝ }
-    ensures { λ _. ⌜ view (now (state .exit)) ≡ metByBench (tableOf (now (table .entry))) (view (now (state .entry))) u j v ⌝ }
+    requires { ⌜ settled (tableOf (now table)) (stateOf (now state)) ≡ stateOf (now state) ⌝ }
+    ensures { λ _. ⌜ stateOf (now (state .exit)) ≡ metByBench (tableOf (now (table .entry))) (stateOf (now (state .entry))) u j v ⌝ }
 {
-    let mut old = [0u8; ROW_SLOTS];
+    let mut old = [0u8; counts::LIST];
     let waits = counts::take_down(table, index, state, u, &mut old);
-    branches::write_met(table, index, state, u, j, v);
+    let way = branches::way_by(table, index, state, u, j);
+    branches::write_met(table, index, state, u, way, v);
     counts::settle_one(table, index, state, u, &old, waits);
 }
 
 // The same. Where u waits and will hold what it holds, its channels have one waiting holder less, and no other count changes.
-pub fn make_met(table: &[u8], index: &[u32], state: &mut [u8], u: u32, j: u32, v: u32)
+pub fn make_met(
+    table: &[u8],
+    index: &[u32],
+    state: &mut [u32; state::WORDS],
+    u: u32,
+    j: u32,
+    v: u32,
+)
     requires { ⌜ Indexed (tableOf (now table)) (now index) ⌝ }
-    requires { ⌜ length (now state) ≡ stateLength ⌝ }
     requires { ⌜ u < 64 ⌝ }
-    requires { ⌜ settled (tableOf (now table)) (view (now state)) ≡ view (now state) ⌝ }
-    ensures { λ _. ⌜ view (now (state .exit)) ≡ metByBench (tableOf (now (table .entry))) (view (now (state .entry))) u j v ⌝ }
+    requires { ⌜ settled (tableOf (now table)) (stateOf (now state)) ≡ stateOf (now state) ⌝ }
+    ensures { λ _. ⌜ stateOf (now (state .exit)) ≡ metByBench (tableOf (now (table .entry))) (stateOf (now (state .entry))) u j v ⌝ }
 {
     if state::thread_word(state, u as usize, 0) == 2 {
-        if branches::met_keeps(table, index, state, u, j) {
-            branches::write_met(table, index, state, u, j, v);
+        let way = branches::way_by(table, index, state, u, j);
+        if branches::met_keeps(table, index, state, u, way) {
+            branches::write_met(table, index, state, u, way, v);
             counts::weigh(table, index, state, u, MINUS_ONE);
             return;
         }
@@ -260,15 +326,20 @@ pub fn make_met(table: &[u8], index: &[u32], state: &mut [u8], u: u32, j: u32, v
 }
 
 // Thread t, which is ready, makes its move; the move is answered.
-pub fn step_ready(table: &[u8], index: &[u32], state: &mut [u8], t: u32, top: u32) -> Move
+pub fn step_ready(
+    table: &[u8],
+    index: &[u32],
+    state: &mut [u32; state::WORDS],
+    t: u32,
+    top: u32,
+) -> Move
     requires { ⌜ Indexed (tableOf (now table)) (now index) ⌝ }
-    requires { ⌜ length (now state) ≡ stateLength ⌝ }
     requires { ⌜ t < 64 ⌝ }
-    requires { ⌜ settled (tableOf (now table)) (view (now state)) ≡ view (now state) ⌝ }
-    requires { ⌜ isReady (thread (view (now state)) t) ≡ true ⌝ }
-    requires { ⌜ UsedBelow (view (now state)) top ⌝ }
-    ensures { λ r. ⌜ r ≡ move (tableOf (now (table .entry))) (view (now (state .entry))) t ⌝ }
-    ensures { λ _. ⌜ view (now (state .exit)) ≡ made (tableOf (now (table .entry))) (view (now (state .entry))) t (move (tableOf (now (table .entry))) (view (now (state .entry))) t) ⌝ }
+    requires { ⌜ settled (tableOf (now table)) (stateOf (now state)) ≡ stateOf (now state) ⌝ }
+    requires { ⌜ isReady (thread (stateOf (now state)) t) ≡ true ⌝ }
+    requires { ⌜ UsedBelow (stateOf (now state)) top ⌝ }
+    ensures { λ r. ⌜ r ≡ move (tableOf (now (table .entry))) (stateOf (now (state .entry))) t ⌝ }
+    ensures { λ _. ⌜ stateOf (now (state .exit)) ≡ made (tableOf (now (table .entry))) (stateOf (now (state .entry))) t (move (tableOf (now (table .entry))) (stateOf (now (state .entry))) t) ⌝ }
 {
     let m = moves::decide(table, index, state, t, top);
     make_move(table, index, state, t, m);
@@ -316,16 +387,15 @@ fn raised(t: u32, m: Move, top: u32) -> u32
 }
 
 // Thread t, which is ready, has its turn, and the turn moves past it.
-fn turn_of(table: &[u8], index: &[u32], state: &mut [u8], t: u32, top: u32) -> Round
+fn turn_of(table: &[u8], index: &[u32], state: &mut [u32; state::WORDS], t: u32, top: u32) -> Round
     requires { ⌜ Indexed (tableOf (now table)) (now index) ⌝ }
-    requires { ⌜ length (now state) ≡ stateLength ⌝ }
     requires { ⌜ t < 64 ⌝ }
-    requires { ⌜ settled (tableOf (now table)) (view (now state)) ≡ view (now state) ⌝ }
-    requires { ⌜ isReady (thread (view (now state)) t) ≡ true ⌝ }
-    requires { ⌜ UsedBelow (view (now state)) top ⌝ }
-    ensures { λ r. ⌜ _≡_ {A = Turned} (record { turn = r .turn; state = view (now (state .exit)) }) (turnEnd (tableOf (now (table .entry))) (view (now (state .entry))) t (turnBy t (move (tableOf (now (table .entry))) (view (now (state .entry))) t))) ⌝ }
-    ensures { λ _. ⌜ settled (tableOf (now (table .entry))) (view (now (state .exit))) ≡ view (now (state .exit)) ⌝ }
-    ensures { λ r. ⌜ UsedBelow (view (now (state .exit))) (r .top) ⌝ }
+    requires { ⌜ settled (tableOf (now table)) (stateOf (now state)) ≡ stateOf (now state) ⌝ }
+    requires { ⌜ isReady (thread (stateOf (now state)) t) ≡ true ⌝ }
+    requires { ⌜ UsedBelow (stateOf (now state)) top ⌝ }
+    ensures { λ r. ⌜ _≡_ {A = Turned} (record { turn = r .turn; state = stateOf (now (state .exit)) }) (turnEnd (tableOf (now (table .entry))) (stateOf (now (state .entry))) t (turnBy t (move (tableOf (now (table .entry))) (stateOf (now (state .entry))) t))) ⌝ }
+    ensures { λ _. ⌜ settled (tableOf (now (table .entry))) (stateOf (now (state .exit))) ≡ stateOf (now (state .exit)) ⌝ }
+    ensures { λ r. ⌜ UsedBelow (stateOf (now (state .exit))) (r .top) ⌝ }
 {
     let m = step_ready(table, index, state, t, top);
     state::put_mark(state, 2, moves::one_up(MAX_THREADS, t));
@@ -337,14 +407,13 @@ fn turn_of(table: &[u8], index: &[u32], state: &mut [u8], t: u32, top: u32) -> R
 }
 
 // The next ready thread has its turn.
-pub fn take_turn(table: &[u8], index: &[u32], state: &mut [u8], top: u32) -> Round
+pub fn take_turn(table: &[u8], index: &[u32], state: &mut [u32; state::WORDS], top: u32) -> Round
     requires { ⌜ Indexed (tableOf (now table)) (now index) ⌝ }
-    requires { ⌜ length (now state) ≡ stateLength ⌝ }
-    requires { ⌜ settled (tableOf (now table)) (view (now state)) ≡ view (now state) ⌝ }
-    requires { ⌜ UsedBelow (view (now state)) top ⌝ }
-    ensures { λ r. ⌜ _≡_ {A = Turned} (record { turn = r .turn; state = view (now (state .exit)) }) (takeTurn (tableOf (now (table .entry))) (view (now (state .entry)))) ⌝ }
-    ensures { λ _. ⌜ settled (tableOf (now (table .entry))) (view (now (state .exit))) ≡ view (now (state .exit)) ⌝ }
-    ensures { λ r. ⌜ UsedBelow (view (now (state .exit))) (r .top) ⌝ }
+    requires { ⌜ settled (tableOf (now table)) (stateOf (now state)) ≡ stateOf (now state) ⌝ }
+    requires { ⌜ UsedBelow (stateOf (now state)) top ⌝ }
+    ensures { λ r. ⌜ _≡_ {A = Turned} (record { turn = r .turn; state = stateOf (now (state .exit)) }) (takeTurn (tableOf (now (table .entry))) (stateOf (now (state .entry)))) ⌝ }
+    ensures { λ _. ⌜ settled (tableOf (now (table .entry))) (stateOf (now (state .exit))) ≡ stateOf (now (state .exit)) ⌝ }
+    ensures { λ r. ⌜ UsedBelow (stateOf (now (state .exit))) (r .top) ⌝ }
 {
     let t = moves::next_ready(state, top);
     if t < MAX_THREADS {

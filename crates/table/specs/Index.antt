@@ -1,21 +1,22 @@
--- The index of a table: where each block starts, the definition of each node and the node of each branch, in one list, so that a look-up is one read.
+-- The index of a table: where each block starts, the definition of each node, the node of each branch and the first row of each kind, in one list, so that
+-- a look-up is one read.
 pub mod Laying
 pub mod Laws
 use Prim.Native.Nat.{ℕ, _+_, _-_, _<_}
 use mathlib.Core.Bool.{true, cond}
-use mathlib.Core.List.{List}
+use mathlib.Core.List.{List, []}
 use mathlib.Core.Path.{_≡_}
-use lib.ListN.{getD}
-use lib.Dec.{ltb}
+use lib.ListN.{length, getD}
+use lib.Dec.{ltb, eqb}
 use Rattle.numbers.specs.Search.{tabulate}
-use Rattle.table.specs.Table.{Table}
+use Rattle.table.specs.Table.{Table, definitionRow, slotRow, nodeRow, branchRow}
 use Rattle.table.specs.Layout.{start, owner}
 use Rattle.table.specs.Form.{headerInRange}
 use Rattle.table.specs.declared.Part.{Part}
 use Rattle.table.specs.declared.Part.the-variants.{Slots, Nodes, Branches}
 
 abbrev pub indexLength : ℕ
-indexLength = 803
+indexLength = 807
 
 -- the places of a part's starts: one for each block, and one for the end of the last
 abbrev pub startsFrom : Part → ℕ
@@ -45,7 +46,9 @@ module _ (tb : Table) where
       cond (ltb x 17) (start tb Slots x)
       (cond (ltb x 34) (start tb Nodes (x - 17))
       (cond (ltb x 227) (start tb Branches (x - 34))
-      (cond (ltb x 419) (owner tb Nodes (x - 227)) (owner tb Branches (x - 419)))))
+      (cond (ltb x 419) (owner tb Nodes (x - 227))
+      (cond (ltb x 803) (owner tb Branches (x - 419))
+      (cond (eqb x 803) (definitionRow tb) (cond (eqb x 804) (slotRow tb) (cond (eqb x 805) (nodeRow tb) (branchRow tb))))))))
 
   unfoldable pub indexOf : List ℕ
   indexOf = tabulate indexLength entry
@@ -54,7 +57,8 @@ module _ (tb : Table) where
   abbrev pub Starts : Part → List ℕ → Type 0
   Starts p l = (i : ℕ) → i < startsRoom p → getD l (startsFrom p + i) 0 ≡ start tb p i
 
-  -- what a function that takes the index asks of it
+  -- what a function that takes the index asks of it; the last row is whole in a buffer that has a table's length
   pub record Indexed (l : List ℕ) : Type 0 where
     pub counts : headerInRange tb ≡ true
     pub entries : l ≡ indexOf
+    pub whole : length (getD tb 864 []) ≡ 12

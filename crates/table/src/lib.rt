@@ -2,7 +2,9 @@
 ghost use mathlib.Core.Path.{_≡_};
 ghost use mathlib.Core.Bool.{true};
 ghost use Prim.Native.Nat.{_+_, _-_, _≤_, _<_};
+ghost use mathlib.Core.List.{[], _∷_};
 ghost use lib.ListN.{getD, replicate};
+ghost use Rattle.numbers.specs.Bytes.{little};
 ghost use Rattle.numbers.specs.Rows.{at};
 ghost use Rattle.numbers.specs.Search.{first};
 ghost use Rattle.table.specs.Table.{tableOf, definitionRow, slotRow, nodeRow, branchRow, lineTotal, parameters, slotCount, nodeCount};
@@ -28,6 +30,15 @@ const MAX_BRANCHES: u32 = 384;
 
 const MAX_PORTS: u32 = 8;
 
+// The places of the first rows in an index.
+const DEFINITION_ROW: usize = 803;
+
+const SLOT_ROW: usize = 804;
+
+const NODE_ROW: usize = 805;
+
+const BRANCH_ROW: usize = 806;
+
 // The lines that come in blocks: the slots and the nodes of each definition, the branches of each choice.
 pub enum Part {
     Slots,
@@ -45,6 +56,14 @@ pub enum Role {
     WriteNumber,
     WriteChannel,
     WriteCarried,
+}
+
+// The number of two bytes, the lower first.
+fn pair(a: u8, b: u8) -> u32
+    ensures { λ r. ⌜ r ≡ little (a ∷ b ∷ []) ⌝ }
+    ensures { λ r. ⌜ r < 65536 ⌝ }
+{
+    a as u32 + b as u32 * 256
 }
 
 // Number k of a row; 0 outside the table.
@@ -425,6 +444,28 @@ fn owners_from(part: Part) -> usize
     }
 }
 
+// How many places a part has for its starts, and how many for its owners.
+fn starts_room(part: Part) -> u32
+    ensures { λ r. ⌜ r ≡ startsRoom part ⌝ }
+{
+    match part {
+        Part::Slots => 17,
+        Part::Nodes => 17,
+        Part::Branches => 193,
+    }
+}
+
+fn owners_room(part: Part) -> usize
+    ensures { λ r. ⌜ r ≡ ownersRoom part ⌝ }
+    ensures { λ r. ⌜ r ≤ 384 ⌝ }
+{
+    match part {
+        Part::Slots => 0,
+        Part::Nodes => 192,
+        Part::Branches => 384,
+    }
+}
+
 // The place of a part's start i in an index, read.
 fn start_at(index: &[u32], part: Part, i: u32) -> u32
     ensures { λ r. ⌜ r ≡ getD (now (index .entry)) (startsFrom part + i) 0 ⌝ }
@@ -438,8 +479,8 @@ pub fn start_of(table: &[u8], index: &[u32], part: Part, i: u32) -> u32
     ensures { λ r. ⌜ r ≡ start (tableOf (now (table .entry))) part i ⌝ }
     ensures { λ r. ⌜ r ≤ 12582720 ⌝ }
 {
-    if i <= blocks_of(table, part) {
-        return start_at(index, part, i);
+    if i < starts_room(part) {
+        return index[starts_from(part) + i as usize];
     }
     0
 }
@@ -451,8 +492,95 @@ pub fn owner_of(table: &[u8], index: &[u32], part: Part, x: usize) -> u32
     ensures { λ r. ⌜ r ≡ owner (tableOf (now (table .entry))) part x ⌝ }
     ensures { λ r. ⌜ r ≤ blocks (tableOf (now (table .entry))) part ⌝ }
 {
-    if x < lines_of(table, part) as usize {
-        return numbers::cell_at(index, owners_from(part) + x);
+    if x < owners_room(part) {
+        return index[owners_from(part) + x];
+    }
+    0
+}
+
+// The first row of each kind of line, from the index.
+pub fn definition_row_of(table: &[u8], index: &[u32]) -> usize
+    requires { ⌜ Indexed (tableOf (now table)) (now index) ⌝ }
+    ensures { λ r. ⌜ r ≡ definitionRow (tableOf (now (table .entry))) ⌝ }
+    ensures { λ r. ⌜ r ≤ 17 ⌝ }
+{
+    index[DEFINITION_ROW] as usize
+}
+
+pub fn slot_row_of(table: &[u8], index: &[u32]) -> usize
+    requires { ⌜ Indexed (tableOf (now table)) (now index) ⌝ }
+    ensures { λ r. ⌜ r ≡ slotRow (tableOf (now (table .entry))) ⌝ }
+    ensures { λ r. ⌜ r ≤ 33 ⌝ }
+{
+    index[SLOT_ROW] as usize
+}
+
+pub fn node_row_of(table: &[u8], index: &[u32]) -> usize
+    requires { ⌜ Indexed (tableOf (now table)) (now index) ⌝ }
+    ensures { λ r. ⌜ r ≡ nodeRow (tableOf (now (table .entry))) ⌝ }
+    ensures { λ r. ⌜ r ≤ 289 ⌝ }
+{
+    index[NODE_ROW] as usize
+}
+
+pub fn branch_row_of(table: &[u8], index: &[u32]) -> usize
+    requires { ⌜ Indexed (tableOf (now table)) (now index) ⌝ }
+    ensures { λ r. ⌜ r ≡ branchRow (tableOf (now (table .entry))) ⌝ }
+    ensures { λ r. ⌜ r ≤ 481 ⌝ }
+{
+    index[BRANCH_ROW] as usize
+}
+
+// Number k of a row of a table that has an index, so that its length is known.
+pub fn cell_of(table: &[u8], index: &[u32], row: usize, k: usize) -> u32
+    requires { ⌜ Indexed (tableOf (now table)) (now index) ⌝ }
+    ensures { λ r. ⌜ r ≡ at (tableOf (now (table .entry))) row k ⌝ }
+    ensures { λ r. ⌜ r < 65536 ⌝ }
+{
+    if row < MAX_ROWS {
+        if k < ROW_NUMBERS {
+            let place = (row * ROW_NUMBERS + k) * 2;
+            return pair(table[place], table[place + 1]);
+        }
+    }
+    0
+}
+
+// Of definition d its parameters and slots, and of a node its branches, read with the index.
+pub fn parameter_count_of(table: &[u8], index: &[u32], d: u32) -> u32
+    requires { ⌜ Indexed (tableOf (now table)) (now index) ⌝ }
+    ensures { λ r. ⌜ r ≡ parameters (tableOf (now (table .entry))) d ⌝ }
+    ensures { λ r. ⌜ r < 65536 ⌝ }
+{
+    cell_of(
+        table,
+        index,
+        definition_row_of(table, index) + d as usize,
+        1,
+    )
+}
+
+pub fn slot_count_of(table: &[u8], index: &[u32], d: u32) -> u32
+    requires { ⌜ Indexed (tableOf (now table)) (now index) ⌝ }
+    ensures { λ r. ⌜ r ≡ slotCount (tableOf (now (table .entry))) d ⌝ }
+    ensures { λ r. ⌜ r < 65536 ⌝ }
+{
+    cell_of(
+        table,
+        index,
+        definition_row_of(table, index) + d as usize,
+        2,
+    )
+}
+
+pub fn branch_count_of(table: &[u8], index: &[u32], node: u32) -> u32
+    requires { ⌜ Indexed (tableOf (now table)) (now index) ⌝ }
+    ensures { λ r. ⌜ r ≡ branchCount (tableOf (now (table .entry))) node ⌝ }
+    ensures { λ r. ⌜ r < 65536 ⌝ }
+{
+    let row = node_row_of(table, index) + node as usize;
+    if cell_of(table, index, row, 1) == 1 {
+        return cell_of(table, index, row, 2);
     }
     0
 }
@@ -543,6 +671,17 @@ fn lay_owners(table: &[u8], index: &mut [u32], part: Part)
     }
 }
 
+// The first rows are laid behind what the index has already.
+fn lay_rows(table: &[u8], index: &mut [u32])
+    requires { ⌜ now index ≡ laid (entry (tableOf (now table))) 803 indexLength ⌝ }
+    ensures { λ _. ⌜ now (index .exit) ≡ laid (entry (tableOf (now (table .entry)))) indexLength indexLength ⌝ }
+{
+    numbers::put_cell(index, DEFINITION_ROW, definition_row(table) as u32);
+    numbers::put_cell(index, SLOT_ROW, slot_row(table) as u32);
+    numbers::put_cell(index, NODE_ROW, node_row(table) as u32);
+    numbers::put_cell(index, BRANCH_ROW, branch_row(table) as u32);
+}
+
 // The index of a table whose header is in range, into a slice of zeros.
 pub fn fill_index(table: &[u8], index: &mut [u32])
     requires { ⌜ headerInRange (tableOf (now table)) ≡ true ⌝ }
@@ -554,4 +693,5 @@ pub fn fill_index(table: &[u8], index: &mut [u32])
     lay_starts(table, index, Part::Branches);
     lay_owners(table, index, Part::Nodes);
     lay_owners(table, index, Part::Branches);
+    lay_rows(table, index);
 }

@@ -11,15 +11,14 @@ use lib.Seq.{set-out}
 use borrow.Author.Tests.{lt-ltb, le-ltb, eq-eqb, ne-eqb}
 use Rattle.numbers.specs.Count.{bit}
 use Rattle.numbers.specs.Search.{tabulate}
-use Rattle.numbers.specs.Search.Laws.{some-intro}
+use Rattle.numbers.specs.Search.Laws.{some-intro, some-zero, some-still}
 use Rattle.table.specs.Table.{Table, slotCount}
 use Rattle.table.specs.Layout.{definitionOf}
-use Rattle.state.specs.State.{view, maxChannels, standsAt, status, slotOf, isWaiting}
+use Rattle.state.specs.State.{stateOf, maxChannels, standsAt, status, slotOf, isWaiting}
 use Rattle.state.specs.State.Laws.{length-threads}
 use Rattle.rules.specs.Program.{channelSlot}
 use Rattle.rules.specs.Holding.{hasAt, holders, waiters}
 use Rattle.tally.specs.Fresh.{ownSlots, hasTo, freshOf}
-use Rattle.tally.specs.General.{some-zero, some-still}
 use Rattle.tally.specs.Tally.{added, addedTo, rowAdded, addedBelow}
 use Rattle.tally.specs.Tally.Laws.{holders-counted, waiters-counted}
 
@@ -170,10 +169,10 @@ module _ (tb : Table) (ths : List (List ℕ)) (l : List ℕ) where
     rows-waiting e f = rw (f, e, add-one t)
 
 module _ (tb : Table) (b l z : List ℕ) (t : ℕ) (h : t ≤ 64) (i : 64 ≤ t) (e : z ≡ replicate maxChannels 0) where
-  pub all-held : l ≡ addedBelow tb (λ row. true) (view b .threads) z t → l ≡ tabulate maxChannels (holders tb (view b .threads))
-  all-held f = let q : t ≡ 64 = omega arith in f ∙ rw (e, q) (holders-counted tb (view b .threads) (length-threads b))
+  pub all-held : l ≡ addedBelow tb (λ row. true) (stateOf b .threads) z t → l ≡ tabulate maxChannels (holders tb (stateOf b .threads))
+  all-held f = let q : t ≡ 64 = omega arith in f ∙ rw (e, q) (holders-counted tb (stateOf b .threads) (length-threads b))
 
-  pub all-waiting : l ≡ addedBelow tb (λ row. isWaiting row) (view b .threads) z t → l ≡ tabulate maxChannels (waiters tb (view b .threads))
-  all-waiting f = let q : t ≡ 64 = omega arith in f ∙ rw (e, q) (waiters-counted tb (view b .threads) (length-threads b))
+  pub all-waiting : l ≡ addedBelow tb (λ row. isWaiting row) (stateOf b .threads) z t → l ≡ tabulate maxChannels (waiters tb (stateOf b .threads))
+  all-waiting f = let q : t ≡ 64 = omega arith in f ∙ rw (e, q) (waiters-counted tb (stateOf b .threads) (length-threads b))
 
 pub ruleset tallies = (rows-none, rows-held, rows-waiting, all-held, all-waiting)

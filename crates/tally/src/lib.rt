@@ -7,7 +7,7 @@ ghost use Rattle.numbers.specs.Search.{tabulate};
 ghost use Rattle.table.specs.Table.{tableOf};
 ghost use Rattle.table.specs.Layout.{definitionOf};
 ghost use Rattle.table.specs.Index.{Indexed};
-ghost use Rattle.state.specs.State.{view, thread, standsAt, isWaiting, maxChannels};
+ghost use Rattle.state.specs.State.{stateOf, thread, standsAt, isWaiting, maxChannels};
 ghost use Rattle.rules.specs.Holding.{hasAt, holders, waiters};
 ghost use Rattle.tally.specs.Fresh.{ownSlots, hasTo, freshOf};
 ghost use Rattle.tally.specs.Tally.{added, addedTo, rowAdded};
@@ -33,10 +33,18 @@ pub fn own_slots(table: &[u8], d: u32) -> u32
 }
 
 // Of thread t, whose node is one of definition d: whether slot k is a channel slot that has c, and whether one of the first n slots is.
-fn has_at(table: &[u8], index: &[u32], d: u32, state: &[u8], t: u32, c: u32, k: u32) -> bool
+fn has_at(
+    table: &[u8],
+    index: &[u32],
+    d: u32,
+    state: &[u32; state::WORDS],
+    t: u32,
+    c: u32,
+    k: u32,
+) -> bool
     requires { ⌜ Indexed (tableOf (now table)) (now index) ⌝ }
-    requires { ⌜ d ≡ definitionOf (tableOf (now table)) (standsAt (thread (view (now state)) t)) ⌝ }
-    ensures { λ r. ⌜ r ≡ hasAt (tableOf (now (table .entry))) (thread (view (now (state .entry))) t) c k ⌝ }
+    requires { ⌜ d ≡ definitionOf (tableOf (now table)) (standsAt (thread (stateOf (now state)) t)) ⌝ }
+    ensures { λ r. ⌜ r ≡ hasAt (tableOf (now (table .entry))) (thread (stateOf (now (state .entry))) t) c k ⌝ }
 {
     if program::slot(state, t, k) == c {
         return program::channel_slot(table, index, d, k);
@@ -44,10 +52,18 @@ fn has_at(table: &[u8], index: &[u32], d: u32, state: &[u8], t: u32, c: u32, k: 
     false
 }
 
-fn has_before(table: &[u8], index: &[u32], d: u32, state: &[u8], t: u32, c: u32, n: u32) -> bool
+fn has_before(
+    table: &[u8],
+    index: &[u32],
+    d: u32,
+    state: &[u32; state::WORDS],
+    t: u32,
+    c: u32,
+    n: u32,
+) -> bool
     requires { ⌜ Indexed (tableOf (now table)) (now index) ⌝ }
-    requires { ⌜ d ≡ definitionOf (tableOf (now table)) (standsAt (thread (view (now state)) t)) ⌝ }
-    ensures { λ r. ⌜ r ≡ hasTo (tableOf (now (table .entry))) (thread (view (now (state .entry))) t) c n ⌝ }
+    requires { ⌜ d ≡ definitionOf (tableOf (now table)) (standsAt (thread (stateOf (now state)) t)) ⌝ }
+    ensures { λ r. ⌜ r ≡ hasTo (tableOf (now (table .entry))) (thread (stateOf (now (state .entry))) t) c n ⌝ }
 {
     for k in 0..n {
         if has_at(table, index, d, state, t, c, k) {
@@ -58,10 +74,10 @@ fn has_before(table: &[u8], index: &[u32], d: u32, state: &[u8], t: u32, c: u32,
 }
 
 // The channel that slot k of thread t is the first to have; 128 where there is none.
-pub fn fresh(table: &[u8], index: &[u32], d: u32, state: &[u8], t: u32, k: u32) -> u8
+pub fn fresh(table: &[u8], index: &[u32], d: u32, state: &[u32; state::WORDS], t: u32, k: u32) -> u8
     requires { ⌜ Indexed (tableOf (now table)) (now index) ⌝ }
-    requires { ⌜ d ≡ definitionOf (tableOf (now table)) (standsAt (thread (view (now state)) t)) ⌝ }
-    ensures { λ r. ⌜ r ≡ freshOf (tableOf (now (table .entry))) (thread (view (now (state .entry))) t) k ⌝ }
+    requires { ⌜ d ≡ definitionOf (tableOf (now table)) (standsAt (thread (stateOf (now state)) t)) ⌝ }
+    ensures { λ r. ⌜ r ≡ freshOf (tableOf (now (table .entry))) (thread (stateOf (now (state .entry))) t) k ⌝ }
 {
     let c = program::slot(state, t, k);
     if c < CHANNELS {
@@ -100,7 +116,7 @@ fn add_slot(
     table: &[u8],
     index: &[u32],
     d: u32,
-    state: &[u8],
+    state: &[u32; state::WORDS],
     t: u32,
     k: u32,
     w: u8,
@@ -108,9 +124,9 @@ fn add_slot(
     waiting: &mut [u8],
 )
     requires { ⌜ Indexed (tableOf (now table)) (now index) ⌝ }
-    requires { ⌜ d ≡ definitionOf (tableOf (now table)) (standsAt (thread (view (now state)) t)) ⌝ }
-    ensures { λ _. ⌜ now (held .exit) ≡ added (now (held .entry)) (freshOf (tableOf (now (table .entry))) (thread (view (now (state .entry))) t) k) 1 ⌝ }
-    ensures { λ _. ⌜ now (waiting .exit) ≡ added (now (waiting .entry)) (freshOf (tableOf (now (table .entry))) (thread (view (now (state .entry))) t) k) w ⌝ }
+    requires { ⌜ d ≡ definitionOf (tableOf (now table)) (standsAt (thread (stateOf (now state)) t)) ⌝ }
+    ensures { λ _. ⌜ now (held .exit) ≡ added (now (held .entry)) (freshOf (tableOf (now (table .entry))) (thread (stateOf (now (state .entry))) t) k) 1 ⌝ }
+    ensures { λ _. ⌜ now (waiting .exit) ≡ added (now (waiting .entry)) (freshOf (tableOf (now (table .entry))) (thread (stateOf (now (state .entry))) t) k) w ⌝ }
 {
     let c = fresh(table, index, d, state, t, k) as usize;
     add(held, c, 1);
@@ -122,7 +138,7 @@ fn add_slots(
     table: &[u8],
     index: &[u32],
     d: u32,
-    state: &[u8],
+    state: &[u32; state::WORDS],
     t: u32,
     n: u32,
     w: u8,
@@ -130,9 +146,9 @@ fn add_slots(
     waiting: &mut [u8],
 )
     requires { ⌜ Indexed (tableOf (now table)) (now index) ⌝ }
-    requires { ⌜ d ≡ definitionOf (tableOf (now table)) (standsAt (thread (view (now state)) t)) ⌝ }
-    ensures { λ _. ⌜ now (held .exit) ≡ addedTo (tableOf (now (table .entry))) (thread (view (now (state .entry))) t) 1 (now (held .entry)) n ⌝ }
-    ensures { λ _. ⌜ now (waiting .exit) ≡ addedTo (tableOf (now (table .entry))) (thread (view (now (state .entry))) t) w (now (waiting .entry)) n ⌝ }
+    requires { ⌜ d ≡ definitionOf (tableOf (now table)) (standsAt (thread (stateOf (now state)) t)) ⌝ }
+    ensures { λ _. ⌜ now (held .exit) ≡ addedTo (tableOf (now (table .entry))) (thread (stateOf (now (state .entry))) t) 1 (now (held .entry)) n ⌝ }
+    ensures { λ _. ⌜ now (waiting .exit) ≡ addedTo (tableOf (now (table .entry))) (thread (stateOf (now (state .entry))) t) w (now (waiting .entry)) n ⌝ }
 {
     for k in 0..n {
         add_slot(table, index, d, state, t, k, w, held, waiting);
@@ -149,10 +165,17 @@ fn waits_bit(status: u32) -> u8
 }
 
 // The channels of thread t are counted, where it is in use.
-fn add_row(table: &[u8], index: &[u32], state: &[u8], t: u32, held: &mut [u8], waiting: &mut [u8])
+fn add_row(
+    table: &[u8],
+    index: &[u32],
+    state: &[u32; state::WORDS],
+    t: u32,
+    held: &mut [u8],
+    waiting: &mut [u8],
+)
     requires { ⌜ Indexed (tableOf (now table)) (now index) ⌝ }
-    ensures { λ _. ⌜ now (held .exit) ≡ rowAdded (tableOf (now (table .entry))) (thread (view (now (state .entry))) t) 1 (now (held .entry)) ⌝ }
-    ensures { λ _. ⌜ now (waiting .exit) ≡ rowAdded (tableOf (now (table .entry))) (thread (view (now (state .entry))) t) (bit (isWaiting (thread (view (now (state .entry))) t))) (now (waiting .entry)) ⌝ }
+    ensures { λ _. ⌜ now (held .exit) ≡ rowAdded (tableOf (now (table .entry))) (thread (stateOf (now (state .entry))) t) 1 (now (held .entry)) ⌝ }
+    ensures { λ _. ⌜ now (waiting .exit) ≡ rowAdded (tableOf (now (table .entry))) (thread (stateOf (now (state .entry))) t) (bit (isWaiting (thread (stateOf (now (state .entry))) t))) (now (waiting .entry)) ⌝ }
 {
     let status = state::thread_word(state, t as usize, 0);
     if status == 0 {
@@ -173,12 +196,18 @@ fn add_row(table: &[u8], index: &[u32], state: &[u8], t: u32, held: &mut [u8], w
 }
 
 // How many threads hold each of the 128 channels, and how many waiting ones do, into two lists of zeros.
-pub fn tally(table: &[u8], index: &[u32], state: &[u8], held: &mut [u8], waiting: &mut [u8])
+pub fn tally(
+    table: &[u8],
+    index: &[u32],
+    state: &[u32; state::WORDS],
+    held: &mut [u8],
+    waiting: &mut [u8],
+)
     requires { ⌜ Indexed (tableOf (now table)) (now index) ⌝ }
     requires { ⌜ now held ≡ replicate maxChannels 0 ⌝ }
     requires { ⌜ now waiting ≡ replicate maxChannels 0 ⌝ }
-    ensures { λ _. ⌜ now (held .exit) ≡ tabulate maxChannels (holders (tableOf (now (table .entry))) (view (now (state .entry)) .threads)) ⌝ }
-    ensures { λ _. ⌜ now (waiting .exit) ≡ tabulate maxChannels (waiters (tableOf (now (table .entry))) (view (now (state .entry)) .threads)) ⌝ }
+    ensures { λ _. ⌜ now (held .exit) ≡ tabulate maxChannels (holders (tableOf (now (table .entry))) (stateOf (now (state .entry)) .threads)) ⌝ }
+    ensures { λ _. ⌜ now (waiting .exit) ≡ tabulate maxChannels (waiters (tableOf (now (table .entry))) (stateOf (now (state .entry)) .threads)) ⌝ }
 {
     for t in 0..64 {
         add_row(table, index, state, t, held, waiting);

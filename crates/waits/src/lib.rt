@@ -8,7 +8,7 @@ ghost use Rattle.numbers.specs.Search.{every, tabulate};
 ghost use Rattle.table.specs.Table.{tableOf};
 ghost use Rattle.table.specs.Layout.{branchCount};
 ghost use Rattle.table.specs.Index.{Indexed};
-ghost use Rattle.state.specs.State.{view, maxThreads, maxChannels, thread, status, standsAt};
+ghost use Rattle.state.specs.State.{stateOf, maxThreads, maxChannels, thread, status, standsAt};
 ghost use Rattle.rules.specs.Sound.{waitsRightly};
 ghost use Rattle.rules.specs.declared.Direction.the-variants.{Out, In};
 ghost use Rattle.waits.specs.Waits.{noted, apart, allApart, heldBack, offerNoted, branchHeld, branchNoted, waitsAlone, who};
@@ -55,22 +55,24 @@ fn note(notes: &mut [u8], c: u32, t: u32)
 // The branch in a row, of thread t: what it offers is noted. Answers whether it is held back, that is, could not go ahead alone.
 fn note_row(
     table: &[u8],
+    index: &[u32],
     row: usize,
-    state: &[u8],
+    state: &[u32; state::WORDS],
     t: u32,
     senders: &mut [u8],
     receivers: &mut [u8],
 ) -> bool
+    requires { ⌜ Indexed (tableOf (now table)) (now index) ⌝ }
     requires { ⌜ t < maxThreads ⌝ }
-    ensures { λ r. ⌜ r ≡ heldBack (tableOf (now (table .entry))) (thread (view (now (state .entry))) t) row ⌝ }
-    ensures { λ _. ⌜ now (senders .exit) ≡ offerNoted (tableOf (now (table .entry))) (thread (view (now (state .entry))) t) Out row t (now (senders .entry)) ⌝ }
-    ensures { λ _. ⌜ now (receivers .exit) ≡ offerNoted (tableOf (now (table .entry))) (thread (view (now (state .entry))) t) In row t (now (receivers .entry)) ⌝ }
+    ensures { λ r. ⌜ r ≡ heldBack (tableOf (now (table .entry))) (thread (stateOf (now (state .entry))) t) row ⌝ }
+    ensures { λ _. ⌜ now (senders .exit) ≡ offerNoted (tableOf (now (table .entry))) (thread (stateOf (now (state .entry))) t) Out row t (now (senders .entry)) ⌝ }
+    ensures { λ _. ⌜ now (receivers .exit) ≡ offerNoted (tableOf (now (table .entry))) (thread (stateOf (now (state .entry))) t) In row t (now (receivers .entry)) ⌝ }
 {
-    if !program::guard_holds(table, row, state, t) {
+    if !program::guard_holds(table, index, row, state, t) {
         return true;
     }
-    let c = program::slot(state, t, table::cell(table, row, 5));
-    match program::act_of(table, row) {
+    let c = program::slot(state, t, table::cell_of(table, index, row, 5));
+    match program::act_of(table, index, row) {
         Act::Meeting(d) => {
             match d {
                 Direction::Out => note(senders, c, t),
@@ -89,7 +91,7 @@ fn note_row(
 fn note_branch(
     table: &[u8],
     index: &[u32],
-    state: &[u8],
+    state: &[u32; state::WORDS],
     t: u32,
     n: u32,
     i: u32,
@@ -98,13 +100,14 @@ fn note_branch(
 ) -> bool
     requires { ⌜ Indexed (tableOf (now table)) (now index) ⌝ }
     requires { ⌜ t < maxThreads ⌝ }
-    requires { ⌜ n ≡ standsAt (thread (view (now state)) t) ⌝ }
-    ensures { λ r. ⌜ r ≡ branchHeld (tableOf (now (table .entry))) (view (now (state .entry))) t i ⌝ }
-    ensures { λ _. ⌜ now (senders .exit) ≡ branchNoted (tableOf (now (table .entry))) (view (now (state .entry))) Out t i (now (senders .entry)) ⌝ }
-    ensures { λ _. ⌜ now (receivers .exit) ≡ branchNoted (tableOf (now (table .entry))) (view (now (state .entry))) In t i (now (receivers .entry)) ⌝ }
+    requires { ⌜ n ≡ standsAt (thread (stateOf (now state)) t) ⌝ }
+    ensures { λ r. ⌜ r ≡ branchHeld (tableOf (now (table .entry))) (stateOf (now (state .entry))) t i ⌝ }
+    ensures { λ _. ⌜ now (senders .exit) ≡ branchNoted (tableOf (now (table .entry))) (stateOf (now (state .entry))) Out t i (now (senders .entry)) ⌝ }
+    ensures { λ _. ⌜ now (receivers .exit) ≡ branchNoted (tableOf (now (table .entry))) (stateOf (now (state .entry))) In t i (now (receivers .entry)) ⌝ }
 {
     note_row(
         table,
+        index,
         program::branch_at(table, index, n, i),
         state,
         t,
@@ -117,7 +120,7 @@ fn note_branch(
 fn note_branches(
     table: &[u8],
     index: &[u32],
-    state: &[u8],
+    state: &[u32; state::WORDS],
     t: u32,
     n: u32,
     senders: &mut [u8],
@@ -125,15 +128,15 @@ fn note_branches(
 ) -> bool
     requires { ⌜ Indexed (tableOf (now table)) (now index) ⌝ }
     requires { ⌜ t < maxThreads ⌝ }
-    requires { ⌜ n ≡ standsAt (thread (view (now state)) t) ⌝ }
-    requires { ⌜ status (thread (view (now state)) t) ≡ 2 ⌝ }
-    requires { ⌜ now senders ≡ tabulate maxChannels (who (tableOf (now table)) (view (now state)) Out t) ⌝ }
-    requires { ⌜ now receivers ≡ tabulate maxChannels (who (tableOf (now table)) (view (now state)) In t) ⌝ }
-    ensures { λ r. ⌜ r ≡ every (branchHeld (tableOf (now (table .entry))) (view (now (state .entry))) t) (branchCount (tableOf (now (table .entry))) (standsAt (thread (view (now (state .entry))) t))) ⌝ }
-    ensures { λ r. ⌜ (r ≡ true → now (senders .exit) ≡ tabulate maxChannels (who (tableOf (now (table .entry))) (view (now (state .entry))) Out (t + 1))) ⌝ }
-    ensures { λ r. ⌜ (r ≡ true → now (receivers .exit) ≡ tabulate maxChannels (who (tableOf (now (table .entry))) (view (now (state .entry))) In (t + 1))) ⌝ }
+    requires { ⌜ n ≡ standsAt (thread (stateOf (now state)) t) ⌝ }
+    requires { ⌜ status (thread (stateOf (now state)) t) ≡ 2 ⌝ }
+    requires { ⌜ now senders ≡ tabulate maxChannels (who (tableOf (now table)) (stateOf (now state)) Out t) ⌝ }
+    requires { ⌜ now receivers ≡ tabulate maxChannels (who (tableOf (now table)) (stateOf (now state)) In t) ⌝ }
+    ensures { λ r. ⌜ r ≡ every (branchHeld (tableOf (now (table .entry))) (stateOf (now (state .entry))) t) (branchCount (tableOf (now (table .entry))) (standsAt (thread (stateOf (now (state .entry))) t))) ⌝ }
+    ensures { λ r. ⌜ (r ≡ true → now (senders .exit) ≡ tabulate maxChannels (who (tableOf (now (table .entry))) (stateOf (now (state .entry))) Out (t + 1))) ⌝ }
+    ensures { λ r. ⌜ (r ≡ true → now (receivers .exit) ≡ tabulate maxChannels (who (tableOf (now (table .entry))) (stateOf (now (state .entry))) In (t + 1))) ⌝ }
 {
-    let count = table::branch_count(table, n);
+    let count = table::branch_count_of(table, index, n);
     for i in 0..count {
         if !note_branch(table, index, state, t, n, i, senders, receivers) {
             return false;
@@ -146,24 +149,31 @@ fn note_branches(
 fn note_thread(
     table: &[u8],
     index: &[u32],
-    state: &[u8],
+    state: &[u32; state::WORDS],
     t: u32,
     senders: &mut [u8],
     receivers: &mut [u8],
 ) -> bool
     requires { ⌜ Indexed (tableOf (now table)) (now index) ⌝ }
     requires { ⌜ t < maxThreads ⌝ }
-    requires { ⌜ now senders ≡ tabulate maxChannels (who (tableOf (now table)) (view (now state)) Out t) ⌝ }
-    requires { ⌜ now receivers ≡ tabulate maxChannels (who (tableOf (now table)) (view (now state)) In t) ⌝ }
-    ensures { λ r. ⌜ r ≡ waitsAlone (tableOf (now (table .entry))) (view (now (state .entry))) t ⌝ }
-    ensures { λ r. ⌜ (r ≡ true → now (senders .exit) ≡ tabulate maxChannels (who (tableOf (now (table .entry))) (view (now (state .entry))) Out (t + 1))) ⌝ }
-    ensures { λ r. ⌜ (r ≡ true → now (receivers .exit) ≡ tabulate maxChannels (who (tableOf (now (table .entry))) (view (now (state .entry))) In (t + 1))) ⌝ }
+    requires { ⌜ now senders ≡ tabulate maxChannels (who (tableOf (now table)) (stateOf (now state)) Out t) ⌝ }
+    requires { ⌜ now receivers ≡ tabulate maxChannels (who (tableOf (now table)) (stateOf (now state)) In t) ⌝ }
+    ensures { λ r. ⌜ r ≡ waitsAlone (tableOf (now (table .entry))) (stateOf (now (state .entry))) t ⌝ }
+    ensures { λ r. ⌜ (r ≡ true → now (senders .exit) ≡ tabulate maxChannels (who (tableOf (now (table .entry))) (stateOf (now (state .entry))) Out (t + 1))) ⌝ }
+    ensures { λ r. ⌜ (r ≡ true → now (receivers .exit) ≡ tabulate maxChannels (who (tableOf (now (table .entry))) (stateOf (now (state .entry))) In (t + 1))) ⌝ }
 {
     if state::thread_word(state, t as usize, 0) != WAITING {
         return true;
     }
     let n = state::thread_word(state, t as usize, 1);
-    if table::cell(table, table::node_row(table) + n as usize, 1) != CHOICE {
+    if table::cell_of(
+        table,
+        index,
+        table::node_row_of(table, index) + n as usize,
+        1,
+    )
+        != CHOICE
+    {
         return false;
     }
     note_branches(table, index, state, t, n, senders, receivers)
@@ -173,16 +183,16 @@ fn note_thread(
 fn note_threads(
     table: &[u8],
     index: &[u32],
-    state: &[u8],
+    state: &[u32; state::WORDS],
     senders: &mut [u8],
     receivers: &mut [u8],
 ) -> bool
     requires { ⌜ Indexed (tableOf (now table)) (now index) ⌝ }
     requires { ⌜ now senders ≡ replicate maxChannels 0 ⌝ }
     requires { ⌜ now receivers ≡ replicate maxChannels 0 ⌝ }
-    ensures { λ r. ⌜ r ≡ every (waitsAlone (tableOf (now (table .entry))) (view (now (state .entry)))) maxThreads ⌝ }
-    ensures { λ r. ⌜ (r ≡ true → now (senders .exit) ≡ tabulate maxChannels (who (tableOf (now (table .entry))) (view (now (state .entry))) Out maxThreads)) ⌝ }
-    ensures { λ r. ⌜ (r ≡ true → now (receivers .exit) ≡ tabulate maxChannels (who (tableOf (now (table .entry))) (view (now (state .entry))) In maxThreads)) ⌝ }
+    ensures { λ r. ⌜ r ≡ every (waitsAlone (tableOf (now (table .entry))) (stateOf (now (state .entry)))) maxThreads ⌝ }
+    ensures { λ r. ⌜ (r ≡ true → now (senders .exit) ≡ tabulate maxChannels (who (tableOf (now (table .entry))) (stateOf (now (state .entry))) Out maxThreads)) ⌝ }
+    ensures { λ r. ⌜ (r ≡ true → now (receivers .exit) ≡ tabulate maxChannels (who (tableOf (now (table .entry))) (stateOf (now (state .entry))) In maxThreads)) ⌝ }
 {
     for t in 0..THREADS {
         if !note_thread(table, index, state, t, senders, receivers) {
@@ -220,9 +230,9 @@ fn all_apart(senders: &[u8], receivers: &[u8]) -> bool
 }
 
 // Whether every waiting thread stands at a choice of which no branch could go ahead.
-pub fn waits_rightly(table: &[u8], index: &[u32], state: &[u8]) -> bool
+pub fn waits_rightly(table: &[u8], index: &[u32], state: &[u32; state::WORDS]) -> bool
     requires { ⌜ Indexed (tableOf (now table)) (now index) ⌝ }
-    ensures { λ r. ⌜ r ≡ every (waitsRightly (tableOf (now (table .entry))) (view (now (state .entry)))) maxThreads ⌝ }
+    ensures { λ r. ⌜ r ≡ every (waitsRightly (tableOf (now (table .entry))) (stateOf (now (state .entry)))) maxThreads ⌝ }
 {
     let mut senders = [0u8; 128];
     let mut receivers = [0u8; 128];

@@ -2,13 +2,13 @@
 ghost use mathlib.Core.Path.{_≡_};
 ghost use mathlib.Core.List.{[], _∷_};
 ghost use Prim.Native.Nat.{_+_, _<_, _≤_};
-ghost use lib.ListN.{length, getD, set, replicate};
+ghost use lib.ListN.{getD, set, replicate};
 ghost use Rattle.numbers.specs.Search.{every, tabulate};
 ghost use Rattle.table.specs.Table.{tableOf, slotRow};
 ghost use Rattle.table.specs.Layout.{start};
 ghost use Rattle.table.specs.declared.Part.the-variants.{Slots};
 ghost use Rattle.table.specs.Index.{Indexed};
-ghost use Rattle.state.specs.State.{view, thread, standsAt, slotOf, slotsOf, stateLength, rowSlots, withThread, withMark};
+ghost use Rattle.state.specs.State.{stateOf, thread, standsAt, slotOf, slotsOf, rowSlots, withThread, withMark};
 ghost use Rattle.rules.specs.Program.{blank, callee, argument};
 ghost use Rattle.rules.specs.Start.{freeRow, entered};
 ghost use Rattle.rules.specs.Moves.{resumed, waitingRow, stored, met, goneBy, createdBy, metBy, valueBy, typeBy, sideOf, oneUp, written};
@@ -20,93 +20,99 @@ use rules::Direction;
 use table::Part;
 
 // The slots of a row.
+pub const SLOTS: usize = 16;
+
 const ROW_SLOTS: u32 = 16;
 
 const MINUS_ONE: u32 = 4294967295;
 
 // The node at which thread t stands.
-pub fn stands_at(state: &[u8], t: u32) -> u32
-    ensures { λ r. ⌜ r ≡ standsAt (thread (view (now (state .entry))) t) ⌝ }
+pub fn stands_at(state: &[u32; state::WORDS], t: u32) -> u32
+    ensures { λ r. ⌜ r ≡ standsAt (thread (stateOf (now (state .entry))) t) ⌝ }
 {
     state::thread_word(state, t as usize, 1)
 }
 
 // Thread t gets a status and a node; its slots stay.
-fn put_head(state: &mut [u8], t: u32, status: u32, node: u32)
-    requires { ⌜ length (now state) ≡ stateLength ⌝ }
+fn put_head(state: &mut [u32; state::WORDS], t: u32, status: u32, node: u32)
     requires { ⌜ t < 64 ⌝ }
-    ensures { λ _. ⌜ view (now (state .exit)) ≡ withThread (view (now (state .entry))) t (status ∷ node ∷ slotsOf (thread (view (now (state .entry))) t)) ⌝ }
+    ensures { λ _. ⌜ stateOf (now (state .exit)) ≡ withThread (stateOf (now (state .entry))) t (status ∷ node ∷ slotsOf (thread (stateOf (now (state .entry))) t)) ⌝ }
 {
+    // as a slice the state tells its length
+    let words: &[u32] = state;
     state::put_thread(state, t as usize, 0, status);
     state::put_thread(state, t as usize, 1, node);
 }
 
 // Slot k of thread t gets v.
-pub fn store(state: &mut [u8], t: u32, k: u32, v: u32)
-    ensures { λ _. ⌜ view (now (state .exit)) ≡ withThread (view (now (state .entry))) t (stored (thread (view (now (state .entry))) t) k v) ⌝ }
+pub fn store(state: &mut [u32; state::WORDS], t: u32, k: u32, v: u32)
+    ensures { λ _. ⌜ stateOf (now (state .exit)) ≡ withThread (stateOf (now (state .entry))) t (stored (thread (stateOf (now (state .entry))) t) k v) ⌝ }
 {
     state::put_thread(state, t as usize, 2 + k as usize, v);
 }
 
 // Thread t goes on, ready, at a node; or it waits where it stands.
-pub fn resume(state: &mut [u8], t: u32, node: u32)
-    requires { ⌜ length (now state) ≡ stateLength ⌝ }
+pub fn resume(state: &mut [u32; state::WORDS], t: u32, node: u32)
     requires { ⌜ t < 64 ⌝ }
-    ensures { λ _. ⌜ view (now (state .exit)) ≡ withThread (view (now (state .entry))) t (resumed (thread (view (now (state .entry))) t) node) ⌝ }
+    ensures { λ _. ⌜ stateOf (now (state .exit)) ≡ withThread (stateOf (now (state .entry))) t (resumed (thread (stateOf (now (state .entry))) t) node) ⌝ }
 {
     put_head(state, t, 1, node);
 }
 
-pub fn write_waiting(state: &mut [u8], t: u32)
-    requires { ⌜ length (now state) ≡ stateLength ⌝ }
+pub fn write_waiting(state: &mut [u32; state::WORDS], t: u32)
     requires { ⌜ t < 64 ⌝ }
-    ensures { λ _. ⌜ view (now (state .exit)) ≡ withThread (view (now (state .entry))) t (waitingRow (thread (view (now (state .entry))) t)) ⌝ }
+    ensures { λ _. ⌜ stateOf (now (state .exit)) ≡ withThread (stateOf (now (state .entry))) t (waitingRow (thread (stateOf (now (state .entry))) t)) ⌝ }
 {
     let node = stands_at(state, t);
     put_head(state, t, 2, node);
 }
 
 // Thread t's slots; its status and its node stay.
-fn put_slots(state: &mut [u8], t: u32, slots: &[u32])
-    requires { ⌜ length (now state) ≡ stateLength ⌝ }
+fn put_slots(state: &mut [u32; state::WORDS], t: u32, slots: &[u32; SLOTS])
     requires { ⌜ t < 64 ⌝ }
-    requires { ⌜ length (now slots) ≡ rowSlots ⌝ }
-    ensures { λ _. ⌜ view (now (state .exit)) ≡ withThread (view (now (state .entry))) t (reslotted (thread (view (now (state .entry))) t) (now (slots .entry))) ⌝ }
+    ensures { λ _. ⌜ stateOf (now (state .exit)) ≡ withThread (stateOf (now (state .entry))) t (reslotted (thread (stateOf (now (state .entry))) t) (now (slots .entry))) ⌝ }
 {
+    // as a slice the state tells its length
+    let words: &[u32] = state;
+    let given: &[u32] = slots;
     for k in 0..ROW_SLOTS {
-        let v = numbers::cell_at(slots, k as usize);
+        let v = numbers::cell_at(given, k as usize);
         store(state, t, k, v);
     }
 }
 
 // All of thread t's row: a status, a node and sixteen slots.
-pub fn put_row(state: &mut [u8], t: u32, status: u32, node: u32, slots: &[u32])
-    requires { ⌜ length (now state) ≡ stateLength ⌝ }
+pub fn put_row(
+    state: &mut [u32; state::WORDS],
+    t: u32,
+    status: u32,
+    node: u32,
+    slots: &[u32; SLOTS],
+)
     requires { ⌜ t < 64 ⌝ }
-    requires { ⌜ length (now slots) ≡ rowSlots ⌝ }
-    ensures { λ _. ⌜ view (now (state .exit)) ≡ withThread (view (now (state .entry))) t (status ∷ node ∷ now (slots .entry)) ⌝ }
+    ensures { λ _. ⌜ stateOf (now (state .exit)) ≡ withThread (stateOf (now (state .entry))) t (status ∷ node ∷ now (slots .entry)) ⌝ }
 {
     put_head(state, t, status, node);
     put_slots(state, t, slots);
 }
 
 // Thread t's row is free.
-pub fn write_free(state: &mut [u8], t: u32)
-    requires { ⌜ length (now state) ≡ stateLength ⌝ }
+pub fn write_free(state: &mut [u32; state::WORDS], t: u32)
     requires { ⌜ t < 64 ⌝ }
-    ensures { λ _. ⌜ view (now (state .exit)) ≡ withThread (view (now (state .entry))) t freeRow ⌝ }
+    ensures { λ _. ⌜ stateOf (now (state .exit)) ≡ withThread (stateOf (now (state .entry))) t freeRow ⌝ }
 {
-    let slots = [0u32; 16];
+    let slots = [0u32; SLOTS];
     put_row(state, t, 0, 0, &slots);
 }
 
 // The slots of thread t.
-pub fn copy_slots(state: &[u8], t: u32, slots: &mut [u32])
-    requires { ⌜ length (now state) ≡ stateLength ⌝ }
+pub fn copy_slots(state: &[u32; state::WORDS], t: u32, slots: &mut [u32; SLOTS])
     requires { ⌜ t < 64 ⌝ }
     requires { ⌜ now slots ≡ replicate rowSlots 0 ⌝ }
-    ensures { λ _. ⌜ now (slots .exit) ≡ slotsOf (thread (view (now (state .entry))) t) ⌝ }
+    ensures { λ _. ⌜ now (slots .exit) ≡ slotsOf (thread (stateOf (now (state .entry))) t) ⌝ }
 {
+    // as a slice the state tells its length
+    let words: &[u32] = state;
     for k in 0..ROW_SLOTS {
         numbers::put_cell(slots, k as usize, program::slot(state, t, k));
     }
@@ -117,7 +123,7 @@ fn entry_at(table: &[u8], index: &[u32], d: u32, k: u32, given: u32) -> u32
     requires { ⌜ Indexed (tableOf (now table)) (now index) ⌝ }
     ensures { λ r. ⌜ r ≡ entryAt (tableOf (now (table .entry))) d given k ⌝ }
 {
-    if k < table::parameters_of(table, d) {
+    if k < table::parameter_count_of(table, index, d) {
         return given;
     }
     program::blank_of(table, index, d, k)
@@ -138,22 +144,24 @@ fn last_slot(p: u32, n: u32) -> u32
 // Slot k as the call in a row enters a definition with p parameters among n slots, whose types stand from a row on.
 fn call_slot(
     table: &[u8],
+    index: &[u32],
     row: usize,
     from: usize,
     p: u32,
     n: u32,
-    state: &[u8],
+    state: &[u32; state::WORDS],
     t: u32,
     k: u32,
 ) -> u32
+    requires { ⌜ Indexed (tableOf (now table)) (now index) ⌝ }
     requires { ⌜ from ≤ 12713792 ⌝ }
-    ensures { λ r. ⌜ r ≡ callBy (tableOf (now (table .entry))) row from p n (thread (view (now (state .entry))) t) k ⌝ }
+    ensures { λ r. ⌜ r ≡ callBy (tableOf (now (table .entry))) row from p n (thread (stateOf (now (state .entry))) t) k ⌝ }
 {
     if k < p {
-        return program::slot(state, t, table::cell(table, row, 3 + k as usize));
+        return program::slot(state, t, table::cell_of(table, index, row, 3 + k as usize));
     }
     if k < n {
-        if table::cell(table, from + k as usize, 1) == 0 {
+        if table::cell_of(table, index, from + k as usize, 1) == 0 {
             return 0;
         }
         return MINUS_ONE;
@@ -164,24 +172,26 @@ fn call_slot(
 // All slots, read before any is written.
 fn lay_call(
     table: &[u8],
+    index: &[u32],
     row: usize,
     from: usize,
     p: u32,
     n: u32,
-    state: &[u8],
+    state: &[u32; state::WORDS],
     t: u32,
-    slots: &mut [u32],
+    slots: &mut [u32; SLOTS],
 )
+    requires { ⌜ Indexed (tableOf (now table)) (now index) ⌝ }
     requires { ⌜ from ≤ 12713792 ⌝ }
     requires { ⌜ now slots ≡ replicate rowSlots 0 ⌝ }
-    ensures { λ _. ⌜ now (slots .exit) ≡ tabulate rowSlots (callBy (tableOf (now (table .entry))) row from p n (thread (view (now (state .entry))) t)) ⌝ }
+    ensures { λ _. ⌜ now (slots .exit) ≡ tabulate rowSlots (callBy (tableOf (now (table .entry))) row from p n (thread (stateOf (now (state .entry))) t)) ⌝ }
 {
     let last = last_slot(p, n);
     for k in 0..last {
         numbers::put_cell(
             slots,
             k as usize,
-            call_slot(table, row, from, p, n, state, t, k),
+            call_slot(table, index, row, from, p, n, state, t, k),
         );
     }
 }
@@ -192,53 +202,72 @@ fn types_from(table: &[u8], index: &[u32], d: u32) -> usize
     ensures { λ r. ⌜ r ≡ slotRow (tableOf (now (table .entry))) + start (tableOf (now (table .entry))) Slots d ⌝ }
     ensures { λ r. ⌜ r ≤ 12713792 ⌝ }
 {
-    table::slot_row(table) + table::start_of(table, index, Part::Slots, d) as usize
+    table::slot_row_of(table, index) + table::start_of(table, index, Part::Slots, d) as usize
 }
 
 // All slots with which the call at thread t's node enters definition d.
-fn call_slots(table: &[u8], index: &[u32], state: &[u8], t: u32, d: u32, slots: &mut [u32])
+fn call_slots(
+    table: &[u8],
+    index: &[u32],
+    state: &[u32; state::WORDS],
+    t: u32,
+    d: u32,
+    slots: &mut [u32; SLOTS],
+)
     requires { ⌜ Indexed (tableOf (now table)) (now index) ⌝ }
     requires { ⌜ now slots ≡ replicate rowSlots 0 ⌝ }
-    ensures { λ _. ⌜ now (slots .exit) ≡ tabulate rowSlots (callAt (tableOf (now (table .entry))) (thread (view (now (state .entry))) t) d) ⌝ }
+    ensures { λ _. ⌜ now (slots .exit) ≡ tabulate rowSlots (callAt (tableOf (now (table .entry))) (thread (stateOf (now (state .entry))) t) d) ⌝ }
 {
-    let row = table::node_row(table) + stands_at(state, t) as usize;
+    let row = table::node_row_of(table, index) + stands_at(state, t) as usize;
     let from = types_from(table, index, d);
-    let p = table::parameters_of(table, d);
-    let n = table::slots_of(table, d);
-    lay_call(table, row, from, p, n, state, t, slots);
+    let p = table::parameter_count_of(table, index, d);
+    let n = table::slot_count_of(table, index, d);
+    lay_call(table, index, row, from, p, n, state, t, slots);
 }
 
 // Whether slot k gets by the call in a row what it has, if it is a channel slot.
 fn slot_keeps(
     table: &[u8],
+    index: &[u32],
     row: usize,
     from: usize,
     p: u32,
     n: u32,
-    state: &[u8],
+    state: &[u32; state::WORDS],
     t: u32,
     k: u32,
 ) -> bool
+    requires { ⌜ Indexed (tableOf (now table)) (now index) ⌝ }
     requires { ⌜ from ≤ 12713792 ⌝ }
-    ensures { λ r. ⌜ r ≡ keptBy (tableOf (now (table .entry))) row from p n (thread (view (now (state .entry))) t) k ⌝ }
+    ensures { λ r. ⌜ r ≡ keptBy (tableOf (now (table .entry))) row from p n (thread (stateOf (now (state .entry))) t) k ⌝ }
 {
     if k < n {
-        if table::cell(table, from + k as usize, 1) == 0 {
+        if table::cell_of(table, index, from + k as usize, 1) == 0 {
             return true;
         }
-        return call_slot(table, row, from, p, n, state, t, k) == program::slot(state, t, k);
+        return call_slot(table, index, row, from, p, n, state, t, k) == program::slot(state, t, k);
     }
     true
 }
 
 // ... all channel slots.
-fn slots_keep(table: &[u8], row: usize, from: usize, p: u32, n: u32, state: &[u8], t: u32) -> bool
+fn slots_keep(
+    table: &[u8],
+    index: &[u32],
+    row: usize,
+    from: usize,
+    p: u32,
+    n: u32,
+    state: &[u32; state::WORDS],
+    t: u32,
+) -> bool
+    requires { ⌜ Indexed (tableOf (now table)) (now index) ⌝ }
     requires { ⌜ from ≤ 12713792 ⌝ }
-    ensures { λ r. ⌜ r ≡ every (keptBy (tableOf (now (table .entry))) row from p n (thread (view (now (state .entry))) t)) rowSlots ⌝ }
+    ensures { λ r. ⌜ r ≡ every (keptBy (tableOf (now (table .entry))) row from p n (thread (stateOf (now (state .entry))) t)) rowSlots ⌝ }
 {
     let last = last_slot(p, n);
     for k in 0..last {
-        if !slot_keeps(table, row, from, p, n, state, t, k) {
+        if !slot_keeps(table, index, row, from, p, n, state, t, k) {
             return false;
         }
     }
@@ -246,27 +275,27 @@ fn slots_keep(table: &[u8], row: usize, from: usize, p: u32, n: u32, state: &[u8
 }
 
 // Whether the call at thread t's node is to its own definition and every channel slot gets what it has.
-pub fn call_keeps(table: &[u8], index: &[u32], state: &[u8], t: u32) -> bool
+pub fn call_keeps(table: &[u8], index: &[u32], state: &[u32; state::WORDS], t: u32) -> bool
     requires { ⌜ Indexed (tableOf (now table)) (now index) ⌝ }
-    ensures { λ r. ⌜ r ≡ callKeeps (tableOf (now (table .entry))) (thread (view (now (state .entry))) t) ⌝ }
+    ensures { λ r. ⌜ r ≡ callKeeps (tableOf (now (table .entry))) (thread (stateOf (now (state .entry))) t) ⌝ }
 {
     let node = stands_at(state, t);
-    let row = table::node_row(table) + node as usize;
-    let d = table::cell(table, row, 2);
+    let row = table::node_row_of(table, index) + node as usize;
+    let d = table::cell_of(table, index, row, 2);
     if program::definition_of(table, index, node) == d {
         let entry = table::start_of(table, index, Part::Nodes, d);
         if program::definition_of(table, index, entry) == d {
             let from = types_from(table, index, d);
-            let p = table::parameters_of(table, d);
-            let n = table::slots_of(table, d);
-            return slots_keep(table, row, from, p, n, state, t);
+            let p = table::parameter_count_of(table, index, d);
+            let n = table::slot_count_of(table, index, d);
+            return slots_keep(table, index, row, from, p, n, state, t);
         }
     }
     false
 }
 
 // The slots with which thread 0 starts: parameter k is port k.
-fn port_slots(table: &[u8], index: &[u32], slots: &mut [u32])
+fn port_slots(table: &[u8], index: &[u32], slots: &mut [u32; SLOTS])
     requires { ⌜ Indexed (tableOf (now table)) (now index) ⌝ }
     requires { ⌜ now slots ≡ replicate rowSlots 0 ⌝ }
     ensures { λ _. ⌜ now (slots .exit) ≡ tabulate rowSlots (portAt (tableOf (now (table .entry)))) ⌝ }
@@ -277,16 +306,16 @@ fn port_slots(table: &[u8], index: &[u32], slots: &mut [u32])
 }
 
 // Thread t makes the call at its node.
-pub fn write_call(table: &[u8], index: &[u32], state: &mut [u8], t: u32)
+pub fn write_call(table: &[u8], index: &[u32], state: &mut [u32; state::WORDS], t: u32)
     requires { ⌜ Indexed (tableOf (now table)) (now index) ⌝ }
-    requires { ⌜ length (now state) ≡ stateLength ⌝ }
     requires { ⌜ t < 64 ⌝ }
-    ensures { λ _. ⌜ view (now (state .exit)) ≡ written (tableOf (now (table .entry))) (view (now (state .entry))) t Calls ⌝ }
+    ensures { λ _. ⌜ stateOf (now (state .exit)) ≡ written (tableOf (now (table .entry))) (stateOf (now (state .entry))) t Calls ⌝ }
 {
-    let mut slots = [0u32; 16];
-    let d = table::cell(
+    let mut slots = [0u32; SLOTS];
+    let d = table::cell_of(
         table,
-        table::node_row(table) + stands_at(state, t) as usize,
+        index,
+        table::node_row_of(table, index) + stands_at(state, t) as usize,
         2,
     );
     call_slots(table, index, state, t, d, &mut slots);
@@ -295,12 +324,11 @@ pub fn write_call(table: &[u8], index: &[u32], state: &mut [u8], t: u32)
 }
 
 // Thread 0 enters definition 0 with the ports.
-pub fn write_start(table: &[u8], index: &[u32], state: &mut [u8])
+pub fn write_start(table: &[u8], index: &[u32], state: &mut [u32; state::WORDS])
     requires { ⌜ Indexed (tableOf (now table)) (now index) ⌝ }
-    requires { ⌜ length (now state) ≡ stateLength ⌝ }
-    ensures { λ _. ⌜ view (now (state .exit)) ≡ withThread (view (now (state .entry))) 0 (entered (tableOf (now (table .entry))) 0 (λ k. k)) ⌝ }
+    ensures { λ _. ⌜ stateOf (now (state .exit)) ≡ withThread (stateOf (now (state .entry))) 0 (entered (tableOf (now (table .entry))) 0 (λ k. k)) ⌝ }
 {
-    let mut slots = [0u32; 16];
+    let mut slots = [0u32; SLOTS];
     port_slots(table, index, &mut slots);
     let node = table::start_of(table, index, Part::Nodes, 0);
     put_row(state, 0, 1, node, &slots);

@@ -11,7 +11,5 @@ go-on-spec =
     (λ c. search needs)
     (λ c. search needs)
     (λ c κs. search needs)
-    (λ c. search needs)
     (λ c. search goings)
-    (λ c. search needs)
     (λ c. search goings))

@@ -1,4 +1,4 @@
-use Rattle.branches.specs.Keeping.{goneKeeps}
+use Rattle.branches.specs.Way.{goneKeeps}
 use borrow.Author.Needs.{needs}
 use Rattle.branches.proofs.gone_keeps.Statement.{statement}
 use Rattle.branches.proofs.gone_keeps.Tie as tie
@@ -8,9 +8,6 @@ unfolding goneKeeps
 gone-keeps-spec =
     tie.close
     (tie.spec
-    (λ c κs. search needs)
-    (λ c κs. search needs)
-    (λ c κs. search needs)
     (λ c κs. search needs)
     (λ c κs. search needs)
     (λ c κs. search needs)

@@ -1,4 +1,4 @@
-use Rattle.branches.specs.Keeping.{metKeeps}
+use Rattle.branches.specs.Way.{metKeeps}
 use borrow.Author.Needs.{needs}
 use Rattle.branches.proofs.met_keeps.Statement.{statement}
 use Rattle.branches.proofs.met_keeps.Tie as tie
@@ -8,9 +8,6 @@ unfolding metKeeps
 met-keeps-spec =
     tie.close
     (tie.spec
-    (λ c κs. search needs)
-    (λ c κs. search needs)
-    (λ c κs. search needs)
     (λ c κs. search needs)
     (λ c κs. search needs)
     (λ c κs. search needs)

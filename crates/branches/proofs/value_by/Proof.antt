@@ -1,14 +1,13 @@
-use Rattle.rules.specs.Moves.{valueBy}
+use Rattle.branches.specs.Way.{valueAlong}
 use borrow.Author.Needs.{needs}
 use Rattle.branches.proofs.value_by.Statement.{statement}
 use Rattle.branches.proofs.value_by.Tie as tie
 
 pub value-by-spec : {M : Type 1} → statement M
-unfolding valueBy
+unfolding valueAlong
 value-by-spec =
     tie.close
     (tie.spec
-    (λ c κs. search needs)
     (λ c κs. search needs)
     (λ c κs. search needs)
     (λ c. cc))

@@ -9,5 +9,4 @@ write-both-spec =
     (tie.spec
     (λ c κs. search needs)
     (λ c κs. search needs)
-    (λ c. search needs)
     (λ c. search both-go))

@@ -1,19 +1,14 @@
-use Rattle.rules.specs.Moves.{goneBy}
+use Rattle.branches.specs.Way.{goneAlong}
 use borrow.Author.Needs.{needs}
 use Rattle.branches.proofs.write_gone.Statement.{statement}
 use Rattle.branches.proofs.write_gone.Tie as tie
 
 pub write-gone-spec : {M : Type 1} → statement M
-unfolding goneBy
+unfolding goneAlong
 write-gone-spec =
     tie.close
     (tie.spec
     (λ c κs. search needs)
     (λ c κs. search needs)
     (λ c κs. search needs)
-    (λ c κs. search needs)
-    (λ c κs. search needs)
-    (λ c κs. search needs)
-    (λ c κs. search needs)
-    (λ c. search needs)
     (λ c. cc))

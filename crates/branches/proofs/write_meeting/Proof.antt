@@ -10,5 +10,4 @@ write-meeting-spec =
     (λ c κs. search needs)
     (λ c κs. search needs)
     (λ c κs. search needs)
-    (λ c. search needs)
     (λ c. search meeting-goes-on))

@@ -1,19 +1,14 @@
-use Rattle.rules.specs.Moves.{metBy}
+use Rattle.branches.specs.Way.{metAlong}
 use borrow.Author.Needs.{needs}
 use Rattle.branches.proofs.write_met.Statement.{statement}
 use Rattle.branches.proofs.write_met.Tie as tie
 
 pub write-met-spec : {M : Type 1} → statement M
-unfolding metBy
+unfolding metAlong
 write-met-spec =
     tie.close
     (tie.spec
     (λ c κs. search needs)
     (λ c κs. search needs)
     (λ c κs. search needs)
-    (λ c κs. search needs)
-    (λ c κs. search needs)
-    (λ c κs. search needs)
-    (λ c κs. search needs)
-    (λ c. search needs)
     (λ c. cc))

@@ -6,25 +6,27 @@ use mathlib.Core.Bool.{Bool, true, false, _&&_, cond}
 use mathlib.Core.List.{List, _∷_}
 use borrow.Author.Tests.{eqb-true, eqb-false}
 use lib.Dec.{ltb, eqb}
-use lib.ListN.{getD, set, drop}
-use lib.Seq.{getD-set-same, getD-set-other, getD-drop}
+use lib.ListN.{getD, drop}
+use lib.Seq.{getD-set-other, getD-drop}
 use Rattle.numbers.specs.Search.{every, tabulate}
 use Rattle.numbers.specs.Search.Laws.{caseB, contra, every-elim, some-cong, getD-tabulate}
 use Rattle.table.specs.Table.{Table, parameters, slotCount}
 use Rattle.table.specs.Layout.{start, definitionOf, slotType}
 use Rattle.table.specs.declared.Part.the-variants.{Nodes}
 use Rattle.state.specs.State.{status, standsAt, slotOf, inUse, isWaiting}
-use Rattle.rules.specs.Program.{channelSlot, blank, callee, argument, nextOf, fieldA, fieldB, actOf, assigned}
+use Rattle.rules.specs.Program.{channelSlot, blank, callee, argument, fieldA, fieldB, assigned}
 use Rattle.rules.specs.Holding.{hasAt, holds}
 use Rattle.rules.specs.Start.{entered}
-use Rattle.rules.specs.Moves.{resumed, waitingRow, stored, met, gone, rowOf, sideOf, goneBy, metBy}
+use Rattle.rules.specs.Moves.{resumed, waitingRow, stored, met, gone, sideOf}
 use Rattle.rules.specs.declared.Direction.{Direction}
 use Rattle.rules.specs.declared.Direction.the-variants.{Out, In}
 use Rattle.rules.specs.declared.Act.{Act}
 use Rattle.rules.specs.declared.Act.the-variants.{Tau, Meeting, New, Spawn, Assignment}
 use Rattle.writes.specs.Rows.{entryAt, callAt}
 use Rattle.writes.specs.Calling.{slotKept, callKeeps}
-use Rattle.branches.specs.Keeping.{within, spares, actKeeps, sideKeeps, goneKeeps, metKeeps}
+use Rattle.branches.specs.Keeping.{within, spares, actKeeps, sideKeeps}
+use Rattle.branches.specs.Way.{metAlong, goneAlong, metKeeps, goneKeeps}
+use Rattle.branches.specs.declared.Way.{Way}
 
 both : (a b : Bool) → (a && b) ≡ true → (a ≡ true) × (b ≡ true)
 both true true e = (refl, refl)
@@ -115,13 +117,13 @@ module _ (tb : Table) (row : List ℕ) (u : inUse row ≡ true) where
     side-holds Out e = resumed-holds e
     side-holds In e = stored-holds e
 
-  pub gone-holds : (i : ℕ) → goneKeeps tb row i ≡ true → (c : ℕ) → holds tb (goneBy tb row i) c ≡ holds tb row c
-  unfolding goneKeeps goneBy
-  gone-holds i e = act-holds (nextOf tb (standsAt row) (rowOf tb row i)) (fieldA tb (rowOf tb row i)) (assigned tb (rowOf tb row i) row) (actOf tb (rowOf tb row i)) e
+  pub gone-holds : (w : Way) → goneKeeps tb row w ≡ true → (c : ℕ) → holds tb (goneAlong tb row w) c ≡ holds tb row c
+  unfolding goneKeeps goneAlong
+  gone-holds w e = act-holds (w .next) (fieldA tb (w .row)) (assigned tb (w .row) row) (w .act) e
 
-  pub met-holds : (i v : ℕ) → metKeeps tb row i ≡ true → (c : ℕ) → holds tb (metBy tb row i v) c ≡ holds tb row c
-  unfolding metKeeps metBy
-  met-holds i v e = side-holds (nextOf tb (standsAt row) (rowOf tb row i)) (fieldB tb (rowOf tb row i)) v (sideOf (actOf tb (rowOf tb row i))) e
+  pub met-holds : (w : Way) (v : ℕ) → metKeeps tb row w ≡ true → (c : ℕ) → holds tb (metAlong tb row w v) c ≡ holds tb row c
+  unfolding metKeeps metAlong
+  met-holds w v e = side-holds (w .next) (fieldB tb (w .row)) v (sideOf (w .act)) e
 
   -- a call of its own definition, by which every channel slot gets what it has
   pub call-holds : callKeeps tb row ≡ true → (c : ℕ) → holds tb (entered tb (callee tb (standsAt row)) (λ k. slotOf row (argument tb (standsAt row) k))) c ≡ holds tb row c
@@ -155,14 +157,14 @@ unfolding met
 met-status Out row n k v = resumed-status row n
 met-status In row n k v = stored-status (resumed row n) k v ∙ resumed-status row n
 
-module _ (tb : Table) (row : List ℕ) (i : ℕ) where
-  pub gone-ready : isWaiting (goneBy tb row i) ≡ false
-  unfolding goneBy
-  gone-ready = rw (gone-status (actOf tb (rowOf tb row i)) row (nextOf tb (standsAt row) (rowOf tb row i)) (fieldA tb (rowOf tb row i)) (assigned tb (rowOf tb row i) row))
+module _ (tb : Table) (row : List ℕ) (w : Way) where
+  pub gone-ready : isWaiting (goneAlong tb row w) ≡ false
+  unfolding goneAlong
+  gone-ready = rw (gone-status (w .act) row (w .next) (fieldA tb (w .row)) (assigned tb (w .row) row))
 
-  pub met-ready : (v : ℕ) → isWaiting (metBy tb row i v) ≡ false
-  unfolding metBy
-  met-ready v = rw (met-status (sideOf (actOf tb (rowOf tb row i))) row (nextOf tb (standsAt row) (rowOf tb row i)) (fieldB tb (rowOf tb row i)) v)
+  pub met-ready : (v : ℕ) → isWaiting (metAlong tb row w v) ≡ false
+  unfolding metAlong
+  met-ready v = rw (met-status (sideOf (w .act)) row (w .next) (fieldB tb (w .row)) v)
 
 pub waiting-waits : (row : List ℕ) → isWaiting (waitingRow row) ≡ true
 unfolding waitingRow

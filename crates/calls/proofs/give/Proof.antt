@@ -11,11 +11,9 @@ give-spec =
     (tie.spec
     (λ c κs. search needs)
     (λ c. search give-refused)
-    (λ c κs. (search, (search, search used-all)))
+    (λ c κs. (search, search used-all))
     (λ c. search needs)
     (λ c. search needs)
-    (λ c κs. (search, (search, (search partner-below, search))))
-    (λ c. search needs)
+    (λ c κs. (search, (search partner-below, search)))
     (λ c. search (give-nobody, give-met))
-    (λ c. search needs)
     (λ c. search (give-nobody, give-met)))

@@ -1,12 +1,9 @@
 -- `calls::run` meets its contract. The loop: the whole run is i steps, and then the run of what is left from the state now; no row is in use from
 -- the number kept on. Assumes nothing.
-use Prim.Native.Nat.{ℕ, _≤_, _-_}
+use Prim.Native.Nat.{_≤_, _-_}
 use mathlib.Core.Path.{_≡_}
-use lib.ListN.{length, getD}
-use mir.Syntax.{w8}
-use mir.Val.{Fits}
 use Rattle.table.specs.Table.{tableOf}
-use Rattle.state.specs.State.{view}
+use Rattle.state.specs.State.{stateOf}
 use Rattle.moves.specs.Top.{UsedBelow}
 use Rattle.rules.specs.Holding.{settled}
 use Rattle.rules.specs.Calls.{courseOf}
@@ -18,8 +15,8 @@ use Rattle.calls.proofs.run.Tie as tie
 
 abbrev Inv-loop : tie.InvT-loop
 Inv-loop table index state₀ n top₀ i₀ state top i =
-    (i ≤ n) × (length state ≡ length state₀) × (settled (tableOf table) (view state) ≡ view state) × UsedBelow (view state) top × ((j : ℕ) → Fits w8 (getD state j 0))
-    × (courseOf (tableOf table) n (view state₀) ≡ after i (courseOf (tableOf table) (n - i) (view state)))
+    (i ≤ n) × (settled (tableOf table) (stateOf state) ≡ stateOf state) × UsedBelow (stateOf state) top
+    × (courseOf (tableOf table) n (stateOf state₀) ≡ after i (courseOf (tableOf table) (n - i) (stateOf state)))
 
 abbrev μ-loop : tie.MeasureT-loop
 μ-loop table index state₀ n top₀ i₀ state top i = n - i
@@ -31,15 +28,13 @@ run-spec =
     Inv-loop
     μ-loop
     (λ c κs. search needs)
-    (λ c. (search needs, search needs, search needs, search needs, search needs, search course-none))
-    (λ c κs. (search, (search needs, (search, search))))
+    (λ c. (search needs, search needs, search needs, search course-none))
+    (λ c κs. (search, (search, search)))
     (λ c. search needs)
     (λ c. search needs)
     (λ c. search needs)
+    (λ c. run-stopped _ _ _ _ _ (stateOf (c .before .before .before .before .before .before .loop .state)) (c .before .before .before .take-turn .result .turn) _ (search) (search) (search) (search needs))
     (λ c. search needs)
-    (λ c. run-stopped _ _ _ _ (search needs) (search) (search needs) _ (view (c .before .before .before .before .before .before .before .before .loop .state)) (c .before .before .before .before .before .take-turn .result .turn) _ (search) (search) (search) (search needs))
     (λ c. search needs)
-    (λ c. search needs)
-    (λ c. (search needs, search needs, search needs, search needs, search needs, search course-more))
-    (λ c. search needs)
-    (λ c. run-all _ _ _ _ (search needs) (search) (search needs) (c .before .loop .i) (search) (search needs) (search needs)))
+    (λ c. (search needs, search needs, search needs, search course-more))
+    (λ c. run-all _ _ _ _ (c .before .loop .i) (search) (search needs) (search needs)))

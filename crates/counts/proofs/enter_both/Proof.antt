@@ -9,5 +9,4 @@ enter-both-spec =
     (tie.spec
     (λ c κs. search needs)
     (λ c κs. search needs)
-    (λ c. search needs)
     (λ c. search entered-both))

@@ -1,21 +1,20 @@
 -- `counts::note` meets its contract. The loop: the own channels of the slots before the k-th are listed. Assumes nothing.
 use Prim.Native.Nat.{_≤_, _-_}
 use mathlib.Core.Path.{_≡_}
-use lib.ListN.{length}
 use borrow.Author.Needs.{needs}
 use Rattle.table.specs.Table.{tableOf}
-use Rattle.state.specs.State.{view, thread}
+use Rattle.state.specs.State.{stateOf, thread}
 use Rattle.counts.specs.Own.Listing.{listedTo}
 use Rattle.counts.proofs.Listings.{note-none, note-more, note-all}
 use Rattle.counts.proofs.note.Statement.{statement}
 use Rattle.counts.proofs.note.Tie as tie
 
 abbrev Inv-loop : tie.InvT-loop
-Inv-loop table from n state t list₀ last k₀ list k =
-    (k ≤ last) × (length list ≡ length list₀) × (list ≡ listedTo (tableOf table) from n (thread (view state) t) list₀ k)
+Inv-loop table index from n state t list₀ last k₀ list k =
+    (k ≤ last) × (list ≡ listedTo (tableOf table) from n (thread (stateOf state) t) list₀ k)
 
 abbrev μ-loop : tie.MeasureT-loop
-μ-loop table from n state t list₀ last k₀ list k = last - k
+μ-loop table index from n state t list₀ last k₀ list k = last - k
 
 pub note-spec : {M : Type 1} → statement M
 note-spec =
@@ -31,5 +30,4 @@ note-spec =
     (λ c. search needs)
     (λ c. search needs)
     (λ c. search (note-more, needs))
-    (λ c. search needs)
     (λ c. (search note-all, (search, search))))

@@ -13,5 +13,4 @@ own-channels-spec =
     (λ c κs. search needs)
     (λ c κs. search needs)
     (λ c κs. search needs)
-    (λ c. search needs)
     (λ c. (search taken-list, (search taken-room, search))))

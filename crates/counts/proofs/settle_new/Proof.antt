@@ -10,5 +10,4 @@ settle-new-spec =
     (λ c κs. search needs)
     (λ c κs. search needs)
     (λ c κs. search needs)
-    (λ c. search needs)
     (λ c. search settle-new-is))

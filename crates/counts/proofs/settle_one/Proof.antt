@@ -9,5 +9,4 @@ settle-one-spec =
     (tie.spec
     (λ c κs. search needs)
     (λ c κs. search needs)
-    (λ c. search needs)
     (λ c. search settle-one-is))

@@ -13,6 +13,5 @@ shift-spec =
     (λ c κs. search needs)
     (λ c κs. search needs)
     (λ c κs. search needs)
-    (λ c. search needs)
     (λ c. search shift-in)
     (λ c. search shift-out))

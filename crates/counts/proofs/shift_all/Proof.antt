@@ -1,17 +1,16 @@
 -- `counts::shift_all` meets its contract. The loop: the channels before the i-th of the list have moved. Assumes nothing.
 use Prim.Native.Nat.{_≤_, _-_}
 use mathlib.Core.Path.{_≡_}
-use lib.ListN.{length}
 use borrow.Author.Needs.{needs}
-use Rattle.state.specs.State.{view}
+use Rattle.state.specs.State.{stateOf}
 use Rattle.counts.specs.Shift.{shiftedTo}
-use Rattle.counts.proofs.Shifts.{byte-fits, shifts}
+use Rattle.counts.proofs.Shifts.{shifts}
 use Rattle.counts.proofs.shift_all.Statement.{statement}
 use Rattle.counts.proofs.shift_all.Tie as tie
 
 abbrev Inv-loop : tie.InvT-loop
 Inv-loop state₀ list dn dw i₀ i-end state i =
-    (i ≤ i-end) × (length state ≡ length state₀) × (view state ≡ shiftedTo (view state₀) list dn dw i)
+    (i ≤ i-end) × (stateOf state ≡ shiftedTo (stateOf state₀) list dn dw i)
 
 abbrev μ-loop : tie.MeasureT-loop
 μ-loop state₀ list dn dw i₀ i-end state i = i-end - i
@@ -24,10 +23,9 @@ shift-all-spec =
     μ-loop
     (λ c. search (shifts, needs))
     (λ c. search needs)
-    (λ c. search byte-fits)
+    (λ c κs. search needs)
     (λ c κs. search needs)
     (λ c. search needs)
     (λ c. search needs)
     (λ c. search (shifts, needs))
-    (λ c. search needs)
     (λ c. search shifts))

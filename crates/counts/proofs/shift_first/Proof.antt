@@ -1,17 +1,16 @@
 -- `counts::shift_first` meets its contract. The loop: the channels before the i-th of the list have moved. Assumes nothing.
 use Prim.Native.Nat.{_≤_, _-_}
 use mathlib.Core.Path.{_≡_}
-use lib.ListN.{length}
 use borrow.Author.Needs.{needs}
-use Rattle.state.specs.State.{view}
+use Rattle.state.specs.State.{stateOf}
 use Rattle.counts.specs.Shift.{shiftedTo}
-use Rattle.counts.proofs.Shifts.{byte-fits, shifts-none, shifts-more, first-shifted}
+use Rattle.counts.proofs.Shifts.{shifts-none, shifts-more, first-shifted}
 use Rattle.counts.proofs.shift_first.Statement.{statement}
 use Rattle.counts.proofs.shift_first.Tie as tie
 
 abbrev Inv-loop : tie.InvT-loop
 Inv-loop state₀ list n dn dw i₀ state i =
-    (i ≤ n) × (length state ≡ length state₀) × (view state ≡ shiftedTo (view state₀) list dn dw i)
+    (i ≤ n) × (stateOf state ≡ shiftedTo (stateOf state₀) list dn dw i)
 
 abbrev μ-loop : tie.MeasureT-loop
 μ-loop state₀ list n dn dw i₀ state i = n - i
@@ -25,10 +24,9 @@ shift-first-spec =
     (λ c. search (shifts-none, needs))
     (λ c. search needs)
     (λ c. search needs)
-    (λ c. search byte-fits)
+    (λ c κs. search needs)
     (λ c κs. search needs)
     (λ c. search needs)
     (λ c. search needs)
     (λ c. search (shifts-more, needs))
-    (λ c. search needs)
     (λ c. search first-shifted))

@@ -7,9 +7,6 @@ pub shift-own-spec : {M : Type 1} → statement M
 shift-own-spec =
     tie.close
     (tie.spec
-    (λ c. search needs)
     (λ c κs. search needs)
-    (λ c. search needs)
     (λ c κs. search needs)
-    (λ c. search needs)
     (λ c. search own-shifted))

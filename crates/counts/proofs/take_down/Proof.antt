@@ -8,8 +8,7 @@ take-down-spec =
     tie.close
     (tie.spec
     (λ c κs. search needs)
-    (λ c κs. (search, (search needs, search)))
+    (λ c κs. (search, search))
     (λ c κs. search needs)
     (λ c κs. search needs)
-    (λ c. search needs)
     (λ c. (search, search taken-weight)))

@@ -8,5 +8,4 @@ weigh-spec =
     tie.close
     (tie.spec
     (λ c κs. search needs)
-    (λ c. search needs)
     (λ c. search weigh-is))

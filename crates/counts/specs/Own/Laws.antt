@@ -8,13 +8,12 @@ use lib.Dec.{ltb, eqb}
 use lib.ListN.{length}
 use borrow.Author.Tests.{lt-ltb, eqb-true, eq-eqb, ne-eqb}
 use Rattle.numbers.specs.Search.{some}
-use Rattle.numbers.specs.Search.Laws.{caseB, contra, length-tabulate}
+use Rattle.numbers.specs.Search.Laws.{caseB, contra, length-tabulate, some-zero, some-suc}
 use Rattle.table.specs.Table.{Table}
 use Rattle.table.specs.Layout.{definitionOf}
 use Rattle.state.specs.State.{standsAt, slotOf, inUse}
 use Rattle.rules.specs.Program.{channelSlot}
 use Rattle.rules.specs.Holding.{hasAt, holds}
-use Rattle.counts.specs.General.{some-zero, some-suc}
 use Rattle.counts.specs.Own.{ownOf, ownList}
 use Rattle.counts.specs.Own.Listing.{holdsTo}
 

@@ -43,7 +43,7 @@ module _ (n : ℕ) where
 
 -- ---- the list
 
-pub full-at : (n k : ℕ) → k < n → _≡_ {A = ℕ} (getD (replicate n 128) k 0) 128
+full-at : (n k : ℕ) → k < n → _≡_ {A = ℕ} (getD (replicate n 128) k 0) 128
 full-at zero k h = absurd (omega arith)
 full-at (suc n) zero h = refl
 full-at (suc n) (suc k) h = full-at n k (omega arith)

@@ -1,5 +1,5 @@
 use Rattle.loader.specs.Verdict.Laws.{file-lines, file-field, file-judged, file-read, few-lines, no-sound}
-use Rattle.loader.specs.Load.Laws.{table-zero}
+use Rattle.loader.specs.Load.Laws.{table-zero, table-kept}
 use borrow.Author.Needs.{needs}
 use Rattle.loader.proofs.judge_file.Statement.{statement}
 use Rattle.loader.proofs.judge_file.Tie as tie
@@ -15,6 +15,6 @@ judge-file-spec =
     (λ c. search needs)
     (λ c. (search file-field, no-sound _ _))
     (λ c. search needs)
-    (λ c κs. search needs)
+    (λ c κs. (search table-kept, search needs))
     (λ c. search needs)
     (λ c. (search file-judged, λ e. search file-read)))

@@ -33,6 +33,9 @@ shorts-zero n =
 pub table-zero : (b : List ℕ) (f : ℕ → ℕ) → b ≡ replicate 20760 0 → shorts b ≡ laid f 0 10380
 table-zero b f e = rw e (shorts-zero 10380 ∙ sym (laid-none f 10380))
 
+pub table-kept : (b b′ : List ℕ) → b ≡ replicate 20760 0 → length b′ ≡ length b → length b′ ≡ 20760
+table-kept b b′ e h = h ∙ rw e (length-replicate {A = ℕ} 20760 0)
+
 -- a buffer of the table's length is the bytes of the table that it holds
 pub table-bytes : (b : List ℕ) → length b ≡ 20760 → ((i : ℕ) → Fits w8 (getD b i 0)) → tableBytes (tableOf b) ≡ b
 unfolding tableBytes

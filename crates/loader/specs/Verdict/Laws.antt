@@ -12,10 +12,12 @@ use Rattle.numbers.specs.Bytes.{shorts}
 use Rattle.numbers.specs.Laid.{laid}
 use Rattle.numbers.specs.Search.{every, first}
 use Rattle.numbers.specs.Search.Laws.{caseB, first-le}
+use Rattle.numbers.specs.Tests.{and-left, and-right}
 use Rattle.table.specs.Table.{Table, tableOf, lineTotal}
 use Rattle.table.specs.Form.{headerInRange, kindWrong, sumsAgree}
-use Rattle.table.specs.Form.Laws.{header-counts, and-left, and-right}
+use Rattle.table.specs.Form.Laws.{header-counts}
 use Rattle.table.specs.Index.{Indexed, indexOf}
+use Rattle.table.specs.Index.Laws.{long-whole}
 use Rattle.loader.specs.File.{lineCount, notLines, malformed, fileTable, numberIn}
 use Rattle.loader.specs.File.Laws.{rows-file}
 use Rattle.loader.specs.Verdict.{atFault, judgedRows, judged, verdict, isSound, restZero, acceptable}
@@ -46,9 +48,6 @@ no-sound g l e = absurd (let z : _≡_ {A = ℕ} 0 1 = cc in let h : ⊥ = omega
 module _ (tb : Table) (h : Bool) (e : h ≡ headerInRange tb) where
   pub header-good : not h ≡ false → headerInRange tb ≡ true
   header-good f = sym e ∙ not-false h f
-
-  pub indexed-is : (l : List ℕ) → not h ≡ false → l ≡ indexOf tb → Indexed tb l
-  indexed-is l f g = record { counts = header-good f; entries = g }
 
   module _ (n : ℕ) where
     pub judge-header : not h ≡ true → Fault Header 1 ≡ judged tb n
@@ -117,6 +116,10 @@ module _ (tb : Table) where
 
   pub sound-indexed : (l : List ℕ) (v : Verdict) → (v ≡ Sound → Indexed tb l) → v ≡ Sound → Indexed tb l
   sound-indexed l v f e = f e
+
+-- the index of a table in a buffer of the right length
+pub indexed-is : (b l : List ℕ) (h : Bool) → h ≡ headerInRange (tableOf b) → not h ≡ false → l ≡ indexOf (tableOf b) → length b ≡ 20760 → Indexed (tableOf b) l
+indexed-is b l h e f g k = record { counts = header-good (tableOf b) h e f; entries = g; whole = long-whole b k }
 
 module _ (b : List ℕ) where
   pub accept-length : (length b ≡ 20760 → ⊥) → false ≡ accepted b

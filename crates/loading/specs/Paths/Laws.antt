@@ -7,9 +7,9 @@ use mathlib.Core.Bool.{true, false}
 use lib.Dec.{eqb, leb}
 use borrow.Author.Tests.{eqb-true, eq-eqb, ne-eqb, leb-true, leb-false, le-leb}
 use Rattle.numbers.specs.Search.Laws.{caseB, contra}
+use Rattle.numbers.specs.Tests.{and-left, and-right}
 use Rattle.table.specs.Table.{Table, maxNodes, nodes, parameters}
 use Rattle.table.specs.Layout.{branchCount, definitionOf}
-use Rattle.table.specs.Form.Laws.{and-left, and-right}
 use Rattle.flow.specs.Flow.{markCount, pathMark, slotWritten, begins, flowTo, flow, mayLack, marked as isMarked}
 use Rattle.loading.specs.Paths.{firstNode, rowOf, Edge, Path, wrote, Reachable, SurelyWritten}
 use Rattle.loading.specs.Paths.Path.{begin, follow}

@@ -13,9 +13,9 @@ use borrow.Author.Tests.{eqb-true, eqb-false, eq-eqb, not-true}
 use Rattle.numbers.specs.Rows.{at}
 use Rattle.numbers.specs.Search.{tabulate}
 use Rattle.numbers.specs.Search.Laws.{caseB, contra, getD-tabulate}
+use Rattle.numbers.specs.Tests.{and-left, and-right}
 use Rattle.table.specs.Table.{Table, maxNodes}
 use Rattle.table.specs.Layout.{branchCount}
-use Rattle.table.specs.Form.Laws.{and-left, and-right}
 use Rattle.flow.specs.Flow.{Marks, markCount, slotWritten, pastWrite, either, arrive, begins, beginning, branchFollowed, branchesFollowed, flowTo}
 use Rattle.flow.specs.Flow.Laws.{length-arrive, length-branches, length-flow}
 use Rattle.loading.specs.Paths.{firstNode, rowOf, Leads, Edge}

@@ -5,14 +5,14 @@ use borrow.Author.Needs.{needs}
 use Rattle.numbers.specs.Search.{first}
 use Rattle.numbers.specs.Search.Laws.{first-none}
 use Rattle.table.specs.Table.{tableOf}
-use Rattle.state.specs.State.{view}
+use Rattle.state.specs.State.{stateOf}
 use Rattle.rules.specs.Moves.{ahead}
 use Rattle.moves.proofs.Choice.{branch-row, choice-passed, choice-taken, choice-waits}
 use Rattle.moves.proofs.choose.Statement.{statement}
 use Rattle.moves.proofs.choose.Tie as tie
 
 abbrev Inv-loop : tie.InvT-loop
-Inv-loop table index state t n from top i₀ i = (i ≤ n) × (first (ahead (tableOf table) (view state) t) i ≡ i)
+Inv-loop table index state t n from top i₀ i = (i ≤ n) × (first (ahead (tableOf table) (stateOf state) t) i ≡ i)
 
 abbrev μ-loop : tie.MeasureT-loop
 μ-loop table index state t n from top i₀ i = n - i

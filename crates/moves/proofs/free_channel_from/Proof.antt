@@ -2,14 +2,14 @@
 use Prim.Native.Nat.{_≤_, _-_}
 use mathlib.Core.Path.{_≡_}
 use borrow.Author.Needs.{needs}
-use Rattle.state.specs.State.{view}
+use Rattle.state.specs.State.{stateOf}
 use Rattle.rules.specs.Moves.{firstFrom, isFreeChannel}
 use Rattle.moves.specs.Around.{from-laws}
 use Rattle.moves.proofs.free_channel_from.Statement.{statement}
 use Rattle.moves.proofs.free_channel_from.Tie as tie
 
 abbrev Inv-loop : tie.InvT-loop
-Inv-loop state from c₀ c = (from ≤ c) × (firstFrom c from (isFreeChannel (view state)) ≡ c)
+Inv-loop state from c₀ c = (from ≤ c) × (firstFrom c from (isFreeChannel (stateOf state)) ≡ c)
 
 abbrev μ-loop : tie.MeasureT-loop
 μ-loop state from c₀ c = 128 - c

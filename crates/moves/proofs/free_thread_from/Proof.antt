@@ -2,14 +2,14 @@
 use Prim.Native.Nat.{_≤_, _-_}
 use mathlib.Core.Path.{_≡_}
 use borrow.Author.Needs.{needs}
-use Rattle.state.specs.State.{view}
+use Rattle.state.specs.State.{stateOf}
 use Rattle.rules.specs.Moves.{firstFrom, isFreeThread}
 use Rattle.moves.specs.Around.{from-laws}
 use Rattle.moves.proofs.free_thread_from.Statement.{statement}
 use Rattle.moves.proofs.free_thread_from.Tie as tie
 
 abbrev Inv-loop : tie.InvT-loop
-Inv-loop state from u₀ u = (from ≤ u) × (firstFrom u from (isFreeThread (view state)) ≡ u)
+Inv-loop state from u₀ u = (from ≤ u) × (firstFrom u from (isFreeThread (stateOf state)) ≡ u)
 
 abbrev μ-loop : tie.MeasureT-loop
 μ-loop state from u₀ u = 64 - u

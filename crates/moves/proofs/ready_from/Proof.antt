@@ -2,7 +2,7 @@
 use Prim.Native.Nat.{_≤_, _-_}
 use mathlib.Core.Path.{_≡_}
 use borrow.Author.Needs.{needs}
-use Rattle.state.specs.State.{view}
+use Rattle.state.specs.State.{stateOf}
 use Rattle.rules.specs.Moves.{firstFrom}
 use Rattle.rules.specs.Calls.{isReadyThread}
 use Rattle.moves.specs.Around.{from-laws}
@@ -11,7 +11,7 @@ use Rattle.moves.proofs.ready_from.Statement.{statement}
 use Rattle.moves.proofs.ready_from.Tie as tie
 
 abbrev Inv-loop : tie.InvT-loop
-Inv-loop state from top u₀ u = (from ≤ u) × (firstFrom u from (isReadyThread (view state)) ≡ u)
+Inv-loop state from top u₀ u = (from ≤ u) × (firstFrom u from (isReadyThread (stateOf state)) ≡ u)
 
 abbrev μ-loop : tie.MeasureT-loop
 μ-loop state from top u₀ u = top - u

@@ -1,12 +1,12 @@
 -- `moves::rows_used` meets its contract. The loop: no row from there on is in use. Assumes nothing.
 use borrow.Author.Needs.{needs}
-use Rattle.state.specs.State.{view}
+use Rattle.state.specs.State.{stateOf}
 use Rattle.moves.specs.Top.{UsedBelow, used-all, used-less, used-none}
 use Rattle.moves.proofs.rows_used.Statement.{statement}
 use Rattle.moves.proofs.rows_used.Tie as tie
 
 abbrev Inv-loop : tie.InvT-loop
-Inv-loop state top₀ top = UsedBelow (view state) top
+Inv-loop state top₀ top = UsedBelow (stateOf state) top
 
 abbrev μ-loop : tie.MeasureT-loop
 μ-loop state top₀ top = top

@@ -1,14 +1,16 @@
--- The laws of `every`, `first`, `sumTo` and `tabulate`. Assumes nothing.
+-- The laws of `every`, `first`, `some`, `sumTo` and `tabulate`. Assumes nothing.
 use Prim.Native.Nat.{ℕ, zero, suc, _+_, _≤_, _<_}
 use native.Mathlib.Omega.{arith}
 use native.Mathlib.Numerals.{add-one}
 use native.Mathlib.Decide.{le-ind}
 use mathlib.Core.Path.{_≡_, refl, sym, _∙_, ap}
-use mathlib.Core.Bool.{Bool, true, false, cond}
-use mathlib.Core.List.{[], _∷_, _++_}
+use mathlib.Core.Bool.{Bool, true, false, _&&_, cond}
+use mathlib.Core.List.{List, [], _∷_, _++_}
 use lib.Dec.{ltb}
 use lib.ListN.{length, getD}
+use lib.Seq.{ext-getD}
 use borrow.Author.Tests.{lt-ltb, le-ltb, ltb-true, ltb-false}
+use Rattle.numbers.specs.Tests.{and-left, and-right}
 use Rattle.numbers.specs.Search.{every, first, some, sumTo, listFrom, tabulate}
 
 -- a goal by the two values of a test, each with its equation
@@ -19,6 +21,11 @@ caseB false t f = f refl
 -- a test that is both true and false
 pub contra {ℓ} : {A : Type ℓ} {b : Bool} → b ≡ true → b ≡ false → A
 contra t f = absurd (let z : _≡_ {A = ℕ} 0 1 = cc in let h : ⊥ = omega arith in h)
+
+-- two tests that follow from each other
+pub same-truth : (a b : Bool) → (a ≡ true → b ≡ true) → (b ≡ true → a ≡ true) → a ≡ b
+same-truth true b f g = sym (f refl)
+same-truth false b f g = caseB b (λ t. g t ∙ sym t) (λ e. sym e)
 
 -- ---- all
 
@@ -56,6 +63,13 @@ pub every-cong : (p q : ℕ → Bool) (n : ℕ) → ((i : ℕ) → i < n → p i
 unfolding every
 every-cong p q zero h = refl
 every-cong p q (suc n) h = rw (every-cong p q n (λ i l. h i (omega arith)), h n (omega arith))
+
+-- two tests of each number are one
+pub every-and : (p q : ℕ → Bool) (n : ℕ) → every (λ i. p i && q i) n ≡ (every p n && every q n)
+every-and p q n = same-truth (every (λ i. p i && q i) n) (every p n && every q n)
+    (λ t. rw (every-intro p n (λ i h. and-left (p i) (q i) (every-elim (λ i. p i && q i) n i t h)), every-intro q n (λ i h. and-right (p i) (q i) (every-elim (λ i. p i && q i) n i t h))))
+    (λ t. every-intro (λ i. p i && q i) n
+    (λ i h. rw (every-elim p n i (and-left (every p n) (every q n) t) h, every-elim q n i (and-right (every p n) (every q n) t) h)))
 
 pub ruleset every-laws = (every-none, every-more, every-all, every-not)
 
@@ -117,6 +131,13 @@ module _ (p : ℕ → Bool) where
       (λ t. contra (first-passes n (ltb-true (first p n) n t)) (h (first p n) (ltb-true (first p n) n t)))
       (λ f. omega (arith, ltb-false (first p n) n f, first-le n))
 
+  -- none below i passes, and none from i on
+  pub first-rest : (i n : ℕ) → first p i ≡ i → ((k : ℕ) → i ≤ k → p k ≡ false) → first p n ≡ n
+  first-rest i n e h =
+      first-void n (λ k l. caseB (ltb k i)
+      (λ y. first-below i k (let q : k < i = ltb-true k i y in rw e q))
+      (λ y. h k (ltb-false k i y)))
+
   -- the first is the one that passes with none before it
   pub first-is : (n i : ℕ) → i < n → p i ≡ true → ((j : ℕ) → j < i → p j ≡ false) → first p n ≡ i
   first-is n i l t h = sym (first-hit i n (p i) (first-void i h) refl t l)
@@ -137,6 +158,32 @@ module _ (p : ℕ → Bool) where
 
   pub some-none : (n i : ℕ) → some p n ≡ false → i < n → p i ≡ false
   some-none n i e l = caseB (p i) (λ t. contra (some-intro n i l t) e) (λ f. f)
+
+  -- by a pass upward
+  pub some-zero : some p 0 ≡ false
+  some-zero = some-void 0 (λ i h. absurd (omega arith))
+
+  -- one more that passes, and one more that does not
+  some-kept : (n : ℕ) → some p n ≡ true → some p (suc n) ≡ true
+  some-kept n e = let (i, l, h) = some-elim n e in some-intro (suc n) i (omega arith) h
+
+  some-here : (n : ℕ) → p n ≡ true → some p (suc n) ≡ true
+  some-here n e = some-intro (suc n) n (omega arith) e
+
+  pub some-still : (n : ℕ) → some p n ≡ false → p n ≡ false → some p (suc n) ≡ false
+  some-still n e f = some-void (suc n)
+      (λ i l. caseB (ltb i n) (λ y. some-none n i e (ltb-true i n y)) (λ y. let q : i ≡ n = omega (arith, ltb-false i n y) in rw q f))
+
+  pub some-suc : (n : ℕ) → some p (suc n) ≡ cond (some p n) true (p n)
+  some-suc n = caseB (some p n)
+      (λ t. rw (t, some-kept n t))
+      (λ f. rw f (caseB (p n) (λ y. rw (y, some-here n y)) (λ y. rw (y, some-still n f y))))
+
+  -- numbers that all fail add nothing
+  pub some-more : (m n : ℕ) → m ≤ n → ((i : ℕ) → m ≤ i → i < n → p i ≡ false) → some p n ≡ some p m
+  some-more m n h f = caseB (some p m)
+      (λ t. let (i, l, e) = some-elim m t in rw (t, some-intro n i (omega arith) e))
+      (λ y. rw (y, some-void n (λ i l. caseB (ltb i m) (λ z. some-none m i y (ltb-true i m z)) (λ z. f i (ltb-false i m z) l))))
 
 pub first-cong : (p q : ℕ → Bool) (n : ℕ) → ((i : ℕ) → i < n → p i ≡ q i) → first p n ≡ first q n
 unfolding first
@@ -186,6 +233,12 @@ length-listFrom i (suc n) f = ap suc (length-listFrom (suc i) n f)
 pub length-tabulate {ℓ} : {A : Type ℓ} (n : ℕ) (f : ℕ → A) → length (tabulate n f) ≡ n
 unfolding tabulate
 length-tabulate n f = length-listFrom 0 n f
+
+-- a list that has the values of f is the list of the values of f
+pub is-tabulate {ℓ} : {A : Type ℓ} (l : List A) (n : ℕ) (f : ℕ → A) (d : A) → length l ≡ n → ((k : ℕ) → k < n → getD l k d ≡ f k) → l ≡ tabulate n f
+is-tabulate l n f d e h =
+    ext-getD d l (tabulate n f) (e ∙ sym (length-tabulate n f))
+    (λ k j. let i : k < n = rw e at j in h k i ∙ sym (getD-tabulate n k f d i))
 
 listFrom-snoc {ℓ} : {A : Type ℓ} (i n : ℕ) (f : ℕ → A) → listFrom i (suc n) f ≡ listFrom i n f ++ (f (i + n) ∷ [])
 unfolding listFrom

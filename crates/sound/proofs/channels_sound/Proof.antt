@@ -7,14 +7,14 @@ use borrow.Author.Needs.{needs}
 use Rattle.numbers.specs.Search.{every}
 use Rattle.numbers.specs.Search.Laws.{every-laws}
 use Rattle.table.specs.Table.{tableOf}
-use Rattle.state.specs.State.{view}
+use Rattle.state.specs.State.{stateOf}
 use Rattle.rules.specs.Sound.{countTrue}
 use Rattle.sound.proofs.channels_sound.Statement.{statement}
 use Rattle.sound.proofs.channels_sound.Tie as tie
 
 abbrev Inv-loop : tie.InvT-loop
 Inv-loop table state held waiting c₀ c =
-    (c ≤ 128) × (every (countTrue (tableOf table) (view state)) c ≡ true)
+    (c ≤ 128) × (every (countTrue (tableOf table) (stateOf state)) c ≡ true)
 
 abbrev μ-loop : tie.MeasureT-loop
 μ-loop table state held waiting c₀ c = 128 - c

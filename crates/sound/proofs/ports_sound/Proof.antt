@@ -6,7 +6,7 @@ use borrow.Author.Needs.{needs}
 use Rattle.numbers.specs.Search.{every}
 use Rattle.numbers.specs.Search.Laws.{every-laws}
 use Rattle.table.specs.Table.{tableOf}
-use Rattle.state.specs.State.{view}
+use Rattle.state.specs.State.{stateOf}
 use Rattle.rules.specs.Sound.{portTyped}
 use Rattle.sound.proofs.Ways.{port-typed, port-untyped, ports-typed}
 use Rattle.sound.proofs.ports_sound.Statement.{statement}
@@ -14,7 +14,7 @@ use Rattle.sound.proofs.ports_sound.Tie as tie
 
 abbrev Inv-loop : tie.InvT-loop
 Inv-loop table state n c₀ c =
-    (c ≤ n) × (every (portTyped (tableOf table) (view state)) c ≡ true)
+    (c ≤ n) × (every (portTyped (tableOf table) (stateOf state)) c ≡ true)
 
 abbrev μ-loop : tie.MeasureT-loop
 μ-loop table state n c₀ c = n - c

@@ -5,7 +5,7 @@ use mathlib.Core.Bool.{true}
 use borrow.Author.Needs.{needs}
 use Rattle.numbers.specs.Search.{every}
 use Rattle.numbers.specs.Search.Laws.{every-laws}
-use Rattle.state.specs.State.{view, thread}
+use Rattle.state.specs.State.{stateOf, thread}
 use Rattle.sound.specs.Rows.{wordZero}
 use Rattle.sound.proofs.Ways.{word-zero, word-other}
 use Rattle.sound.proofs.row_is_zero.Statement.{statement}
@@ -13,7 +13,7 @@ use Rattle.sound.proofs.row_is_zero.Tie as tie
 
 abbrev Inv-loop : tie.InvT-loop
 Inv-loop state t k₀ k =
-    (k ≤ 18) × (every (wordZero (thread (view state) t)) k ≡ true)
+    (k ≤ 18) × (every (wordZero (thread (stateOf state) t)) k ≡ true)
 
 abbrev μ-loop : tie.MeasureT-loop
 μ-loop state t k₀ k = 18 - k

@@ -7,14 +7,14 @@ use borrow.Author.Needs.{needs}
 use Rattle.numbers.specs.Search.{every}
 use Rattle.numbers.specs.Search.Laws.{every-laws}
 use Rattle.table.specs.Table.{tableOf}
-use Rattle.state.specs.State.{view, thread}
+use Rattle.state.specs.State.{stateOf, thread}
 use Rattle.sound.specs.Rows.{rowSound}
 use Rattle.sound.proofs.rows_sound.Statement.{statement}
 use Rattle.sound.proofs.rows_sound.Tie as tie
 
 abbrev Inv-loop : tie.InvT-loop
 Inv-loop table index marks state t₀ t =
-    (t ≤ 64) × (every (λ t. rowSound (tableOf table) (view state) (thread (view state) t)) t ≡ true)
+    (t ≤ 64) × (every (λ t. rowSound (tableOf table) (stateOf state) (thread (stateOf state) t)) t ≡ true)
 
 abbrev μ-loop : tie.MeasureT-loop
 μ-loop table index marks state t₀ t = 64 - t

@@ -4,10 +4,10 @@ use mathlib.Core.Path.{_≡_, refl, _∙_, ap}
 use mathlib.Core.Bool.{Bool, true, false, _&&_}
 use mathlib.Core.List.{List}
 use Rattle.numbers.specs.Search.{every}
+use Rattle.numbers.specs.Search.Laws.{every-and}
 use Rattle.table.specs.Table.{Table, ports}
 use Rattle.state.specs.State.{State, maxThreads, maxChannels, rowSlots, thread}
 use Rattle.rules.specs.Sound.{marksInRange, freeZero, rowInRange, spareZero, slotTyped, slotsTyped, slotFilled, slotsFilled, countTrue, portTyped, waitsRightly, sound}
-use Rattle.tally.specs.General.{every-and}
 use Rattle.sound.specs.Rows.{spareAt, slotSound, rowSound}
 
 every-three : (a b c : ℕ → Bool) (n : ℕ) → every (λ i. a i && (b i && c i)) n ≡ (every a n && (every b n && every c n))

@@ -1,9 +1,8 @@
 -- `starts::free_threads` meets its contract. The loop: the thread rows before the t-th are free. Assumes nothing.
 use Prim.Native.Nat.{_≤_, _-_}
 use mathlib.Core.Path.{_≡_}
-use lib.ListN.{length}
 use borrow.Author.Needs.{needs}
-use Rattle.state.specs.State.{view}
+use Rattle.state.specs.State.{stateOf}
 use Rattle.starts.specs.Opening.{freedTo}
 use Rattle.starts.specs.Opening.Laws.{freeing}
 use Rattle.starts.proofs.free_threads.Statement.{statement}
@@ -11,7 +10,7 @@ use Rattle.starts.proofs.free_threads.Tie as tie
 
 abbrev Inv-loop : tie.InvT-loop
 Inv-loop state₀ t₀ state t =
-    (t ≤ 64) × (length state ≡ length state₀) × (view state ≡ freedTo (view state₀) t)
+    (t ≤ 64) × (stateOf state ≡ freedTo (stateOf state₀) t)
 
 abbrev μ-loop : tie.MeasureT-loop
 μ-loop state₀ t₀ state t = 64 - t
@@ -27,5 +26,4 @@ free-threads-spec =
     (λ c. search needs)
     (λ c. search needs)
     (λ c. search (freeing, needs))
-    (λ c. search needs)
     (λ c. search freeing))

@@ -8,8 +8,6 @@ open-channel-spec =
     tie.close
     (tie.spec
     (λ c κs. search needs)
-    (λ c. search needs)
     (λ c. search (open-port, open-other))
     (λ c κs. search needs)
-    (λ c. search needs)
     (λ c. search (open-port, open-other)))

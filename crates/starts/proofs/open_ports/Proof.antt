@@ -1,9 +1,8 @@
 -- `starts::open_ports` meets its contract. The loop: the channels before the c-th are open. Assumes nothing.
 use Prim.Native.Nat.{_≤_, _-_}
 use mathlib.Core.Path.{_≡_}
-use lib.ListN.{length}
 use borrow.Author.Needs.{needs}
-use Rattle.state.specs.State.{view}
+use Rattle.state.specs.State.{stateOf}
 use Rattle.starts.specs.Opening.{openedTo}
 use Rattle.starts.specs.Opening.Laws.{opening}
 use Rattle.starts.proofs.open_ports.Statement.{statement}
@@ -11,7 +10,7 @@ use Rattle.starts.proofs.open_ports.Tie as tie
 
 abbrev Inv-loop : tie.InvT-loop
 Inv-loop state₀ ports c₀ state c =
-    (c ≤ 128) × (length state ≡ length state₀) × (view state ≡ openedTo (view state₀) ports c)
+    (c ≤ 128) × (stateOf state ≡ openedTo (stateOf state₀) ports c)
 
 abbrev μ-loop : tie.MeasureT-loop
 μ-loop state₀ ports c₀ state c = 128 - c
@@ -27,5 +26,4 @@ open-ports-spec =
     (λ c. search needs)
     (λ c. search needs)
     (λ c. search (opening, needs))
-    (λ c. search needs)
     (λ c. search opening))

@@ -10,5 +10,4 @@ put-marks-spec =
     (λ c κs. search needs)
     (λ c κs. search needs)
     (λ c κs. search needs)
-    (λ c. search needs)
-    (λ c. marks-put _ _ _ _ _ (search) (c .before .before .before .before .before .before .before .before .before .before .put-mark .ensures) (c .before .before .before .before .before .before .put-mark2 .ensures) (c .before .before .put-mark3 .ensures)))
+    (λ c. search marks-put))

@@ -11,5 +11,4 @@ write-unstarted-spec =
     (λ c κs. search needs)
     (λ c κs. search needs)
     (λ c κs. search needs)
-    (λ c. search needs)
     (λ c. search unstarted-is))

@@ -9,7 +9,7 @@ use lib.ListN.{length, getD, set, replicate, length-set, length-replicate}
 use lib.Seq.{getD-set-same, getD-set-other}
 use Rattle.numbers.specs.Count.{bit, count}
 use Rattle.numbers.specs.Search.{tabulate}
-use Rattle.counts.specs.General.{is-tabulate}
+use Rattle.numbers.specs.Search.Laws.{is-tabulate}
 use Rattle.starts.specs.Filled.{filledTo}
 
 module _ {ℓ} {A : Type ℓ} (f : ℕ → A) (l : List A) where

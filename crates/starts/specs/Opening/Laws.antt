@@ -14,7 +14,7 @@ use Rattle.numbers.specs.Rows.{at}
 use Rattle.numbers.specs.Search.{tabulate}
 use Rattle.numbers.specs.Search.Laws.{caseB, getD-tabulate, tabulate-cong}
 use Rattle.table.specs.Table.{Table, ports}
-use Rattle.state.specs.State.{State, view, stateLength, thread, channel, isWaiting, withMark, withThread, withChannel, withChannels}
+use Rattle.state.specs.State.{State, stateOf, stateWords, thread, channel, isWaiting, withMark, withThread, withChannel, withChannels}
 use Rattle.state.specs.State.Laws.{length-marks, length-threads, length-channels, length-channel}
 use Rattle.rules.specs.Holding.{holds, holders, waiters, countOf, channelRow, recount, settled}
 use Rattle.rules.specs.Start.{freeRow, entered, portRow, started}
@@ -36,11 +36,11 @@ module _ (s : State) where
   unfolding freedTo filledTo withThread
   freed-more s₁ s₂ t e f = rw (f, e, add-one t)
 
-pub freed-all : (b : List ℕ) (s₁ : State) (t : ℕ) → s₁ ≡ freedTo (view b) t → t ≤ 64 → 64 ≤ t → s₁ ≡ freed (view b)
+pub freed-all : (b : List ℕ) (s₁ : State) (t : ℕ) → s₁ ≡ freedTo (stateOf b) t → t ≤ 64 → 64 ≤ t → s₁ ≡ freed (stateOf b)
 unfolding freedTo freed
 freed-all b s₁ t e h i =
     let q : t ≡ 64 = omega arith in
-    rw (e, q, filled-all (λ (k : ℕ). freeRow) (view b .threads) [] 64 (length-threads b), tabulate-same 64 freeRow)
+    rw (e, q, filled-all (λ (k : ℕ). freeRow) (stateOf b .threads) [] 64 (length-threads b), tabulate-same 64 freeRow)
 
 pub ruleset freeing = (freed-none, freed-more, freed-all)
 
@@ -50,13 +50,13 @@ pub ruleset freeing = (freed-none, freed-more, freed-all)
 put-put : (chs : List (List ℕ)) (c k v : ℕ) (r : List ℕ) → c < length chs → set (set chs c r) c (set (getD (set chs c r) c []) k v) ≡ set chs c (set r k v)
 put-put chs c k v r h = rw (getD-set-same chs c r [] h, set-set chs c r (set r k v))
 
-pub row-put : (b : List ℕ) (c ty n : ℕ) (s₁ s₂ s₃ : State) → length b ≡ stateLength → c < 128 → s₁ ≡ withChannel (view b) c (set (channel (view b) c) 0 ty)
-    → s₂ ≡ withChannel s₁ c (set (channel s₁ c) 1 n) → s₃ ≡ withChannel s₂ c (set (channel s₂ c) 2 0) → s₃ ≡ withChannel (view b) c (ty ∷ n ∷ 0 ∷ [])
+pub row-put : (b : List ℕ) (c ty n : ℕ) (s₁ s₂ s₃ : State) → length b ≡ stateWords → c < 128 → s₁ ≡ withChannel (stateOf b) c (set (channel (stateOf b) c) 0 ty)
+    → s₂ ≡ withChannel s₁ c (set (channel s₁ c) 1 n) → s₃ ≡ withChannel s₂ c (set (channel s₂ c) 2 0) → s₃ ≡ withChannel (stateOf b) c (ty ∷ n ∷ 0 ∷ [])
 unfolding withChannel
 row-put b c ty n s₁ s₂ s₃ e h f g k =
-    let i : c < length (view b .channels) = omega (arith, length-channels b) in
-    let r = channel (view b) c in
-    rw (k, g, f, put-put (view b .channels) c 1 n (set r 0 ty) i, put-put (view b .channels) c 2 0 (set (set r 0 ty) 1 n) i, three r ty n 0 (length-channel b e c h))
+    let i : c < length (stateOf b .channels) = omega (arith, length-channels b) in
+    let r = channel (stateOf b) c in
+    rw (k, g, f, put-put (stateOf b .channels) c 1 n (set r 0 ty) i, put-put (stateOf b .channels) c 2 0 (set (set r 0 ty) 1 n) i, three r ty n 0 (length-channel b e c h))
 
 module _ (s s₁ : State) (c p : ℕ) where
   pub open-port : s₁ ≡ withChannel s c (1 ∷ 1 ∷ 0 ∷ []) → c < p → s₁ ≡ withChannel s c (portHeld p c)
@@ -76,19 +76,19 @@ module _ (s : State) (p : ℕ) where
   unfolding openedTo filledTo withChannel withChannels
   opened-more s₁ s₂ c e f = rw (f, e, add-one c)
 
-pub opened-all : (b : List ℕ) (p : ℕ) (s₁ : State) (c : ℕ) → s₁ ≡ openedTo (view b) p c → c ≤ 128 → 128 ≤ c → s₁ ≡ opened (view b) p
+pub opened-all : (b : List ℕ) (p : ℕ) (s₁ : State) (c : ℕ) → s₁ ≡ openedTo (stateOf b) p c → c ≤ 128 → 128 ≤ c → s₁ ≡ opened (stateOf b) p
 unfolding openedTo opened
 opened-all b p s₁ c e h i =
     let q : c ≡ 128 = omega arith in
-    rw (e, q, filled-all (portHeld p) (view b .channels) [] 128 (length-channels b))
+    rw (e, q, filled-all (portHeld p) (stateOf b .channels) [] 128 (length-channels b))
 
 pub ruleset opening = (opened-none, opened-more, opened-all)
 
 -- ---- put_marks
 
-pub marks-put : (b : List ℕ) (p : ℕ) (s₁ s₂ s₃ : State) → length b ≡ stateLength → s₁ ≡ withMark (view b) 0 1 → s₂ ≡ withMark s₁ 1 p → s₃ ≡ withMark s₂ 2 0 → s₃ ≡ marked (view b) p
+pub marks-put : (b : List ℕ) (p : ℕ) (s₁ s₂ s₃ : State) → length b ≡ stateWords → s₁ ≡ withMark (stateOf b) 0 1 → s₂ ≡ withMark s₁ 1 p → s₃ ≡ withMark s₂ 2 0 → s₃ ≡ marked (stateOf b) p
 unfolding withMark marked
-marks-put b p s₁ s₂ s₃ l e f g = rw (g, f, e, three (view b .marks) 1 p 0 (length-marks b l))
+marks-put b p s₁ s₂ s₃ l e f g = rw (g, f, e, three (stateOf b .marks) 1 p 0 (length-marks b l))
 
 -- ---- write_unstarted
 

@@ -11,7 +11,6 @@ put-channel-spec =
     (λ c. search needs)
     (λ c. search needs)
     (λ c κs. search needs)
-    (λ c. search needs)
     (λ c. search places)
     (λ c. search places)
     (λ c. search places))

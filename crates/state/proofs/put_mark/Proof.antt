@@ -8,6 +8,5 @@ put-mark-spec =
     tie.close
     (tie.spec
     (λ c κs. search needs)
-    (λ c. search needs)
     (λ c. search places)
     (λ c. search places))

@@ -7,10 +7,7 @@ pub make-alone-spec : {M : Type 1} → statement M
 make-alone-spec =
     tie.close
     (tie.spec
-    (λ c. search needs)
     (λ c κs. search needs)
-    (λ c κs. (search, (search needs, (search, search alone-writable))))
-    (λ c. search needs)
+    (λ c κs. (search, (search, search alone-writable)))
     (λ c κs. search needs)
-    (λ c. search needs)
     (λ c. search alone-made))

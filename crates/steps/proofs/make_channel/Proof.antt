@@ -7,10 +7,7 @@ pub make-channel-spec : {M : Type 1} → statement M
 make-channel-spec =
     tie.close
     (tie.spec
-    (λ c. search needs)
     (λ c κs. search needs)
-    (λ c κs. (search, (search needs, (search, search creation-writable))))
-    (λ c. search needs)
+    (λ c κs. (search, (search, search creation-writable)))
     (λ c κs. search needs)
-    (λ c. search needs)
     (λ c. search creation-made))

@@ -11,10 +11,17 @@ make-meeting-spec =
     tie.close
     (tie.spec
     (λ c κs. search needs)
-    (λ c κs. (search, (search, (search, (search, search)))))
     (λ c κs. search needs)
-    (λ c. search needs)
-    (λ c. search meets-made)
-    (λ c κs. (search, (search, (search, (search, (refl, search, search))))))
-    (λ c. search needs)
+    (λ c κs. search needs)
+    (λ c κs. (search, (search, (search, search))))
+    (λ c κs. search needs)
+    (λ c. meets-made _ _ (c .before .before .before .before .before .before .before .before .before .before .before .before .before .pre .1 .1 .0) _
+    (c .before .before .before .before .before .before .before .before .before .before .before .before .before .pre .1 .0) _ _ _ _ _ _ _ _
+    (c .weigh .ensures) (c .before .before .write-meeting .ensures)
+    (c .before .before .before .before .before .before .before .before .before .way-by .ensures)
+    (c .before .before .before .before .before .before .before .way-by2 .ensures) (c .before .before .before .before .before .meeting-keeps .ensures)
+    (c .before .before .before .before .if1 .taken)
+    (c .before .before .before .before .before .before .before .before .before .before .before .before .before .pre .1 .1 .1 .0)
+    (c .before .before .before .before .before .before .before .before .before .before .before .before .before .pre .1 .1 .1 .1))
+    (λ c κs. (search, (search, (search, (refl, search, search)))))
     (λ c. search needs))

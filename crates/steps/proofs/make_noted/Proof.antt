@@ -7,7 +7,6 @@ pub make-noted-spec : {M : Type 1} → statement M
 make-noted-spec =
     tie.close
     (tie.spec
-    (λ c κs. (search, (search, (search, search paired-writable))))
+    (λ c κs. (search, (search, search paired-writable)))
     (λ c κs. search needs)
-    (λ c. search needs)
     (λ c. cc))

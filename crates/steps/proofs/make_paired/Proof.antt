@@ -7,12 +7,7 @@ pub make-paired-spec : {M : Type 1} → statement M
 make-paired-spec =
     tie.close
     (tie.spec
-    (λ c. search needs)
     (λ c κs. search needs)
-    (λ c. search needs)
     (λ c κs. search needs)
-    (λ c. search needs)
-    (λ c. search needs)
-    (λ c κs. (search, (search needs, (search, search))))
-    (λ c. search needs)
+    (λ c κs. search needs)
     (λ c. search paired-made))

@@ -8,6 +8,5 @@ step-ready-spec =
     tie.close
     (tie.spec
     (λ c κs. search needs)
-    (λ c κs. (search, (search, (search, (search, search move-writable)))))
-    (λ c. search needs)
+    (λ c κs. (search, (search, (search, search move-writable))))
     (λ c. (search, search made-read)))

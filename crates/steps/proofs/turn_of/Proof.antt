@@ -13,5 +13,4 @@ turn-of-spec =
     (λ c κs. search needs)
     (λ c κs. search needs)
     (λ c κs. search move-writable)
-    (λ c. search needs)
     (λ c. (search turn-ends, (search turn-settled, search turn-used))))

@@ -5,10 +5,9 @@ use mathlib.Core.Logic.{_≢_}
 use mathlib.Core.List.{List}
 use mathlib.Core.Bool.{true}
 use borrow.Author.Tests.{lt-ltb, le-ltb}
-use lib.ListN.{length}
 use Rattle.numbers.specs.Count.{bit}
 use Rattle.table.specs.Table.{Table}
-use Rattle.state.specs.State.{State, view, thread, maxThreads, isReady, isWaiting, withMark, withThread}
+use Rattle.state.specs.State.{State, stateOf, thread, maxThreads, isReady, isWaiting, withMark, withThread}
 use Rattle.state.specs.State.Laws.{length-threads}
 use Rattle.rules.specs.Holding.{settled}
 use Rattle.rules.specs.Moves.{oneUp, move, written, perform, spawnedBy, metBy, metByBench}
@@ -17,12 +16,15 @@ use Rattle.rules.specs.declared.Move.the-variants.{Ends, Calls, Waits, Goes, Cr
 use Rattle.rules.specs.Calls.{nextReady, pastTurn, turnBy, Turned, turned, turnEnd, takeTurn}
 use Rattle.rules.specs.declared.Reason.the-variants.{NoneReady}
 use Rattle.rules.specs.declared.Turn.{Turn}
-use Rattle.rules.specs.declared.Turn.the-variants.{Went, Stopped}
+use Rattle.rules.specs.declared.Turn.the-variants.{Stopped}
 use Rattle.moves.specs.Around.{next-ready-in}
 use Rattle.moves.specs.Decided.{meets-partner, spawns-free, spawns-other, creates-free}
 use Rattle.counts.specs.Own.{ownList}
 use Rattle.counts.specs.Shift.{settledOne, settledTwo, settledNew}
 use Rattle.counts.specs.Upkeep.{one-settled, two-settled, new-settled, settled-mark, two-mark, new-mark, settled-again}
+use Rattle.branches.specs.Way.{wayOf, metAlong, metAlongBoth, goneAlong}
+use Rattle.branches.specs.Way.Laws.{met-way, gone-way, meeting-way}
+use Rattle.branches.specs.declared.Way.{Way}
 use Rattle.steps.specs.Made.{Writable, Alone, Paired, Creation, made}
 
 -- a mark that is moved besides changes nothing in this
@@ -34,11 +36,11 @@ module _ (tb : Table) (s : State) (i v : ℕ) where
       → settledTwo tb (withMark s i v) t x l w l′ w′ ≡ settled tb (withMark s i v)
   two-marked t x l w l′ w′ e = two-mark tb s i v t x l w l′ w′ ∙ rw e (sym (settled-mark tb s i v))
 
-module _ (tb : Table) (b : List ℕ) (e : settled tb (view b) ≡ view b) (t : ℕ) (h : t < 64) where
-  one : (row : List ℕ) → settledOne tb (withThread (view b) t row) t (ownList tb (thread (view b) t)) (bit (isWaiting (thread (view b) t))) ≡ settled tb (withThread (view b) t row)
-  one row = one-settled tb (view b) (length-threads b) e t h row
+module _ (tb : Table) (b : List ℕ) (e : settled tb (stateOf b) ≡ stateOf b) (t : ℕ) (h : t < 64) where
+  one : (row : List ℕ) → settledOne tb (withThread (stateOf b) t row) t (ownList tb (thread (stateOf b) t)) (bit (isWaiting (thread (stateOf b) t))) ≡ settled tb (withThread (stateOf b) t row)
+  one row = one-settled tb (stateOf b) (length-threads b) e t h row
 
-  alone-settled : (m : Move) → Alone m → settledOne tb (written tb (view b) t m) t (ownList tb (thread (view b) t)) (bit (isWaiting (thread (view b) t))) ≡ settled tb (written tb (view b) t m)
+  alone-settled : (m : Move) → Alone m → settledOne tb (written tb (stateOf b) t m) t (ownList tb (thread (stateOf b) t)) (bit (isWaiting (thread (stateOf b) t))) ≡ settled tb (written tb (stateOf b) t m)
   unfolding written Alone
   alone-settled Ends a = one _
   alone-settled Calls a = one _
@@ -51,22 +53,22 @@ module _ (tb : Table) (b : List ℕ) (e : settled tb (view b) ≡ view b) (t : �
   alone-settled LacksChannel a = absurd a
 
   creation-settled : (x : ℕ) (m : Move) → Creation x m
-      → settledNew tb (written tb (view b) t m) t x (ownList tb (thread (view b) t)) (bit (isWaiting (thread (view b) t))) ≡ settled tb (written tb (view b) t m)
+      → settledNew tb (written tb (stateOf b) t m) t x (ownList tb (thread (stateOf b) t)) (bit (isWaiting (thread (stateOf b) t))) ≡ settled tb (written tb (stateOf b) t m)
   unfolding written Creation
   creation-settled x Ends a = absurd a
   creation-settled x Calls a = absurd a
   creation-settled x Waits a = absurd a
   creation-settled x (Goes i) a = absurd a
   creation-settled x (Creates i c) (q, a) =
-      rw q (new-marked tb _ 1 _ t x _ _ (new-settled tb (view b) (length-threads b) e t h _ x _ a))
+      rw q (new-marked tb _ 1 _ t x _ _ (new-settled tb (stateOf b) (length-threads b) e t h _ x _ a))
   creation-settled x (Spawns i u) a = absurd a
   creation-settled x (Meets i u j) a = absurd a
   creation-settled x LacksThread a = absurd a
   creation-settled x LacksChannel a = absurd a
 
   paired-settled : (x : ℕ) (m : Move) → Paired t x m
-      → settledTwo tb (written tb (view b) t m) t x (ownList tb (thread (view b) t)) (bit (isWaiting (thread (view b) t))) (ownList tb (thread (view b) x)) (bit (isWaiting (thread (view b) x)))
-      ≡ settled tb (written tb (view b) t m)
+      → settledTwo tb (written tb (stateOf b) t m) t x (ownList tb (thread (stateOf b) t)) (bit (isWaiting (thread (stateOf b) t))) (ownList tb (thread (stateOf b) x)) (bit (isWaiting (thread (stateOf b) x)))
+      ≡ settled tb (written tb (stateOf b) t m)
   unfolding written spawnedBy Paired
   paired-settled x Ends a = absurd a
   paired-settled x Calls a = absurd a
@@ -74,34 +76,47 @@ module _ (tb : Table) (b : List ℕ) (e : settled tb (view b) ≡ view b) (t : �
   paired-settled x (Goes i) a = absurd a
   paired-settled x (Creates i c) a = absurd a
   paired-settled x (Spawns i u) (q, l, n) =
-      rw q (two-marked tb _ 0 _ t x _ _ _ _ (two-settled tb (view b) (length-threads b) e t h _ x l n _))
-  paired-settled x (Meets i u j) (q, l, n) = rw q (two-settled tb (view b) (length-threads b) e t h _ x l n _)
+      rw q (two-marked tb _ 0 _ t x _ _ _ _ (two-settled tb (stateOf b) (length-threads b) e t h _ x l n _))
+  paired-settled x (Meets i u j) (q, l, n) = rw q (two-settled tb (stateOf b) (length-threads b) e t h _ x l n _)
   paired-settled x LacksThread a = absurd a
   paired-settled x LacksChannel a = absurd a
 
   -- ---- the code's way out: s₁ after the writes, s₂ after the upkeep
 
   module _ (m : Move) (s₁ s₂ : State) (l : List ℕ) (w : ℕ) where
-    pub alone-made : s₂ ≡ settledOne tb s₁ t l w → s₁ ≡ written tb (view b) t m → l ≡ ownList tb (thread (view b) t) → w ≡ bit (isWaiting (thread (view b) t)) → Alone m
-        → s₂ ≡ perform tb (view b) t m
+    pub alone-made : s₂ ≡ settledOne tb s₁ t l w → s₁ ≡ written tb (stateOf b) t m → l ≡ ownList tb (thread (stateOf b) t) → w ≡ bit (isWaiting (thread (stateOf b) t)) → Alone m
+        → s₂ ≡ perform tb (stateOf b) t m
     unfolding perform
     alone-made f g i j a = f ∙ rw (g, i, j) (alone-settled m a)
 
-    pub creation-made : (x : ℕ) → s₂ ≡ settledNew tb s₁ t x l w → s₁ ≡ written tb (view b) t m → l ≡ ownList tb (thread (view b) t) → w ≡ bit (isWaiting (thread (view b) t)) → Creation x m
-        → s₂ ≡ perform tb (view b) t m
+    pub creation-made : (x : ℕ) → s₂ ≡ settledNew tb s₁ t x l w → s₁ ≡ written tb (stateOf b) t m → l ≡ ownList tb (thread (stateOf b) t) → w ≡ bit (isWaiting (thread (stateOf b) t)) → Creation x m
+        → s₂ ≡ perform tb (stateOf b) t m
     unfolding perform
     creation-made x f g i j a = f ∙ rw (g, i, j) (creation-settled x m a)
 
-  pub paired-made : (m : Move) (s₁ : State) (x : ℕ) (l : List ℕ) (w : ℕ) (l′ : List ℕ) (w′ : ℕ) → s₁ ≡ settledTwo tb (written tb (view b) t m) t x l w l′ w′
-      → l ≡ ownList tb (thread (view b) t) → w ≡ bit (isWaiting (thread (view b) t)) → l′ ≡ ownList tb (thread (view b) x) → w′ ≡ bit (isWaiting (thread (view b) x)) → Paired t x m
-      → s₁ ≡ perform tb (view b) t m
+  pub paired-made : (m : Move) (s₁ : State) (x : ℕ) (l : List ℕ) (w : ℕ) (l′ : List ℕ) (w′ : ℕ) → s₁ ≡ settledTwo tb (written tb (stateOf b) t m) t x l w l′ w′
+      → l ≡ ownList tb (thread (stateOf b) t) → w ≡ bit (isWaiting (thread (stateOf b) t)) → l′ ≡ ownList tb (thread (stateOf b) x) → w′ ≡ bit (isWaiting (thread (stateOf b) x)) → Paired t x m
+      → s₁ ≡ perform tb (stateOf b) t m
   unfolding perform
   paired-made m s₁ x l w l′ w′ f i j k n a = f ∙ rw (i, j, k, n) (paired-settled x m a)
 
-  pub met-made : (s₁ s₂ : State) (l : List ℕ) (w j v : ℕ) → s₂ ≡ settledOne tb s₁ t l w → s₁ ≡ withThread (view b) t (metBy tb (thread (view b) t) j v)
-      → l ≡ ownList tb (thread (view b) t) → w ≡ bit (isWaiting (thread (view b) t)) → s₂ ≡ metByBench tb (view b) t j v
+  pub met-made : (s₁ s₂ : State) (l : List ℕ) (way : Way) (w j v : ℕ) → s₂ ≡ settledOne tb s₁ t l w → s₁ ≡ withThread (stateOf b) t (metAlong tb (thread (stateOf b) t) way v)
+      → way ≡ wayOf tb (thread (stateOf b) t) j → l ≡ ownList tb (thread (stateOf b) t) → w ≡ bit (isWaiting (thread (stateOf b) t)) → s₂ ≡ metByBench tb (stateOf b) t j v
   unfolding metByBench
-  met-made s₁ s₂ l w j v f g i k = f ∙ rw (g, i, k) (one _)
+  met-made s₁ s₂ l way w j v f g p i k =
+      let q : metAlong tb (thread (stateOf b) t) way v ≡ metBy tb (thread (stateOf b) t) j v = rw p (met-way tb (thread (stateOf b) t) j v) in
+      f ∙ rw (g, i, k, q) (one _)
+
+-- ---- what is written along the ways of branches
+
+module _ (tb : Table) (s s₁ : State) (t i : ℕ) where
+  pub goes-written : (way : Way) → s₁ ≡ withThread s t (goneAlong tb (thread s t) way) → way ≡ wayOf tb (thread s t) i → s₁ ≡ written tb s t (Goes i)
+  unfolding written
+  goes-written way e p = e ∙ rw (p, gone-way tb (thread s t) i)
+
+  pub meets-written : (u j : ℕ) (own other : Way) → s₁ ≡ metAlongBoth tb s t own u other → own ≡ wayOf tb (thread s t) i → other ≡ wayOf tb (thread s u) j
+      → s₁ ≡ written tb s t (Meets i u j)
+  meets-written u j own other e p q = e ∙ rw (p, q) (meeting-way tb s t i u j)
 
 -- ---- arms
 

@@ -1,4 +1,4 @@
-use Rattle.table.proofs.Places.{owner-is, owner-none, owner-small}
+use Rattle.table.proofs.Places.{owner-inside, owner-is, owner-small, owner-none}
 use borrow.Author.Needs.{needs}
 use Rattle.table.proofs.owner_of.Statement.{statement}
 use Rattle.table.proofs.owner_of.Tie as tie
@@ -8,9 +8,9 @@ owner-of-spec =
     tie.close
     (tie.spec
     (λ c κs. search needs)
-    (λ c. search needs)
     (λ c κs. search needs)
     (λ c. search needs)
-    (λ c κs. search needs)
-    (λ c. (search (owner-is, owner-none), search (owner-small, needs)))
-    (λ c. (search (owner-is, owner-none), search (owner-small, needs))))
+    (λ c. search needs)
+    (λ c. search owner-inside)
+    (λ c. (search owner-is, search owner-small))
+    (λ c. (search owner-none, search needs)))

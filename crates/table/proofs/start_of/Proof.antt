@@ -1,4 +1,4 @@
-use Rattle.table.proofs.Places.{start-is, start-past, start-low}
+use Rattle.table.proofs.Places.{start-inside, start-is, start-low, start-past}
 use borrow.Author.Needs.{needs}
 use Rattle.table.proofs.start_of.Statement.{statement}
 use Rattle.table.proofs.start_of.Tie as tie
@@ -9,5 +9,8 @@ start-of-spec =
     (tie.spec
     (λ c κs. search needs)
     (λ c κs. search needs)
+    (λ c. search needs)
+    (λ c. search needs)
+    (λ c. search start-inside)
     (λ c. (search start-is, search start-low))
     (λ c. (search start-past, search needs)))

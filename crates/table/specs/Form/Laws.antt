@@ -5,18 +5,9 @@ use mathlib.Core.Bool.{Bool, true, false, _&&_}
 use lib.Dec.{leb}
 use native.Mathlib.Omega.{arith}
 use borrow.Author.Tests.{leb-true}
+use Rattle.numbers.specs.Tests.{and-left, and-right, parts}
 use Rattle.table.specs.Table.{Table, types, definitions, slots, nodes, branches, ports}
 use Rattle.table.specs.Form.{within, headerInRange}
-
-pub and-left : (a b : Bool) → (a && b) ≡ true → a ≡ true
-and-left true b e = refl
-and-left false b e = e
-
-pub and-right : (a b : Bool) → (a && b) ≡ true → b ≡ true
-and-right true b e = e
-and-right false b e = absurd (let z : _≡_ {A = ℕ} 0 1 = cc in let h : ⊥ = omega arith in h)
-
-pub ruleset parts = (and-left, and-right)
 
 pub within-least : (l m v : ℕ) → within l m v ≡ true → l ≤ v
 unfolding within

@@ -1,12 +1,16 @@
 -- What stands in the places of an index. Assumes nothing.
-use Prim.Native.Nat.{ℕ, _+_, _-_, _≤_, _<_}
+use Prim.Native.Nat.{ℕ, _+_, _-_, _*_, _/_, _≤_, _<_}
 use native.Mathlib.Omega.{arith}
-use mathlib.Core.Path.{_≡_, _∙_}
-use mathlib.Core.List.{List}
-use lib.ListN.{getD}
+use native.Mathlib.Nat.{min-le-right}
+use mathlib.Core.Path.{_≡_, refl, sym, _∙_}
+use mathlib.Core.List.{List, []}
+use lib.ListN.{length, getD, take, drop, length-take, length-drop}
 use borrow.Author.Tests.{lt-ltb, le-ltb}
-use Rattle.numbers.specs.Search.Laws.{getD-tabulate}
-use Rattle.table.specs.Table.{Table}
+use Rattle.numbers.specs.Bytes.{shorts}
+use Rattle.numbers.specs.Bytes.Laws.{length-numbers}
+use Rattle.numbers.specs.Rows.Laws.{row-in, length-row}
+use Rattle.numbers.specs.Search.Laws.{getD-tabulate, length-tabulate}
+use Rattle.table.specs.Table.{Table, tableOf, definitionRow, slotRow, nodeRow, branchRow}
 use Rattle.table.specs.Layout.{blocks, lines, start, owner}
 use Rattle.table.specs.Form.Laws.{Counts, header-counts}
 use Rattle.table.specs.Index.{indexLength, startsFrom, startsRoom, ownersFrom, ownersRoom, entry, indexOf, Indexed}
@@ -34,7 +38,23 @@ module _ (tb : Table) where
       rw (le-ltb (227 + x) 17 (omega arith), le-ltb (227 + x) 34 (omega arith), le-ltb (227 + x) 227 (omega arith), lt-ltb (227 + x) 419 (omega arith), d)
   entry-owner Branches x h =
       let d : 419 + x - 419 ≡ x = omega arith in
-      rw (le-ltb (419 + x) 17 (omega arith), le-ltb (419 + x) 34 (omega arith), le-ltb (419 + x) 227 (omega arith), le-ltb (419 + x) 419 (omega arith), d)
+      rw (le-ltb (419 + x) 17 (omega arith), le-ltb (419 + x) 34 (omega arith), le-ltb (419 + x) 227 (omega arith), le-ltb (419 + x) 419 (omega arith), lt-ltb (419 + x) 803 (omega arith), d)
+
+  pub entry-definition-row : entry tb 803 ≡ definitionRow tb
+  unfolding entry
+  entry-definition-row = refl
+
+  pub entry-slot-row : entry tb 804 ≡ slotRow tb
+  unfolding entry
+  entry-slot-row = refl
+
+  pub entry-node-row : entry tb 805 ≡ nodeRow tb
+  unfolding entry
+  entry-node-row = refl
+
+  pub entry-branch-row : entry tb 806 ≡ branchRow tb
+  unfolding entry
+  entry-branch-row = refl
 
   -- the header's counts keep every place inside its room
   pub starts-fit : Counts tb → (p : Part) → blocks tb p + 1 ≤ startsRoom p
@@ -59,17 +79,28 @@ module _ (tb : Table) where
   owners-inside Nodes = omega arith
   owners-inside Branches = omega arith
 
-  module _ (l : List ℕ) (g : Indexed tb l) (p : Part) where
-    at-entry : (k : ℕ) → k < indexLength → getD l k 0 ≡ entry tb k
+  module _ (l : List ℕ) (g : Indexed tb l) where
+    pub length-index : length l ≡ indexLength
+    unfolding indexOf
+    length-index = rw (g .entries) (length-tabulate indexLength (entry tb))
+
+    pub at-entry : (k : ℕ) → k < indexLength → getD l k 0 ≡ entry tb k
     unfolding indexOf
     at-entry k h = rw (g .entries) (getD-tabulate indexLength k (entry tb) 0 h)
 
-    pub index-start : (i : ℕ) → i ≤ blocks tb p → getD l (startsFrom p + i) 0 ≡ start tb p i
-    index-start i h =
-        let f : i < startsRoom p = omega (arith, starts-fit (header-counts tb (g .counts)) p) in
-        at-entry (startsFrom p + i) (omega (arith, starts-inside p)) ∙ entry-start p i f
+    pub index-start : (p : Part) (i : ℕ) → i < startsRoom p → getD l (startsFrom p + i) 0 ≡ start tb p i
+    index-start p i h = at-entry (startsFrom p + i) (omega (arith, starts-inside p)) ∙ entry-start p i h
 
-    pub index-owner : (x : ℕ) → 0 < ownersRoom p → x < lines tb p → getD l (ownersFrom p + x) 0 ≡ owner tb p x
-    index-owner x h k =
-        let f : x < ownersRoom p = omega (arith, lines-fit (header-counts tb (g .counts)) p h) in
-        at-entry (ownersFrom p + x) (omega (arith, owners-inside p)) ∙ entry-owner p x f
+    pub index-owner : (p : Part) (x : ℕ) → x < ownersRoom p → getD l (ownersFrom p + x) 0 ≡ owner tb p x
+    index-owner p x h = at-entry (ownersFrom p + x) (omega (arith, owners-inside p)) ∙ entry-owner p x h
+
+-- a buffer of a table's length has a whole last row, and no shorter one has
+pub long-whole : (b : List ℕ) → length b ≡ 20760 → length (getD (tableOf b) 864 []) ≡ 12
+long-whole b h = length-row 865 12 (shorts b) 864 (omega arith) (omega (arith, length-numbers 2 b))
+
+pub whole-long : (b l : List ℕ) → Indexed (tableOf b) l → 20760 ≤ length b
+whole-long b l g =
+    let e : take 12 (drop 10368 (shorts b)) ≡ getD (tableOf b) 864 [] = sym (row-in 865 12 (shorts b) 864 (omega arith)) in
+    let f : length (take 12 (drop 10368 (shorts b))) ≡ 12 = rw e (g .whole) in
+    let m : 12 ≤ length (drop 10368 (shorts b)) = rw (← f) (rw (length-take 12 (drop 10368 (shorts b))) (min-le-right 12 (length (drop 10368 (shorts b))))) in
+    omega (arith, length-drop 10368 (shorts b), length-numbers 2 b)

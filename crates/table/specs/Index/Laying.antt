@@ -9,14 +9,14 @@ use lib.ListN.{getD, set, replicate}
 use borrow.Author.Tests.{lt-ltb, le-ltb, ltb-false}
 use Rattle.numbers.specs.Search.{first, sumTo}
 use Rattle.numbers.specs.Search.Laws.{first-none, first-more, first-hit, first-void, first-below, first-le, sum-none, sum-more}
-use Rattle.table.specs.Table.{Table}
+use Rattle.table.specs.Table.{Table, definitionRow, slotRow, nodeRow, branchRow}
 use Rattle.table.specs.Layout.{blocks, lines, size, start, owner, endsPast}
 use Rattle.table.specs.Form.{headerInRange}
 use Rattle.table.specs.Form.Laws.{header-counts}
 use Rattle.table.specs.Index.{indexLength, startsFrom, startsRoom, ownersFrom, ownersRoom, entry, indexOf, Starts}
 use Rattle.numbers.specs.Laid.{laid}
 use Rattle.numbers.specs.Laid.Laws.{laid-none, laid-all, laid-put, laid-zero, laid-skip, getD-laid}
-use Rattle.table.specs.Index.Laws.{entry-start, entry-owner, starts-fit, lines-fit, starts-inside, owners-inside}
+use Rattle.table.specs.Index.Laws.{entry-start, entry-owner, entry-definition-row, entry-slot-row, entry-node-row, entry-branch-row, starts-fit, lines-fit, starts-inside, owners-inside}
 use Rattle.table.specs.Layout.Laws.{start-sum, start-none, start-out, owner-past}
 use Rattle.table.specs.declared.Part.{Part}
 use Rattle.table.specs.declared.Part.the-variants.{Slots, Nodes, Branches}
@@ -123,6 +123,19 @@ module _ (tb : Table) (p : Part) where
           a ∙ laid-skip (entry tb) indexLength (from + x) (ownersFrom p + ownersRoom p) (omega arith) (owners-inside tb p)
           (λ y u z. let q : y ≡ ownersFrom p + (y - ownersFrom p) = omega arith in
           rw q (entry-owner tb p (y - ownersFrom p) (omega arith) ∙ owner-past tb p (y - ownersFrom p) (omega arith)))
+
+-- the first rows are laid behind the owners
+module _ (tb : Table) where
+  row-laid : (l l′ : List ℕ) (p v : ℕ) → p < indexLength → v ≡ entry tb p → l ≡ laid (entry tb) p indexLength → l′ ≡ set l p v → l′ ≡ laid (entry tb) (suc p) indexLength
+  row-laid l l′ p v h e a d = d ∙ rw (a, e) (laid-put (entry tb) indexLength p h)
+
+  pub rows-laid : (l l₁ l₂ l₃ l₄ : List ℕ) (d s n b : ℕ) → l₄ ≡ set l₃ 806 b → l₃ ≡ set l₂ 805 n → l₂ ≡ set l₁ 804 s → l₁ ≡ set l 803 d → l ≡ laid (entry tb) 803 indexLength
+      → d ≡ definitionRow tb → s ≡ slotRow tb → n ≡ nodeRow tb → b ≡ branchRow tb → l₄ ≡ laid (entry tb) indexLength indexLength
+  rows-laid l l₁ l₂ l₃ l₄ d s n b e₄ e₃ e₂ e₁ e f g h i =
+      row-laid l₃ l₄ 806 b (omega arith) (i ∙ sym (entry-branch-row tb))
+      (row-laid l₂ l₃ 805 n (omega arith) (h ∙ sym (entry-node-row tb))
+      (row-laid l₁ l₂ 804 s (omega arith) (g ∙ sym (entry-slot-row tb))
+      (row-laid l l₁ 803 d (omega arith) (f ∙ sym (entry-definition-row tb)) e e₁) e₂) e₃) e₄
 
 pub index-none : (tb : Table) (l : List ℕ) → l ≡ replicate indexLength 0 → l ≡ laid (entry tb) 0 indexLength
 index-none tb l e = e ∙ sym (laid-none (entry tb) indexLength)

@@ -4,7 +4,7 @@ use mathlib.Core.Path.{_≡_}
 use lib.ListN.{length}
 use borrow.Author.Needs.{needs}
 use Rattle.table.specs.Table.{tableOf}
-use Rattle.state.specs.State.{view, thread}
+use Rattle.state.specs.State.{stateOf, thread}
 use Rattle.tally.specs.Tally.{addedTo}
 use Rattle.tally.proofs.Ways.{slots-none, slots-more, slots-all}
 use Rattle.tally.proofs.add_slots.Statement.{statement}
@@ -13,7 +13,7 @@ use Rattle.tally.proofs.add_slots.Tie as tie
 abbrev Inv-loop : tie.InvT-loop
 Inv-loop table index d state t n w held₀ waiting₀ k₀ held waiting k =
     (k ≤ n) × (length held ≡ length held₀) × (length waiting ≡ length waiting₀)
-    × (held ≡ addedTo (tableOf table) (thread (view state) t) 1 held₀ k) × (waiting ≡ addedTo (tableOf table) (thread (view state) t) w waiting₀ k)
+    × (held ≡ addedTo (tableOf table) (thread (stateOf state) t) 1 held₀ k) × (waiting ≡ addedTo (tableOf table) (thread (stateOf state) t) w waiting₀ k)
 
 abbrev μ-loop : tie.MeasureT-loop
 μ-loop table index d state t n w held₀ waiting₀ k₀ held waiting k = n - k

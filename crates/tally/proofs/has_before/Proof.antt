@@ -4,7 +4,7 @@ use mathlib.Core.Path.{_≡_}
 use mathlib.Core.Bool.{false}
 use borrow.Author.Needs.{needs}
 use Rattle.table.specs.Table.{tableOf}
-use Rattle.state.specs.State.{view, thread}
+use Rattle.state.specs.State.{stateOf, thread}
 use Rattle.tally.specs.Fresh.{hasTo}
 use Rattle.tally.proofs.Ways.{has}
 use Rattle.tally.proofs.has_before.Statement.{statement}
@@ -12,7 +12,7 @@ use Rattle.tally.proofs.has_before.Tie as tie
 
 abbrev Inv-loop : tie.InvT-loop
 Inv-loop table index d state t c n k₀ k =
-    (k ≤ n) × (hasTo (tableOf table) (thread (view state) t) c k ≡ false)
+    (k ≤ n) × (hasTo (tableOf table) (thread (stateOf state) t) c k ≡ false)
 
 abbrev μ-loop : tie.MeasureT-loop
 μ-loop table index d state t c n k₀ k = n - k

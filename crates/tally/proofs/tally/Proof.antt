@@ -5,7 +5,7 @@ use mathlib.Core.Bool.{true}
 use lib.ListN.{length}
 use borrow.Author.Needs.{needs}
 use Rattle.table.specs.Table.{tableOf}
-use Rattle.state.specs.State.{view, isWaiting}
+use Rattle.state.specs.State.{stateOf, isWaiting}
 use Rattle.tally.specs.Tally.{addedBelow}
 use Rattle.tally.proofs.Ways.{tallies}
 use Rattle.tally.proofs.tally.Statement.{statement}
@@ -14,8 +14,8 @@ use Rattle.tally.proofs.tally.Tie as tie
 abbrev Inv-loop : tie.InvT-loop
 Inv-loop table index state held₀ waiting₀ t₀ held waiting t =
     (t ≤ 64) × (length held ≡ length held₀) × (length waiting ≡ length waiting₀)
-    × (held ≡ addedBelow (tableOf table) (λ row. true) (view state .threads) held₀ t)
-    × (waiting ≡ addedBelow (tableOf table) (λ row. isWaiting row) (view state .threads) waiting₀ t)
+    × (held ≡ addedBelow (tableOf table) (λ row. true) (stateOf state .threads) held₀ t)
+    × (waiting ≡ addedBelow (tableOf table) (λ row. isWaiting row) (stateOf state .threads) waiting₀ t)
 
 abbrev μ-loop : tie.MeasureT-loop
 μ-loop table index state held₀ waiting₀ t₀ held waiting t = 64 - t

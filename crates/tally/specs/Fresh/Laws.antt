@@ -8,13 +8,12 @@ use lib.Dec.{eqb, ltb}
 use borrow.Author.Tests.{ltb-true, eqb-true, eq-eqb, ne-eqb, lt-ltb, le-ltb}
 use Rattle.numbers.specs.Count.{bit}
 use Rattle.numbers.specs.Search.{some}
-use Rattle.numbers.specs.Search.Laws.{caseB, contra}
+use Rattle.numbers.specs.Search.Laws.{caseB, contra, some-more, some-suc}
 use Rattle.table.specs.Table.{Table, slotCount}
 use Rattle.table.specs.Layout.{definitionOf}
 use Rattle.state.specs.State.{rowSlots, standsAt, slotOf}
 use Rattle.rules.specs.Program.{channelSlot}
 use Rattle.rules.specs.Holding.{hasAt}
-use Rattle.tally.specs.General.{some-more, some-suc}
 use Rattle.tally.specs.Fresh.{ownSlots, hasTo, freshOf}
 
 -- ---- the slots that a definition has not are no channel slots

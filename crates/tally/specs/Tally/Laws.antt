@@ -13,13 +13,12 @@ use Rattle.numbers.specs.Count.{bit, count}
 use Rattle.numbers.specs.Count.Laws.{count-le, count-index}
 use Rattle.numbers.specs.Laid.Laws.{zeros-at}
 use Rattle.numbers.specs.Search.{sumTo, tabulate}
-use Rattle.numbers.specs.Search.Laws.{caseB, sum-none, sum-suc}
+use Rattle.numbers.specs.Search.Laws.{caseB, sum-none, sum-suc, some-zero, is-tabulate}
 use Rattle.table.specs.Table.{Table}
 use Rattle.table.specs.Layout.{definitionOf}
 use Rattle.state.specs.State.{standsAt, inUse, isWaiting}
 use Rattle.rules.specs.Holding.{hasAt, holds, holders, waiters}
 use Rattle.tally.specs.Fresh.{ownSlots, hasTo, freshOf}
-use Rattle.tally.specs.General.{some-zero, is-tabulate}
 use Rattle.tally.specs.Fresh.Laws.{has-own, fresh-law}
 use Rattle.tally.specs.Tally.{added, addedTo, rowAdded, addedBelow}
 

@@ -8,7 +8,7 @@ use borrow.Author.Needs.{needs}
 use Rattle.numbers.specs.Search.{every, tabulate}
 use Rattle.numbers.specs.Search.Laws.{every-none, every-more, contra}
 use Rattle.table.specs.Table.{tableOf}
-use Rattle.state.specs.State.{view, maxChannels}
+use Rattle.state.specs.State.{stateOf, maxChannels}
 use Rattle.rules.specs.declared.Direction.the-variants.{Out, In}
 use Rattle.waits.specs.Waits.{branchHeld, whoTo}
 use Rattle.waits.proofs.Ways.{branches-none, branches-more, branches-all, held-all, held-not}
@@ -17,8 +17,8 @@ use Rattle.waits.proofs.note_branches.Tie as tie
 
 abbrev Inv-loop : tie.InvT-loop
 Inv-loop table index state t n senders₀ receivers₀ count i₀ senders receivers i =
-    (i ≤ count) × (length senders ≡ length senders₀) × (length receivers ≡ length receivers₀) × (every (branchHeld (tableOf table) (view state) t) i ≡ true)
-    × (senders ≡ tabulate maxChannels (whoTo (tableOf table) (view state) Out t i)) × (receivers ≡ tabulate maxChannels (whoTo (tableOf table) (view state) In t i))
+    (i ≤ count) × (length senders ≡ length senders₀) × (length receivers ≡ length receivers₀) × (every (branchHeld (tableOf table) (stateOf state) t) i ≡ true)
+    × (senders ≡ tabulate maxChannels (whoTo (tableOf table) (stateOf state) Out t i)) × (receivers ≡ tabulate maxChannels (whoTo (tableOf table) (stateOf state) In t i))
 
 abbrev μ-loop : tie.MeasureT-loop
 μ-loop table index state t n senders₀ receivers₀ count i₀ senders receivers i = count - i

@@ -7,8 +7,8 @@ use mathlib.Core.Bool.{Bool, true, false, not, _&&_}
 use lib.Dec.{ltb, eqb}
 use borrow.Author.Tests.{ltb-true, ltb-false, lt-ltb, eqb-true, eqb-false, eq-eqb, ne-eqb, not-true}
 use Rattle.numbers.specs.Search.{every, first, some}
-use Rattle.numbers.specs.Search.Laws.{caseB, contra, every-elim, every-intro, some-elim, some-intro}
-use Rattle.table.specs.Form.Laws.{and-left, and-right}
+use Rattle.numbers.specs.Search.Laws.{caseB, contra, every-elim, every-intro, some-elim, some-intro, same-truth}
+use Rattle.numbers.specs.Tests.{and-left, and-right}
 use Rattle.table.specs.Table.{Table}
 use Rattle.table.specs.Layout.{branchCount}
 use Rattle.state.specs.State.{State, maxThreads, maxChannels, thread, standsAt, slotOf, isWaiting}
@@ -20,7 +20,6 @@ use Rattle.rules.specs.declared.Direction.{Direction}
 use Rattle.rules.specs.declared.Direction.the-variants.{Out, In}
 use Rattle.rules.specs.declared.Act.{Act}
 use Rattle.rules.specs.declared.Act.the-variants.{Tau, Meeting, New, Spawn, Assignment}
-use Rattle.tally.specs.General.{same-truth}
 use Rattle.waits.specs.Waits.{several, noted, noteOf, apart, needsPartner, heldBack, branchHeld, waitsAlone, who}
 
 -- ---- what a note means

@@ -11,15 +11,14 @@ use lib.Seq.{getD-set-same, getD-set-other}
 use borrow.Author.Tests.{lt-ltb, eqb-true, eqb-false, eq-eqb, ne-eqb}
 use Rattle.numbers.specs.Laid.Laws.{zeros-at}
 use Rattle.numbers.specs.Search.{some, tabulate}
-use Rattle.numbers.specs.Search.Laws.{caseB, getD-tabulate, length-tabulate, tabulate-cong}
-use Rattle.table.specs.Form.Laws.{and-left, and-right}
+use Rattle.numbers.specs.Search.Laws.{caseB, getD-tabulate, length-tabulate, tabulate-cong, some-zero, some-suc, is-tabulate}
+use Rattle.numbers.specs.Tests.{and-left, and-right}
 use Rattle.table.specs.Table.{Table}
 use Rattle.table.specs.Layout.{branchCount}
 use Rattle.state.specs.State.{State, maxChannels, thread, standsAt, slotOf, isWaiting}
 use Rattle.rules.specs.Program.{branchAt, fieldA, actOf, guardHolds}
 use Rattle.rules.specs.Offers.{meets?, offersIn, offersAt, offers}
 use Rattle.rules.specs.declared.Direction.{Direction}
-use Rattle.tally.specs.General.{some-zero, some-suc, is-tabulate}
 use Rattle.waits.specs.Waits.{noted, noteOf, offerNoted, branchNoted, who, whoTo}
 
 -- a thread is noted once

@@ -15,5 +15,4 @@ call-slots-spec =
     (λ c κs. search needs)
     (λ c κs. search needs)
     (λ c κs. search needs)
-    (λ c. search needs)
     (λ c. search calls-looked))

@@ -1,4 +1,4 @@
-use Rattle.numbers.specs.Tests.{tests, orders, lt-via, ge-via, cond-yes, cond-no}
+use Rattle.numbers.specs.Tests.{lt-via, ge-via, cond-yes, cond-no}
 use Rattle.writes.specs.Rows.{entryAt}
 use borrow.Author.Needs.{needs}
 use Rattle.writes.proofs.entry_at.Statement.{statement}

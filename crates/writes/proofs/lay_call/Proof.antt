@@ -1,11 +1,10 @@
 -- `writes::lay_call` meets its contract. The loop: the first k slots are laid. Assumes nothing.
 use Prim.Native.Nat.{_≤_, _-_}
 use mathlib.Core.Path.{_≡_}
-use lib.ListN.{length}
 use borrow.Author.Needs.{needs}
 use Rattle.numbers.specs.Laid.{laid}
 use Rattle.table.specs.Table.{tableOf}
-use Rattle.state.specs.State.{view, thread, rowSlots}
+use Rattle.state.specs.State.{stateOf, thread, rowSlots}
 use Rattle.writes.specs.Rows.Laws.{slots-none}
 use Rattle.writes.specs.Calling.{callBy}
 use Rattle.writes.specs.Calling.Laws.{calls-more, calls-laid}
@@ -13,11 +12,11 @@ use Rattle.writes.proofs.lay_call.Statement.{statement}
 use Rattle.writes.proofs.lay_call.Tie as tie
 
 abbrev Inv-loop : tie.InvT-loop
-Inv-loop table row from p n state t slots₀ last k₀ slots k =
-    (k ≤ last) × (length slots ≡ length slots₀) × (slots ≡ laid (callBy (tableOf table) row from p n (thread (view state) t)) k rowSlots)
+Inv-loop table index row from p n state t slots₀ last k₀ slots k =
+    (k ≤ last) × (slots ≡ laid (callBy (tableOf table) row from p n (thread (stateOf state) t)) k rowSlots)
 
 abbrev μ-loop : tie.MeasureT-loop
-μ-loop table row from p n state t slots₀ last k₀ slots k = last - k
+μ-loop table index row from p n state t slots₀ last k₀ slots k = last - k
 
 pub lay-call-spec : {M : Type 1} → statement M
 lay-call-spec =
@@ -26,12 +25,11 @@ lay-call-spec =
     Inv-loop
     μ-loop
     (λ c κs. search needs)
-    (λ c. (search needs, search needs, search slots-none))
+    (λ c. (search needs, search slots-none))
     (λ c. search needs)
     (λ c κs. search needs)
     (λ c κs. search needs)
     (λ c. search needs)
     (λ c. search needs)
-    (λ c. (search needs, search needs, calls-more _ _ _ _ _ _ (c .before .before .before .before .before .before .loop .slots) _ _ (c .before .before .before .before .before .before .before .last-slot .result) (c .before .before .before .call-slot .result) (c .before .before .put-cell .ensures) (search) (search) (search needs) (search)))
-    (λ c. search needs)
+    (λ c. (search needs, calls-more _ _ _ _ _ _ (c .before .before .before .before .loop .slots) _ _ (c .before .before .before .before .before .last-slot .result) (c .before .call-slot .result) (c .put-cell .ensures) (search) (search) (search needs) (search)))
     (λ c. search calls-laid))

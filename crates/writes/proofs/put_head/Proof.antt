@@ -9,5 +9,4 @@ put-head-spec =
     (tie.spec
     (λ c κs. search needs)
     (λ c κs. search needs)
-    (λ c. search needs)
-    (λ c. search head-written))
+    (λ c. search (head-written, needs)))

@@ -1,8 +1,7 @@
 -- `writes::put_slots` meets its contract. The loop: the first k slots are those of the list. Assumes nothing.
 use Prim.Native.Nat.{_≤_, _-_}
 use mathlib.Core.Path.{_≡_}
-use lib.ListN.{length}
-use Rattle.state.specs.State.{view, thread, withThread}
+use Rattle.state.specs.State.{stateOf, thread, withThread}
 use Rattle.writes.specs.Rows.{refilled}
 use Rattle.writes.specs.Rows.Laws.{refill-none, refill-more, refill-done}
 use borrow.Author.Needs.{needs}
@@ -10,11 +9,11 @@ use Rattle.writes.proofs.put_slots.Statement.{statement}
 use Rattle.writes.proofs.put_slots.Tie as tie
 
 abbrev Inv-loop : tie.InvT-loop
-Inv-loop state₀ t slots k₀ state k =
-    (k ≤ 16) × (length state ≡ length state₀) × (view state ≡ withThread (view state₀) t (refilled slots (thread (view state₀) t) k))
+Inv-loop state₀ t slots given k₀ state k =
+    (k ≤ 16) × (stateOf state ≡ withThread (stateOf state₀) t (refilled slots (thread (stateOf state₀) t) k))
 
 abbrev μ-loop : tie.MeasureT-loop
-μ-loop state₀ t slots k₀ state k = 16 - k
+μ-loop state₀ t slots given k₀ state k = 16 - k
 
 pub put-slots-spec : {M : Type 1} → statement M
 put-slots-spec =
@@ -22,12 +21,11 @@ put-slots-spec =
     (tie.spec
     Inv-loop
     μ-loop
-    (λ c. (search needs, search needs, search refill-none))
+    (λ c. (search needs, search refill-none))
     (λ c. search needs)
     (λ c κs. search needs)
     (λ c κs. search needs)
     (λ c. search needs)
     (λ c. search needs)
-    (λ c. (search needs, search needs, refill-more _ _ _ _ _ _ _ (c .before .before .store .ensures) (search needs) (search needs) (search needs)))
-    (λ c. search needs)
+    (λ c. (search needs, refill-more _ _ _ _ _ _ _ (c .store .ensures) (search needs) (search needs) (search needs)))
     (λ c. search (refill-done, needs)))

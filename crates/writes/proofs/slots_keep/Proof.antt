@@ -7,18 +7,18 @@ use borrow.Author.Tests.{not-true, not-false}
 use Rattle.numbers.specs.Search.{every}
 use Rattle.numbers.specs.Search.Laws.{every-none, every-more}
 use Rattle.table.specs.Table.{tableOf}
-use Rattle.state.specs.State.{view, thread}
+use Rattle.state.specs.State.{stateOf, thread}
 use Rattle.writes.specs.Calling.{keptBy}
 use Rattle.writes.specs.Calling.Laws.{kept-all, kept-not}
 use Rattle.writes.proofs.slots_keep.Statement.{statement}
 use Rattle.writes.proofs.slots_keep.Tie as tie
 
 abbrev Inv-loop : tie.InvT-loop
-Inv-loop table row from p n state t last k₀ k =
-    (k ≤ last) × (every (keptBy (tableOf table) row from p n (thread (view state) t)) k ≡ true)
+Inv-loop table index row from p n state t last k₀ k =
+    (k ≤ last) × (every (keptBy (tableOf table) row from p n (thread (stateOf state) t)) k ≡ true)
 
 abbrev μ-loop : tie.MeasureT-loop
-μ-loop table row from p n state t last k₀ k = last - k
+μ-loop table index row from p n state t last k₀ k = last - k
 
 pub slots-keep-spec : {M : Type 1} → statement M
 slots-keep-spec =
@@ -29,8 +29,8 @@ slots-keep-spec =
     (λ c κs. search needs)
     (λ c. search (every-none, needs))
     (λ c κs. search needs)
-    (λ c. search (kept-all, kept-not, not-true, not-false))
+    (λ c. search (kept-not, not-true))
     (λ c. search needs)
     (λ c. search needs)
     (λ c. search (every-more, not-false, not-true, needs))
-    (λ c. search (kept-all, kept-not, not-true, not-false)))
+    (λ c. search kept-all))

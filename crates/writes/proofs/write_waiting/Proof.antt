@@ -10,5 +10,4 @@ write-waiting-spec =
     (tie.spec
     (λ c κs. search needs)
     (λ c κs. search needs)
-    (λ c. search needs)
     (λ c. cc))

@@ -5,7 +5,7 @@ use mathlib.Core.Path.{_≡_, refl, sym, _∙_}
 use mathlib.Core.Bool.{Bool, true, false, not, _&&_, _||_, cond}
 use mathlib.Core.List.{List}
 use lib.Dec.{ltb, leb, eqb}
-use lib.ListN.{set, replicate}
+use lib.ListN.{set}
 use borrow.Author.Tests.{lt-ltb, le-ltb, le-leb, lt-leb, ltb-true, ltb-false, leb-true, eq-eqb, ne-eqb}
 use Rattle.numbers.specs.Rows.{at}
 use Rattle.numbers.specs.Laid.{laid}
@@ -16,7 +16,7 @@ use Rattle.table.specs.Table.{Table, slotRow, nodeRow, slotCount, parameters}
 use Rattle.table.specs.Layout.{start, definitionOf, slotType}
 use Rattle.table.specs.declared.Part.the-variants.{Slots, Nodes}
 use Rattle.state.specs.State.{rowSlots, minusOne, standsAt, slotOf}
-use Rattle.rules.specs.Program.{channelSlot, blank, callee, argument}
+use Rattle.rules.specs.Program.{channelSlot, blank, callee}
 use Rattle.writes.specs.Rows.{entryAt, callAt}
 use Rattle.writes.specs.Rows.Laws.{slots-more}
 use Rattle.writes.specs.Calling.{lastSlot, callBy, keptBy, slotKept, callKeeps}

@@ -11,7 +11,7 @@ use Rattle.numbers.specs.Laid.{laid}
 use Rattle.numbers.specs.Laid.Laws.{laid-none, laid-all, laid-put}
 use Rattle.numbers.specs.Search.{tabulate}
 use Rattle.numbers.specs.Search.Laws.{getD-tabulate, length-tabulate}
-use Rattle.state.specs.State.{State, view, thread, standsAt, slotOf, slotsOf, stateLength, rowSlots, withThread}
+use Rattle.state.specs.State.{State, stateOf, thread, standsAt, slotOf, slotsOf, stateWords, rowSlots, withThread}
 use Rattle.state.specs.State.Laws.{length-threads, length-thread, thread-same, thread-twice}
 use Rattle.numbers.specs.Rows.{at}
 use Rattle.table.specs.Table.{Table, nodeRow}
@@ -31,12 +31,12 @@ two-words (x ∷ []) a b h = absurd (omega arith)
 two-words (x ∷ y ∷ row) a b h = refl
 
 module _ (b b₁ : List ℕ) (t v n : ℕ) (s₂ : State) where
-  pub head-written : s₂ ≡ withThread (view b₁) t (set (thread (view b₁) t) 1 n) → view b₁ ≡ withThread (view b) t (set (thread (view b) t) 0 v)
-      → length b ≡ stateLength → t < 64 → s₂ ≡ withThread (view b) t (v ∷ n ∷ slotsOf (thread (view b) t))
+  pub head-written : s₂ ≡ withThread (stateOf b₁) t (set (thread (stateOf b₁) t) 1 n) → stateOf b₁ ≡ withThread (stateOf b) t (set (thread (stateOf b) t) 0 v)
+      → length b ≡ stateWords → t < 64 → s₂ ≡ withThread (stateOf b) t (v ∷ n ∷ slotsOf (thread (stateOf b) t))
   head-written e f l h =
-      let r = set (thread (view b) t) 0 v in
-      let g : thread (view b₁) t ≡ r = ap (λ (s : State). thread s t) f ∙ thread-same (view b) t r (omega (arith, length-threads b)) in
-      e ∙ rw (g, f, thread-twice (view b) t r (set r 1 n), two-words (thread (view b) t) v n (omega (arith, length-thread b l t h)))
+      let r = set (thread (stateOf b) t) 0 v in
+      let g : thread (stateOf b₁) t ≡ r = ap (λ (s : State). thread s t) f ∙ thread-same (stateOf b) t r (omega (arith, length-threads b)) in
+      e ∙ rw (g, f, thread-twice (stateOf b) t r (set r 1 n), two-words (thread (stateOf b) t) v n (omega (arith, length-thread b l t h)))
 
 -- ---- the slots of a row, one after the other
 
@@ -76,34 +76,34 @@ refill-all l row n e f =
         rw (← q) at p
 
 module _ (b : List ℕ) (t : ℕ) (l : List ℕ) where
-  pub refill-none : view b ≡ withThread (view b) t (refilled l (thread (view b) t) 0)
+  pub refill-none : stateOf b ≡ withThread (stateOf b) t (refilled l (thread (stateOf b) t) 0)
   unfolding refilled withThread
-  refill-none = rw (set-getD (view b .threads) t [])
+  refill-none = rw (set-getD (stateOf b .threads) t [])
 
   pub refill-more : (s₁ s₂ : State) (k x : ℕ) → s₂ ≡ withThread s₁ t (stored (thread s₁ t) k x)
-      → s₁ ≡ withThread (view b) t (refilled l (thread (view b) t) k) → x ≡ getD l k 0 → t < 64
-      → s₂ ≡ withThread (view b) t (refilled l (thread (view b) t) (k + 1))
+      → s₁ ≡ withThread (stateOf b) t (refilled l (thread (stateOf b) t) k) → x ≡ getD l k 0 → t < 64
+      → s₂ ≡ withThread (stateOf b) t (refilled l (thread (stateOf b) t) (k + 1))
   unfolding refilled
   refill-more s₁ s₂ k x e f g h =
-      let r = refilled l (thread (view b) t) k in
-      let w : thread s₁ t ≡ r = ap (λ (s : State). thread s t) f ∙ thread-same (view b) t r (omega (arith, length-threads b)) in
-      e ∙ rw (w, f, thread-twice (view b) t r (stored r k x), add-one k, g)
+      let r = refilled l (thread (stateOf b) t) k in
+      let w : thread s₁ t ≡ r = ap (λ (s : State). thread s t) f ∙ thread-same (stateOf b) t r (omega (arith, length-threads b)) in
+      e ∙ rw (w, f, thread-twice (stateOf b) t r (stored r k x), add-one k, g)
 
-  pub refill-done : (s₁ : State) (k : ℕ) → s₁ ≡ withThread (view b) t (refilled l (thread (view b) t) k)
-      → length b ≡ stateLength → length l ≡ rowSlots → t < 64 → 16 ≤ k → k ≤ 16 → s₁ ≡ withThread (view b) t (reslotted (thread (view b) t) l)
+  pub refill-done : (s₁ : State) (k : ℕ) → s₁ ≡ withThread (stateOf b) t (refilled l (thread (stateOf b) t) k)
+      → length b ≡ stateWords → length l ≡ rowSlots → t < 64 → 16 ≤ k → k ≤ 16 → s₁ ≡ withThread (stateOf b) t (reslotted (thread (stateOf b) t) l)
   refill-done s₁ k e g f h i j =
       let q : k ≡ 16 = omega arith in
-      e ∙ rw (q, refill-all l (thread (view b) t) 16 f (length-thread b g t h))
+      e ∙ rw (q, refill-all l (thread (stateOf b) t) 16 f (length-thread b g t h))
 
 pub ruleset refills = (refill-none, refill-more, refill-done)
 
 -- a head and then the slots make a row
-pub row-written : (b b₁ : List ℕ) (t v n : ℕ) (l : List ℕ) (s₂ : State) → s₂ ≡ withThread (view b₁) t (reslotted (thread (view b₁) t) l)
-    → view b₁ ≡ withThread (view b) t (v ∷ n ∷ slotsOf (thread (view b) t)) → t < 64 → s₂ ≡ withThread (view b) t (v ∷ n ∷ l)
+pub row-written : (b b₁ : List ℕ) (t v n : ℕ) (l : List ℕ) (s₂ : State) → s₂ ≡ withThread (stateOf b₁) t (reslotted (thread (stateOf b₁) t) l)
+    → stateOf b₁ ≡ withThread (stateOf b) t (v ∷ n ∷ slotsOf (thread (stateOf b) t)) → t < 64 → s₂ ≡ withThread (stateOf b) t (v ∷ n ∷ l)
 row-written b b₁ t v n l s₂ e f h =
-    let r = v ∷ n ∷ slotsOf (thread (view b) t) in
-    let g : thread (view b₁) t ≡ r = ap (λ (s : State). thread s t) f ∙ thread-same (view b) t r (omega (arith, length-threads b)) in
-    e ∙ rw (g, f, thread-twice (view b) t r (v ∷ n ∷ l))
+    let r = v ∷ n ∷ slotsOf (thread (stateOf b) t) in
+    let g : thread (stateOf b₁) t ≡ r = ap (λ (s : State). thread s t) f ∙ thread-same (stateOf b) t r (omega (arith, length-threads b)) in
+    e ∙ rw (g, f, thread-twice (stateOf b) t r (v ∷ n ∷ l))
 
 -- ---- a list of slots, laid one after the other
 
@@ -118,14 +118,14 @@ module _ (f : ℕ → ℕ) where
   slots-done l k e h i = let q : k ≡ rowSlots = omega arith in e ∙ rw q (laid-all f rowSlots)
 
 -- the slots of a thread
-pub slots-copied : (b : List ℕ) (t : ℕ) (l : List ℕ) (k : ℕ) → l ≡ laid (slotOf (thread (view b) t)) k rowSlots → length b ≡ stateLength → t < 64
-    → rowSlots ≤ k → k ≤ rowSlots → l ≡ slotsOf (thread (view b) t)
+pub slots-copied : (b : List ℕ) (t : ℕ) (l : List ℕ) (k : ℕ) → l ≡ laid (slotOf (thread (stateOf b) t)) k rowSlots → length b ≡ stateWords → t < 64
+    → rowSlots ≤ k → k ≤ rowSlots → l ≡ slotsOf (thread (stateOf b) t)
 slots-copied b t l k e g h i j =
-    let f = slotOf (thread (view b) t) in
-    let n : length (slotsOf (thread (view b) t)) ≡ 16 = omega (arith, length-drop 2 (thread (view b) t), length-thread b g t h) in
+    let f = slotOf (thread (stateOf b) t) in
+    let n : length (slotsOf (thread (stateOf b) t)) ≡ 16 = omega (arith, length-drop 2 (thread (stateOf b) t), length-thread b g t h) in
     slots-done f l k e i j
-    ∙ ext-getD 0 (tabulate rowSlots f) (slotsOf (thread (view b) t)) (length-tabulate rowSlots f ∙ sym n)
-    (λ x m. getD-tabulate rowSlots x f 0 (omega (arith, length-tabulate rowSlots f)) ∙ sym (getD-drop 2 (thread (view b) t) x 0))
+    ∙ ext-getD 0 (tabulate rowSlots f) (slotsOf (thread (stateOf b) t)) (length-tabulate rowSlots f ∙ sym n)
+    (λ x m. getD-tabulate rowSlots x f 0 (omega (arith, length-tabulate rowSlots f)) ∙ sym (getD-drop 2 (thread (stateOf b) t) x 0))
 
 pub ruleset slot-laws = (slots-none, slots-more, slots-done)
 

@@ -9,14 +9,13 @@ use lib.ListN.{length, getD, length-set}
 use lib.Seq.{getD-set-same, getD-set-other}
 use borrow.Author.Tests.{eqb-true, eqb-false, ltb-true, le-ltb}
 use Rattle.numbers.specs.Search.{some}
-use Rattle.numbers.specs.Search.Laws.{caseB, some-cong}
+use Rattle.numbers.specs.Search.Laws.{caseB, some-cong, some-zero, some-suc, is-tabulate}
 use Rattle.table.specs.Table.{Table, slotRow, slotCount}
 use Rattle.table.specs.Layout.{start, definitionOf, slotType}
 use Rattle.table.specs.declared.Part.the-variants.{Slots}
 use Rattle.state.specs.State.{standsAt, status, slotOf}
 use Rattle.rules.specs.Program.{channelSlot}
 use Rattle.rules.specs.Holding.{hasAt}
-use Rattle.counts.specs.General.{some-zero, some-suc, is-tabulate}
 use Rattle.counts.specs.Own.{ownOf, ownList}
 use Rattle.counts.specs.Own.Laws.{holds-none, own-suc}
 use Rattle.counts.specs.Own.Listing.{listed, room, channelIn, ownBy, listedTo, holdsTo}
