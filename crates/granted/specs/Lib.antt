@@ -1,0 +1,4 @@
+pub mod Granted
+pub mod Passed
+pub mod Codes
+pub mod Accepted
