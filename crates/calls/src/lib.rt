@@ -1,10 +1,10 @@
 // The calls on a state that has been admitted: step, give, take and run, with the grounds of their own.
 ghost use mathlib.Core.Path.{_≡_};
-ghost use Prim.Native.Nat.{_≤_};
 ghost use Rattle.table.specs.Table.{tableOf};
 ghost use Rattle.table.specs.Index.{Indexed};
 ghost use Rattle.state.specs.State.{stateOf};
-ghost use Rattle.rules.specs.Holding.{settled};
+ghost use Rattle.granted.specs.Granted.{Granted};
+ghost use Rattle.engine_laws.specs.Sound.{Sound};
 ghost use Rattle.rules.specs.Calls.{canStep, stepAnswer};
 ghost use Rattle.calls.specs.States.{After, stepOn, giveOn, takeOn, runOn};
 use rules::Deed;
@@ -54,7 +54,8 @@ fn can_step(state: &[u32; state::WORDS], t: u32) -> bool
 // A step of thread t.
 pub fn step(table: &[u8], index: &[u32], state: &mut [u32; state::WORDS], t: u32) -> Stepped
     requires { ⌜ Indexed (tableOf (now table)) (now index) ⌝ }
-    requires { ⌜ settled (tableOf (now table)) (stateOf (now state)) ≡ stateOf (now state) ⌝ }
+    requires { ⌜ Granted (tableOf (now table)) ⌝ }
+    requires { ⌜ Sound (tableOf (now table)) (stateOf (now state)) ⌝ }
     ensures { λ r. ⌜ _≡_ {A = After Stepped} (record { answer = r; state = stateOf (now (state .exit)) }) (stepOn (tableOf (now (table .entry))) (stateOf (now (state .entry))) t) ⌝ }
 {
     if can_step(state, t) {
@@ -68,7 +69,8 @@ pub fn step(table: &[u8], index: &[u32], state: &mut [u32; state::WORDS], t: u32
 // The number of pattern v is given on port p.
 pub fn give(table: &[u8], index: &[u32], state: &mut [u32; state::WORDS], p: u32, v: u32) -> Given
     requires { ⌜ Indexed (tableOf (now table)) (now index) ⌝ }
-    requires { ⌜ settled (tableOf (now table)) (stateOf (now state)) ≡ stateOf (now state) ⌝ }
+    requires { ⌜ Granted (tableOf (now table)) ⌝ }
+    requires { ⌜ Sound (tableOf (now table)) (stateOf (now state)) ⌝ }
     ensures { λ r. ⌜ _≡_ {A = After Given} (record { answer = r; state = stateOf (now (state .exit)) }) (giveOn (tableOf (now (table .entry))) (stateOf (now (state .entry))) p v) ⌝ }
 {
     if table::cell_of(table, index, 0, 6) <= p {
@@ -86,7 +88,8 @@ pub fn give(table: &[u8], index: &[u32], state: &mut [u32; state::WORDS], p: u32
 // A number is taken from port p.
 pub fn take(table: &[u8], index: &[u32], state: &mut [u32; state::WORDS], p: u32) -> Taken
     requires { ⌜ Indexed (tableOf (now table)) (now index) ⌝ }
-    requires { ⌜ settled (tableOf (now table)) (stateOf (now state)) ≡ stateOf (now state) ⌝ }
+    requires { ⌜ Granted (tableOf (now table)) ⌝ }
+    requires { ⌜ Sound (tableOf (now table)) (stateOf (now state)) ⌝ }
     ensures { λ r. ⌜ _≡_ {A = After Taken} (record { answer = r; state = stateOf (now (state .exit)) }) (takeOn (tableOf (now (table .entry))) (stateOf (now (state .entry))) p) ⌝ }
 {
     if table::cell_of(table, index, 0, 6) <= p {
@@ -106,7 +109,8 @@ pub fn take(table: &[u8], index: &[u32], state: &mut [u32; state::WORDS], p: u32
 // At most n steps.
 pub fn run(table: &[u8], index: &[u32], state: &mut [u32; state::WORDS], n: u16) -> Ran
     requires { ⌜ Indexed (tableOf (now table)) (now index) ⌝ }
-    requires { ⌜ settled (tableOf (now table)) (stateOf (now state)) ≡ stateOf (now state) ⌝ }
+    requires { ⌜ Granted (tableOf (now table)) ⌝ }
+    requires { ⌜ Sound (tableOf (now table)) (stateOf (now state)) ⌝ }
     ensures { λ r. ⌜ _≡_ {A = After Ran} (record { answer = r; state = stateOf (now (state .exit)) }) (runOn (tableOf (now (table .entry))) (stateOf (now (state .entry))) n) ⌝ }
 {
     let mut top = moves::rows_used(state);

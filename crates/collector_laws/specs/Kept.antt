@@ -18,7 +18,8 @@ use Rattle.rules.specs.declared.Direction.{Direction}
 use Rattle.granted.specs.Granted.{Granted}
 use Rattle.engine_laws.specs.Shape.{Shaped}
 use Rattle.engine_laws.specs.Reading.Laws.{offers-elim}
-use Rattle.engine_laws.specs.Sound.{RowSound, Apart, Orderly, Sound}
+use Rattle.moves.specs.Apart.{Apart}
+use Rattle.engine_laws.specs.Sound.{RowSound, Orderly, Sound}
 use Rattle.engine_laws.specs.Entered.{free-sound}
 use Rattle.engine_laws.specs.Settle.{settle}
 use Rattle.collector.specs.Collect.{taken, remaining, collected}

@@ -2,7 +2,7 @@
 use Prim.Native.Nat.{ℕ}
 use native.Mathlib.Omega.{arith}
 use mathlib.Core.Path.{_≡_, refl, sym, _∙_, ap}
-use mathlib.Core.Bool.{Bool, true, false, not, _&&_, cond}
+use mathlib.Core.Bool.{Bool, true, false, not, cond}
 use mathlib.Core.List.{List}
 use lib.Dec.{eqb}
 use lib.ListN.{length, getD}
@@ -11,17 +11,14 @@ use mir.Val.{Fits}
 use borrow.Author.Tests.{eqb-true, eq-eqb, ne-eqb, not-true, not-false}
 use Rattle.numbers.specs.Bytes.{words}
 use Rattle.numbers.specs.Bytes.Laws.{bytes-fit}
-use Rattle.numbers.specs.Search.Laws.{caseB, contra}
-use Rattle.numbers.specs.Tests.{and-left, and-right}
+use Rattle.numbers.specs.Tests.{and-right}
 use Rattle.table.specs.Table.{tableOf}
 use Rattle.table.specs.Index.{Indexed}
 use Rattle.loader.specs.Load.{tableLength, accepted}
 use Rattle.state.specs.State.{State, stateLength, view, stateOf, stateBytes}
-use Rattle.state.specs.State.Laws.{words-long}
-use Rattle.rules.specs.Holding.{settled}
 use Rattle.rules.specs.Start.{started}
 use Rattle.rules.specs.Sound.{sound}
-use Rattle.rules.specs.Calls.{Outcome, outcome, lengthsRight, startAdmission, admission, startBy, startCall, stepBy, stepCall, giveBy, giveCall, takeBy, takeCall, runBy, runCall}
+use Rattle.rules.specs.Calls.{outcome, lengthsRight, startAdmission, admission, startBy, startCall, stepBy, stepCall, giveBy, giveCall, takeBy, takeCall, runBy, runCall}
 use Rattle.rules.specs.declared.Refusal.{Refusal}
 use Rattle.rules.specs.declared.Refusal.the-variants as Ground
 use Rattle.rules.specs.declared.Admission.{Admission}
@@ -36,9 +33,13 @@ use Rattle.rules.specs.declared.Taken.{Taken}
 use Rattle.rules.specs.declared.Taken.the-variants as Taken
 use Rattle.rules.specs.declared.Ran.{Ran}
 use Rattle.rules.specs.declared.Ran.the-variants as Ran
+use Rattle.granted.specs.Granted.{Granted}
+use Rattle.granted.specs.Accepted.{granted}
+use Rattle.engine_laws.specs.Shape.Laws.{view-shaped}
+use Rattle.engine_laws.specs.Sound.{Sound}
+use Rattle.engine_laws.specs.Sound.Laws.{sound-elim}
 use Rattle.calls.specs.States.{After, afterwards, stepOn, giveOn, takeOn, runOn}
 use Rattle.calls.specs.States.Laws.{bytesAfter, step-bytes, give-bytes, take-bytes, run-bytes}
-use Rattle.engine.specs.Settled.{sound-settled}
 
 -- ---- grounds 8, 9 and 10
 
@@ -84,8 +85,8 @@ both true true e = (refl, refl)
 both true false e = clash Ground.Table e
 both false q e = clash Ground.Length e
 
-all-three : (p q r : Bool) → cond p (cond q (cond r Admitted (Refused Ground.State)) (Refused Ground.Table)) (Refused Ground.Length) ≡ Admitted → (p ≡ true) × (r ≡ true)
-all-three true true true e = (refl, refl)
+all-three : (p q r : Bool) → cond p (cond q (cond r Admitted (Refused Ground.State)) (Refused Ground.Table)) (Refused Ground.Length) ≡ Admitted → (p ≡ true) × (q ≡ true) × (r ≡ true)
+all-three true true true e = (refl, refl, refl)
 all-three true true false e = clash Ground.State e
 all-three true false r e = clash Ground.Table e
 all-three false q r e = clash Ground.Length e
@@ -120,12 +121,17 @@ module _ (table b : List ℕ) (a : Admission) where
     unfolding admission
     admitted-length = right-length (all-three (lengthsRight table b) (accepted table) (sound (tableOf table) (view b)) (sym e ∙ f) .0)
 
-    -- w: its words
-    pub admitted-settled : (w : List ℕ) → (a ≡ Admitted → w ≡ words b) → settled (tableOf table) (stateOf w) ≡ stateOf w
+    -- the table grants what the calls ask, and the state, whose words are w, is sound
+    pub admitted-granted : ((i : ℕ) → Fits w8 (getD table i 0)) → Granted (tableOf table)
     unfolding admission
-    admitted-settled w q =
-        rw (q f) (sound-settled (tableOf table) (words b) (words-long b admitted-length)
-        (all-three (lengthsRight table b) (accepted table) (sound (tableOf table) (view b)) (sym e ∙ f) .1))
+    admitted-granted fit =
+        granted table (all-three (lengthsRight table b) (accepted table) (sound (tableOf table) (view b)) (sym e ∙ f) .1) (bytes-fit table fit)
+
+    pub admitted-sound : (w : List ℕ) → (a ≡ Admitted → w ≡ words b) → ((i : ℕ) → Fits w8 (getD b i 0)) → Sound (tableOf table) (stateOf w)
+    unfolding admission
+    admitted-sound w q fit =
+        rw (q f) (sound-elim (tableOf table) (view b) (view-shaped b admitted-length (bytes-fit b fit))
+        (all-three (lengthsRight table b) (accepted table) (sound (tableOf table) (view b)) (sym e ∙ f) .2))
 
 -- the index of a table that was accepted, and of one that was admitted
 pub accepted-indexed : (table l : List ℕ) (y : Bool) → (y ≡ true → Indexed (tableOf table) l) → y ≡ true → Indexed (tableOf table) l

@@ -15,7 +15,7 @@ use Rattle.rules.specs.declared.Direction.{Direction}
 use Rattle.rules.specs.declared.Act.the-variants.{Meeting}
 use Rattle.engine_laws.specs.Reading.{Offering}
 use Rattle.engine_laws.specs.Reading.Laws.{opposite-opposite, offers-elim}
-use Rattle.engine_laws.specs.Sound.{Apart}
+use Rattle.moves.specs.Apart.{Apart}
 use Rattle.engine_laws.specs.Chosen.{Open, channelBy, Blocked}
 use Rattle.engine_laws.specs.Rows.{waiting-slot, waiting-guard}
 use Rattle.engine_laws.specs.Replaced.{set-read}

@@ -10,7 +10,8 @@ use Rattle.rules.specs.Program.{opposite}
 use Rattle.rules.specs.Offers.{offers}
 use Rattle.rules.specs.declared.Direction.{Direction}
 use Rattle.rules.specs.declared.Direction.the-variants.{Out, In}
-use Rattle.engine_laws.specs.Sound.{Apart, Sound}
+use Rattle.moves.specs.Apart.{Apart}
+use Rattle.engine_laws.specs.Sound.{Sound}
 
 module _ (tb : Table) (s : State) (ok : Sound tb s) (t u : ℕ) (l : t < maxThreads) (m : u < maxThreads) (n : t ≢ u) (c : ℕ) where
   -- of two waiting threads, where one offers to send on a channel the other does not offer to receive on it

@@ -19,7 +19,8 @@ use Rattle.rules.specs.Program.{opposite}
 use Rattle.rules.specs.Moves.{oneUp, typed}
 use Rattle.engine_laws.specs.Shape.{Shaped}
 use Rattle.engine_laws.specs.Reading.Laws.{offers-elim, holds-elim}
-use Rattle.engine_laws.specs.Sound.{RowSound, Apart, Orderly}
+use Rattle.moves.specs.Apart.{Apart}
+use Rattle.engine_laws.specs.Sound.{RowSound, Orderly}
 use Rattle.engine_laws.specs.Rows.{held-used}
 use Rattle.engine_laws.specs.Settle.{retype}
 

@@ -6,19 +6,19 @@ pub mod Laws
 use Prim.Native.Nat.{ℕ, _<_, _≤_}
 use mathlib.Core.Path.{_≡_}
 use mathlib.Core.Bool.{true, false}
-use mathlib.Core.List.{List, []}
+use mathlib.Core.List.{List}
 use mathlib.Core.Logic.{_⊎_, _≢_}
 use lib.ListN.{length, getD}
 use Rattle.table.specs.Table.{Table, nodes, ports, slotCount}
 use Rattle.table.specs.Layout.{branchCount, definitionOf, slotType}
 use Rattle.flow.specs.Flow.{mayLack}
 use Rattle.state.specs.State.{State, maxThreads, maxChannels, threadWords, rowSlots, minusOne, threadMark, channelMark, turn, thread, standsAt, slotOf, inUse, isReady, isWaiting, typeIn}
-use Rattle.rules.specs.Program.{kindOf, branchAt, actOf, guardHolds, opposite}
+use Rattle.rules.specs.Program.{kindOf, branchAt, actOf, guardHolds}
 use Rattle.rules.specs.Holding.{settled}
 use Rattle.rules.specs.Start.{freeRow}
-use Rattle.rules.specs.Offers.{offers}
 use Rattle.rules.specs.declared.Direction.{Direction}
 use Rattle.rules.specs.declared.Act.the-variants.{Meeting}
+use Rattle.moves.specs.Apart.{Apart}
 use Rattle.engine_laws.specs.Shape.{Shaped}
 
 module _ (tb : Table) where
@@ -42,12 +42,6 @@ module _ (tb : Table) where
     pub waits-for : isWaiting row ≡ true → (i : ℕ) → i < branchCount tb (standsAt row) → guardHolds tb (branchAt tb (standsAt row) i) row ≡ true
         → (d : Direction) × (actOf tb (branchAt tb (standsAt row) i) ≡ Meeting d)
 
-  -- no two threads that wait offer to meet one another (002, Proposition 2: the polarity of a channel's commitments)
-  unfoldable pub Apart : List (List ℕ) → Type 0
-  Apart ths =
-      (t u : ℕ) → t < maxThreads → u < maxThreads → t ≢ u → (d : Direction) (c : ℕ)
-      → offers tb (getD ths t []) d c ≡ true → offers tb (getD ths u []) (opposite d) c ≡ true → ⊥
-
   -- all that a sound state has besides true counts
   pub record Orderly (s : State) : Type 0 where
     pub shaped : Shaped s
@@ -56,7 +50,7 @@ module _ (tb : Table) where
     pub turn-in : turn s < maxThreads
     pub row : (t : ℕ) → t < maxThreads → RowSound (typeIn s) (thread s t)
     pub port : (c : ℕ) → c < ports tb → typeIn s c ≡ 1
-    pub apart : Apart (s .threads)
+    pub apart : Apart tb (s .threads)
 
   -- and its channel rows are those that a count over the threads gives
   pub record Sound (s : State) : Type 0 where

@@ -18,7 +18,8 @@ use Rattle.rules.specs.Start.{freeRow, entered, portRow, started}
 use Rattle.granted.specs.Granted.{Granted}
 use Rattle.engine_laws.specs.Shape.{Shaped}
 use Rattle.engine_laws.specs.Reading.Laws.{offers-elim}
-use Rattle.engine_laws.specs.Sound.{SlotSound, filled, RowSound, Apart, Orderly, Sound}
+use Rattle.moves.specs.Apart.{Apart}
+use Rattle.engine_laws.specs.Sound.{SlotSound, filled, RowSound, Orderly, Sound}
 use Rattle.engine_laws.specs.Entered.{free-sound, entered-sound}
 use Rattle.engine_laws.specs.Settle.{three-small, settle}
 

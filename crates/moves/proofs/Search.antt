@@ -2,32 +2,82 @@
 use Prim.Native.Nat.{ℕ, _+_, _-_, _<_, _≤_}
 use native.Mathlib.Omega.{arith}
 use mathlib.Core.Path.{_≡_, refl, sym, _∙_}
-use mathlib.Core.Bool.{Bool, true, false}
+use mathlib.Core.Bool.{Bool, true, false, not}
+use mathlib.Core.List.{List}
 use lib.Dec.{ltb, eqb}
-use borrow.Author.Tests.{lt-ltb, le-ltb, ltb-true, ltb-false, ne-eqb}
+use borrow.Author.Tests.{lt-ltb, le-ltb, ltb-true, ltb-false, eqb-true, eq-eqb, ne-eqb}
 use Rattle.numbers.specs.Rows.{at}
 use Rattle.numbers.specs.Search.{first, some}
-use Rattle.numbers.specs.Search.Laws.{caseB, first-more, first-hit, first-below, first-void, some-intro}
+use Rattle.numbers.specs.Search.Laws.{caseB, contra, first-more, first-hit, first-below, first-void, some-intro}
+use Rattle.numbers.specs.Tests.{and-right}
 use Rattle.table.specs.Table.{Table}
 use Rattle.table.specs.Layout.{branchCount}
 use Rattle.state.specs.State.{State, maxThreads, thread, standsAt}
+use Rattle.rules.specs.Program.{opposite}
 use Rattle.rules.specs.Offers.{offersIn, offersAt, offeringBranch, offers, answers, answering, partnerOf}
 use Rattle.rules.specs.Moves.{firstFrom}
 use Rattle.rules.specs.declared.Direction.{Direction}
 use Rattle.rules.specs.declared.Partner.{Partner}
 use Rattle.rules.specs.declared.Partner.the-variants.{Nobody, At}
+use Rattle.moves.specs.Apart.{Apart}
 use Rattle.moves.specs.Around.{from-more, from-hit, from-ge, from-before}
+use Rattle.moves.specs.Seen.{seenIn}
 use Rattle.moves.specs.Top.{UsedBelow, top-le, answers-rest}
 use Rattle.moves.specs.Tried.{isWaitingThread, tried, firstRow, row-tried, answers-tried, only-waiting, tried-all}
+use Rattle.moves.specs.declared.Seen.{Seen}
+use Rattle.moves.specs.declared.Seen.the-variants.{Wanted, Opposed, Neither}
+
+-- ---- what a branch was seen to be
+
+unfoldable wanted? : Seen → Bool
+wanted? Wanted = true
+wanted? Opposed = false
+wanted? Neither = false
+
+unfoldable opposed? : Seen → Bool
+opposed? Wanted = false
+opposed? Opposed = true
+opposed? Neither = false
+
+module _ (tb : Table) (row : List ℕ) (d : Direction) (c r : ℕ) (v : Seen) (e : v ≡ seenIn tb row d c r) where
+  wanted-is : wanted? v ≡ offersIn tb row d c r
+  unfolding seenIn wanted?
+  wanted-is =
+      rw e (caseB (offersIn tb row d c r) (λ y. rw y) (λ y. rw y (caseB (offersIn tb row (opposite d) c r) (λ z. rw z) (λ z. rw z))))
+
+  opposed-is : v ≡ Opposed → offersIn tb row (opposite d) c r ≡ true
+  unfolding seenIn opposed?
+  opposed-is f =
+      let g : opposed? v ≡ true = rw f in
+      caseB (offersIn tb row (opposite d) c r) (λ z. z)
+      (λ z. let h : opposed? v ≡ false = rw (e, z) (caseB (offersIn tb row d c r) (λ y. rw y) (λ y. rw y)) in contra g h)
 
 -- branch i of thread u, of which n are tried, in row r + i, was tried
-module _ (tb : Table) (s : State) (d : Direction) (c u r i n : ℕ) (f : r ≡ firstRow tb s u n) (q : Bool) (e : q ≡ offersIn tb (thread s u) d c (r + i)) (h : i < n) where
-  offer-is : q ≡ offersAt tb (thread s u) d c i
+module _ (tb : Table) (s : State) (d : Direction) (c u r i n : ℕ) (f : r ≡ firstRow tb s u n) (v : Seen) (e : v ≡ seenIn tb (thread s u) d c (r + i)) (h : i < n) where
+  offer-is : wanted? v ≡ offersAt tb (thread s u) d c i
   unfolding offersAt
-  offer-is = rw (← row-tried tb s u n i r f h) e
+  offer-is = rw (← row-tried tb s u n i r f h) (wanted-is tb (thread s u) d c (r + i) v e)
 
-  pub branch-passed : first (offersAt tb (thread s u) d c) i ≡ i → q ≡ false → first (offersAt tb (thread s u) d c) (i + 1) ≡ i + 1
-  branch-passed g o = first-more (offersAt tb (thread s u) d c) i q g offer-is o
+  -- it is not what is looked for
+  passed : first (offersAt tb (thread s u) d c) i ≡ i → wanted? v ≡ false → first (offersAt tb (thread s u) d c) (i + 1) ≡ i + 1
+  passed g o = first-more (offersAt tb (thread s u) d c) i (wanted? v) g offer-is o
+
+  pub neither-passed : v ≡ Neither → first (offersAt tb (thread s u) d c) i ≡ i → first (offersAt tb (thread s u) d c) (i + 1) ≡ i + 1
+  unfolding wanted?
+  neither-passed o g = passed g (rw o)
+
+  pub opposed-passed : v ≡ Opposed → first (offersAt tb (thread s u) d c) i ≡ i → first (offersAt tb (thread s u) d c) (i + 1) ≡ i + 1
+  unfolding wanted?
+  opposed-passed o g = passed g (rw o)
+
+  -- the thread offers the other direction
+  pub other-offered : v ≡ Opposed → (t : ℕ) → n ≡ tried tb s t u → c < 128 → offers tb (thread s u) (opposite d) c ≡ true
+  unfolding answers offersAt
+  other-offered o t b l =
+      let w : offersAt tb (thread s u) (opposite d) c i ≡ true = rw (← row-tried tb s u n i r f h) (opposed-is tb (thread s u) d c (r + i) v e o) in
+      let a : answers tb s t (opposite d) c u ≡ true =
+      rw (answers-tried tb s t (opposite d) c u l, ← b) (some-intro (offersAt tb (thread s u) (opposite d) c) n i h w) in
+      and-right (not (eqb u t)) (offers tb (thread s u) (opposite d) c) a
 
 module _ (tb : Table) (s : State) (t : ℕ) (d : Direction) (c : ℕ) where
   -- none of the threads answers
@@ -54,34 +104,51 @@ module _ (tb : Table) (s : State) (t : ℕ) (d : Direction) (c : ℕ) where
 
   module _ (u : ℕ) where
     -- it offers, and none before it does
-    module _ (r i n : ℕ) (f : r ≡ firstRow tb s u n) (q : Bool) (e : q ≡ offersIn tb (thread s u) d c (r + i)) (h : i < n) (past : first (answers tb s t d c) u ≡ u) (l : c < 128) (b : n ≡ tried tb s t u) (g : first (offersAt tb (thread s u) d c) i ≡ i) (o : q ≡ true) where
-      offered : q ≡ offersAt tb (thread s u) d c i
-      offered = offer-is tb s d c u r i n f q e h
+    module _ (r i n : ℕ) (f : r ≡ firstRow tb s u n) (v : Seen) (e : v ≡ seenIn tb (thread s u) d c (r + i)) (h : i < n) (past : first (answers tb s t d c) u ≡ u) (l : c < 128) (b : n ≡ tried tb s t u) (g : first (offersAt tb (thread s u) d c) i ≡ i) (o : v ≡ Wanted) where
+      offered : true ≡ offersAt tb (thread s u) d c i
+      unfolding wanted?
+      offered = let w : wanted? v ≡ true = rw o in sym w ∙ offer-is tb s d c u r i n f v e h
 
       thread-is : u < 64 → answering tb s t d c ≡ u
       unfolding answering
       thread-is k =
           sym (first-hit (answers tb s t d c) u 64 (answers tb s t d c u) past refl
-          (rw (answers-tried tb s t d c u l, ← b) (some-intro (offersAt tb (thread s u) d c) n i h (sym offered ∙ o))) k)
+          (rw (answers-tried tb s t d c u l, ← b) (some-intro (offersAt tb (thread s u) d c) n i h (sym offered))) k)
 
       branch-is : offeringBranch tb (thread s u) d c ≡ i
       unfolding offeringBranch
       branch-is =
           let w : n ≡ branchCount tb (standsAt (thread s u)) = b ∙ tried-all tb s t u i (rw (← b) h) in
-          rw (← w) (sym (first-hit (offersAt tb (thread s u) d c) i n q g offered o h))
+          rw (← w) (sym (first-hit (offersAt tb (thread s u) d c) i n true g offered refl h))
 
       pub found-is : (top : ℕ) → u < top → UsedBelow s top → At u i ≡ partnerOf tb s t d c
       unfolding partnerOf
       found-is top h k = let l : u < 64 = omega (arith, top-le s top k) in rw (thread-is l, lt-ltb u 64 l, branch-is)
 
     -- no branch of thread u that is tried offers
-    pub thread-passed : (n i : ℕ) → n ≡ tried tb s t u → first (offersAt tb (thread s u) d c) i ≡ i → n ≤ i → i ≤ n → c < 128
-        → first (answers tb s t d c) u ≡ u → first (answers tb s t d c) (u + 1) ≡ u + 1
-    unfolding some
-    thread-passed n i b g h j l past =
-        let w : i ≡ n = omega arith in
-        let all : first (offersAt tb (thread s u) d c) n ≡ n = rw w at g in
-        first-more (answers tb s t d c) u (answers tb s t d c u) past refl (rw (answers-tried tb s t d c u l, ← b, all) (le-ltb n n (omega arith)))
+    module _ (n i : ℕ) (b : n ≡ tried tb s t u) (g : first (offersAt tb (thread s u) d c) i ≡ i) (h : n ≤ i) (j : i ≤ n) (l : c < 128) where
+      silent : answers tb s t d c u ≡ false
+      unfolding some
+      silent =
+          let w : i ≡ n = omega arith in
+          let all : first (offersAt tb (thread s u) d c) n ≡ n = rw w at g in
+          rw (answers-tried tb s t d c u l, ← b, all) (le-ltb n n (omega arith))
+
+      pub thread-passed : first (answers tb s t d c) u ≡ u → first (answers tb s t d c) (u + 1) ≡ u + 1
+      thread-passed past = first-more (answers tb s t d c) u (answers tb s t d c u) past refl silent
+
+      -- it offers the other direction, so that no other thread offers this one
+      pub opposed-ends : (o : Bool) → (o ≡ true → offers tb (thread s u) (opposite d) c ≡ true) → o ≡ true
+          → Apart tb (s .threads) → (top : ℕ) → UsedBelow s top → u < top → Nobody ≡ partnerOf tb s t d c
+      unfolding answers Apart
+      opposed-ends o k e apart top used m =
+          let low : u < maxThreads = omega (arith, top-le s top used) in
+          none-answers (first-void (answers tb s t d c) maxThreads
+          (λ v q. caseB (answers tb s t d c v)
+          (λ y. caseB (eqb v u)
+          (λ z. let same : v ≡ u = eqb-true v u z in contra y (rw same silent))
+          (λ z. absurd (apart v u q low (λ x. contra (eq-eqb v u x) z) d c (and-right (not (eqb v t)) (offers tb (thread s v) d c) y) (k e))))
+          (λ y. y)))
 
 -- ---- the next thread that waits
 

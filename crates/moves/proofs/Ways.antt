@@ -3,22 +3,24 @@ use Prim.Native.Nat.{ℕ, suc, _+_}
 use native.Mathlib.Omega.{arith}
 use native.Mathlib.Numerals.{add-one}
 use mathlib.Core.Path.{_≡_}
-use mathlib.Core.Bool.{Bool, true, false, not}
+use mathlib.Core.Bool.{Bool, true, false, _&&_}
 use mathlib.Core.List.{List}
 use lib.Dec.{eqb}
-use borrow.Author.Tests.{eq-eqb, ne-eqb, eqb-true, not-true, not-false}
+use borrow.Author.Tests.{eq-eqb, ne-eqb, eqb-true}
 use Rattle.numbers.specs.Rows.{at}
 use Rattle.numbers.specs.Search.Laws.{caseB}
 use Rattle.table.specs.Table.{Table, nodeRow, branchRow}
 use Rattle.table.specs.Layout.{branchCount, start}
 use Rattle.table.specs.declared.Part.the-variants.{Branches}
 use Rattle.state.specs.State.{State, slotOf}
-use Rattle.rules.specs.Program.{actOf, guardHolds, same}
+use Rattle.rules.specs.Program.{fieldA, actOf, guardHolds, opposite, same}
 use Rattle.rules.specs.Offers.{meets?, offersIn}
 use Rattle.rules.specs.Moves.{oneUp, isFreeThread}
 use Rattle.rules.specs.declared.Direction.{Direction}
 use Rattle.rules.specs.declared.Direction.the-variants.{Out, In}
+use Rattle.moves.specs.Seen.{seenIn}
 use Rattle.moves.specs.Tried.{tried, firstRow}
+use Rattle.moves.specs.declared.Seen.the-variants.{Wanted, Opposed, Neither}
 
 -- ---- the code of a branch's act
 
@@ -45,19 +47,42 @@ module _ (tb : Table) (r k : ℕ) (d : Direction) (e : k ≡ at tb r 4) where
 
 -- ---- what a branch offers
 
+-- the slot that the branch in row r names first has channel c, and its guard is true
+abbrev Offered : Table → List ℕ → ℕ → ℕ → Bool
+Offered tb row c r = eqb (slotOf row (fieldA tb r)) c && guardHolds tb r row
+
+module _ (tb : Table) (row : List ℕ) (c r a x : ℕ) (g : a ≡ at tb r 5) (h : x ≡ slotOf row a) where
+  pub offered-elsewhere : (x ≡ c → ⊥) → false ≡ Offered tb row c r
+  offered-elsewhere i = rw (← g, ← h, ne-eqb x c i)
+
+  pub offered-guarded : (q : Bool) → x ≡ c → q ≡ guardHolds tb r row → q ≡ Offered tb row c r
+  offered-guarded q i j = rw (← g, ← h, eq-eqb x c i, j)
+
 module _ (tb : Table) (row : List ℕ) (d : Direction) (c r : ℕ) (m : Bool) (e : m ≡ meets? (actOf tb r) d) where
-  pub offers-other : not m ≡ true → false ≡ offersIn tb row d c r
-  unfolding offersIn
-  offers-other f = rw (← e, not-true m f)
+  -- it is a meeting of direction d
+  module _ (f : m ≡ true) (q : Bool) (g : q ≡ Offered tb row c r) where
+    pub seen-wanted : q ≡ true → Wanted ≡ seenIn tb row d c r
+    unfolding seenIn offersIn
+    seen-wanted h = rw (← e, f, ← g, h)
 
-  module _ (f : not m ≡ false) (a x : ℕ) (g : a ≡ at tb r 5) (h : x ≡ slotOf row a) where
-    pub offers-elsewhere : (x ≡ c → ⊥) → false ≡ offersIn tb row d c r
-    unfolding offersIn
-    offers-elsewhere i = rw (← e, not-false m f, ← g, ← h, ne-eqb x c i)
+    pub seen-unwanted : q ≡ false → Neither ≡ seenIn tb row d c r
+    unfolding seenIn offersIn
+    seen-unwanted h = rw (← e, f, ← g, h) (caseB (meets? (actOf tb r) (opposite d)) (λ y. rw y) (λ y. rw y))
 
-    pub offers-guarded : (q : Bool) → x ≡ c → q ≡ guardHolds tb r row → q ≡ offersIn tb row d c r
-    unfolding offersIn
-    offers-guarded q i j = rw (← e, not-false m f, ← g, ← h, eq-eqb x c i, j)
+  -- it is not; whether it is one of the other direction is k
+  module _ (f : m ≡ false) (o : Direction) (w : o ≡ opposite d) (k : Bool) (p : k ≡ meets? (actOf tb r) o) where
+    pub seen-other : k ≡ false → Neither ≡ seenIn tb row d c r
+    unfolding seenIn offersIn
+    seen-other h = rw (← e, f, ← w, ← p, h)
+
+    module _ (h : k ≡ true) (q : Bool) (g : q ≡ Offered tb row c r) where
+      pub seen-opposed : q ≡ true → Opposed ≡ seenIn tb row d c r
+      unfolding seenIn offersIn
+      seen-opposed i = rw (← e, f, ← w, ← p, h, ← g, i)
+
+      pub seen-unopposed : q ≡ false → Neither ≡ seenIn tb row d c r
+      unfolding seenIn offersIn
+      seen-unopposed i = rw (← e, f, ← w, ← p, h, ← g, i)
 
 -- ---- how many branches are tried, and from which row on
 

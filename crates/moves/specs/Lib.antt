@@ -3,3 +3,5 @@ pub mod Top
 pub mod Around
 pub mod Partners
 pub mod Decided
+pub mod Apart
+pub mod Seen

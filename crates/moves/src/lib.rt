@@ -1,16 +1,20 @@
 // Which move a ready thread makes: the search for a partner, for a free row and for the next ready thread, and the choice of a branch.
 ghost use mathlib.Core.Path.{_≡_};
 ghost use Prim.Native.Nat.{_+_, _≤_, _<_};
+ghost use mathlib.Core.Bool.{_&&_};
+ghost use lib.Dec.{eqb};
 ghost use Rattle.table.specs.Table.{tableOf, nodeRow, branchRow};
 ghost use Rattle.table.specs.Layout.{branchCount, start};
 ghost use Rattle.table.specs.declared.Part.the-variants.{Branches};
 ghost use Rattle.table.specs.Index.{Indexed};
 ghost use Rattle.state.specs.State.{stateOf, thread, standsAt, slotOf};
-ghost use Rattle.rules.specs.Program.{branchAt, fieldA, actOf, opposite};
-ghost use Rattle.rules.specs.Offers.{meets?, offersIn, partnerOf};
+ghost use Rattle.rules.specs.Program.{branchAt, fieldA, actOf, guardHolds, opposite};
+ghost use Rattle.rules.specs.Offers.{meets?, partnerOf};
 ghost use Rattle.rules.specs.Moves.{firstFrom, oneUp, isFreeThread, isFreeChannel, freeThread, freeChannel, meeting, creation, spawning, goesAhead, actMove, branchMove, choice, move};
 ghost use Rattle.rules.specs.Calls.{isReadyThread, nextReady};
 ghost use Rattle.moves.specs.Top.{UsedBelow};
+ghost use Rattle.moves.specs.Apart.{Apart};
+ghost use Rattle.moves.specs.Seen.{seenIn};
 ghost use Rattle.moves.specs.Tried.{isWaitingThread, tried, firstRow};
 use rules::Act;
 use rules::Direction;
@@ -34,8 +38,33 @@ fn is_meeting(table: &[u8], index: &[u32], row: usize, d: Direction) -> bool
     }
 }
 
-// Whether the branch in a row, of thread u, is a meeting of direction d on channel c, and its guard is true.
-fn offers_in(
+// Whether the slot that the branch in a row names first has channel c, and its guard is true of thread u.
+fn is_offered(
+    table: &[u8],
+    index: &[u32],
+    row: usize,
+    state: &[u32; state::WORDS],
+    u: u32,
+    c: u32,
+) -> bool
+    requires { ⌜ Indexed (tableOf (now table)) (now index) ⌝ }
+    ensures { λ r. ⌜ r ≡ (eqb (slotOf (thread (stateOf (now (state .entry))) u) (fieldA (tableOf (now (table .entry))) row)) c && guardHolds (tableOf (now (table .entry))) row (thread (stateOf (now (state .entry))) u)) ⌝ }
+{
+    if program::slot(state, u, table::cell_of(table, index, row, 5)) != c {
+        return false;
+    }
+    program::guard_holds(table, index, row, state, u)
+}
+
+// What a branch is to a search for an offer: what is looked for, an offer of the other direction on the channel, or neither.
+enum Seen {
+    Wanted,
+    Opposed,
+    Neither,
+}
+
+// The branch in a row, of thread u, to a search for an offer of d on channel c.
+fn seen_in(
     table: &[u8],
     index: &[u32],
     row: usize,
@@ -43,17 +72,22 @@ fn offers_in(
     u: u32,
     d: Direction,
     c: u32,
-) -> bool
+) -> Seen
     requires { ⌜ Indexed (tableOf (now table)) (now index) ⌝ }
-    ensures { λ r. ⌜ r ≡ offersIn (tableOf (now (table .entry))) (thread (stateOf (now (state .entry))) u) d c row ⌝ }
+    ensures { λ r. ⌜ r ≡ seenIn (tableOf (now (table .entry))) (thread (stateOf (now (state .entry))) u) d c row ⌝ }
 {
-    if !is_meeting(table, index, row, d) {
-        return false;
+    if is_meeting(table, index, row, d) {
+        if is_offered(table, index, row, state, u, c) {
+            return Seen::Wanted;
+        }
+        return Seen::Neither;
     }
-    if program::slot(state, u, table::cell_of(table, index, row, 5)) != c {
-        return false;
+    if is_meeting(table, index, row, program::opposite_of(d)) {
+        if is_offered(table, index, row, state, u, c) {
+            return Seen::Opposed;
+        }
     }
-    program::guard_holds(table, index, row, state, u)
+    Seen::Neither
 }
 
 // The number of branches of a node, where the rows of the nodes begin at a row.
@@ -163,6 +197,7 @@ fn next_waiting(state: &[u32; state::WORDS], from: u32, limit: u32) -> u32
 }
 
 // The first waiting thread other than t that offers d on channel c, and the first of its branches that does. No row from top on is in use.
+// Where a thread offers the other direction on c nobody but itself may offer d, and the search ends with its branches.
 pub fn find_partner(
     table: &[u8],
     index: &[u32],
@@ -174,6 +209,7 @@ pub fn find_partner(
 ) -> Partner
     requires { ⌜ Indexed (tableOf (now table)) (now index) ⌝ }
     requires { ⌜ UsedBelow (stateOf (now state)) top ⌝ }
+    requires { ⌜ Apart (tableOf (now table)) (stateOf (now state) .threads) ⌝ }
     ensures { λ r. ⌜ r ≡ partnerOf (tableOf (now (table .entry))) (stateOf (now (state .entry))) t d c ⌝ }
 {
     if CHANNELS <= c {
@@ -186,11 +222,19 @@ pub fn find_partner(
     'threads: while u < limit {
         let n = branches_tried(table, index, nodes, state, t, u);
         let from = first_row(table, index, nodes, state, u, n);
+        let mut opposed = false;
         for i in 0..n {
-            if offers_in(table, index, from + i as usize, state, u, d, c) {
-                found = Partner::At(u, i);
-                break 'threads;
+            match seen_in(table, index, from + i as usize, state, u, d, c) {
+                Seen::Wanted => {
+                    found = Partner::At(u, i);
+                    break 'threads;
+                }
+                Seen::Opposed => opposed = true,
+                Seen::Neither => {}
             }
+        }
+        if opposed {
+            break 'threads;
         }
         u = next_waiting(state, u + 1, limit);
     }
@@ -329,6 +373,7 @@ fn meeting_move(
 ) -> Move
     requires { ⌜ Indexed (tableOf (now table)) (now index) ⌝ }
     requires { ⌜ UsedBelow (stateOf (now state)) top ⌝ }
+    requires { ⌜ Apart (tableOf (now table)) (stateOf (now state) .threads) ⌝ }
     ensures { λ r. ⌜ r ≡ meeting i (partnerOf (tableOf (now (table .entry))) (stateOf (now (state .entry))) t (opposite d) (slotOf (thread (stateOf (now (state .entry))) t) (fieldA (tableOf (now (table .entry))) row))) ⌝ }
 {
     let c = program::slot(state, t, table::cell_of(table, index, row, 5));
@@ -371,6 +416,7 @@ fn act_move(
 ) -> Move
     requires { ⌜ Indexed (tableOf (now table)) (now index) ⌝ }
     requires { ⌜ UsedBelow (stateOf (now state)) top ⌝ }
+    requires { ⌜ Apart (tableOf (now table)) (stateOf (now state) .threads) ⌝ }
     requires { ⌜ row ≡ branchAt (tableOf (now table)) (standsAt (thread (stateOf (now state)) t)) i ⌝ }
     ensures { λ r. ⌜ r ≡ actMove (tableOf (now (table .entry))) (stateOf (now (state .entry))) t i (actOf (tableOf (now (table .entry))) row) ⌝ }
 {
@@ -395,6 +441,7 @@ fn branch_move(
 ) -> Move
     requires { ⌜ Indexed (tableOf (now table)) (now index) ⌝ }
     requires { ⌜ UsedBelow (stateOf (now state)) top ⌝ }
+    requires { ⌜ Apart (tableOf (now table)) (stateOf (now state) .threads) ⌝ }
     requires { ⌜ row ≡ branchAt (tableOf (now table)) (standsAt (thread (stateOf (now state)) t)) i ⌝ }
     ensures { λ r. ⌜ r ≡ branchMove (tableOf (now (table .entry))) (stateOf (now (state .entry))) t i ⌝ }
 {
@@ -433,6 +480,7 @@ fn choose(
 ) -> Move
     requires { ⌜ Indexed (tableOf (now table)) (now index) ⌝ }
     requires { ⌜ UsedBelow (stateOf (now state)) top ⌝ }
+    requires { ⌜ Apart (tableOf (now table)) (stateOf (now state) .threads) ⌝ }
     requires { ⌜ n ≡ branchCount (tableOf (now table)) (standsAt (thread (stateOf (now state)) t)) ⌝ }
     requires { ⌜ from ≡ branchRow (tableOf (now table)) + start (tableOf (now table)) Branches (standsAt (thread (stateOf (now state)) t)) ⌝ }
     requires { ⌜ from ≤ 12844864 ⌝ }
@@ -451,6 +499,7 @@ fn choose(
 pub fn decide(table: &[u8], index: &[u32], state: &[u32; state::WORDS], t: u32, top: u32) -> Move
     requires { ⌜ Indexed (tableOf (now table)) (now index) ⌝ }
     requires { ⌜ UsedBelow (stateOf (now state)) top ⌝ }
+    requires { ⌜ Apart (tableOf (now table)) (stateOf (now state) .threads) ⌝ }
     ensures { λ r. ⌜ r ≡ move (tableOf (now (table .entry))) (stateOf (now (state .entry))) t ⌝ }
 {
     let node = state::thread_word(state, t as usize, 1);

@@ -1,4 +1,5 @@
-// A move made: what it writes, and the channel rows settled. Each function asks that the channel rows are settled before it, and leaves them so.
+// A move made: what it writes, and the channel rows settled. The functions that make a move ask that the channel rows are settled before it, and
+// leave them so; a turn asks that the state is sound, and leaves it so.
 ghost use mathlib.Core.Path.{_≡_};
 ghost use mathlib.Core.Logic.{_≢_};
 ghost use Prim.Native.Nat.{_<_};
@@ -10,6 +11,8 @@ ghost use Rattle.rules.specs.Holding.{settled};
 ghost use Rattle.rules.specs.Moves.{move, written, perform, metByBench};
 ghost use Rattle.rules.specs.Calls.{turnBy, Turned, turnEnd, takeTurn};
 ghost use Rattle.counts.specs.Shift.{settledTwo};
+ghost use Rattle.granted.specs.Granted.{Granted};
+ghost use Rattle.engine_laws.specs.Sound.{Sound};
 ghost use Rattle.moves.specs.Top.{UsedBelow};
 ghost use Rattle.steps.specs.Made.{Writable, Alone, Paired, Creation, made};
 ghost use Rattle.steps.specs.Top.{raisedBy};
@@ -335,7 +338,8 @@ pub fn step_ready(
 ) -> Move
     requires { ⌜ Indexed (tableOf (now table)) (now index) ⌝ }
     requires { ⌜ t < 64 ⌝ }
-    requires { ⌜ settled (tableOf (now table)) (stateOf (now state)) ≡ stateOf (now state) ⌝ }
+    requires { ⌜ Granted (tableOf (now table)) ⌝ }
+    requires { ⌜ Sound (tableOf (now table)) (stateOf (now state)) ⌝ }
     requires { ⌜ isReady (thread (stateOf (now state)) t) ≡ true ⌝ }
     requires { ⌜ UsedBelow (stateOf (now state)) top ⌝ }
     ensures { λ r. ⌜ r ≡ move (tableOf (now (table .entry))) (stateOf (now (state .entry))) t ⌝ }
@@ -390,11 +394,12 @@ fn raised(t: u32, m: Move, top: u32) -> u32
 fn turn_of(table: &[u8], index: &[u32], state: &mut [u32; state::WORDS], t: u32, top: u32) -> Round
     requires { ⌜ Indexed (tableOf (now table)) (now index) ⌝ }
     requires { ⌜ t < 64 ⌝ }
-    requires { ⌜ settled (tableOf (now table)) (stateOf (now state)) ≡ stateOf (now state) ⌝ }
+    requires { ⌜ Granted (tableOf (now table)) ⌝ }
+    requires { ⌜ Sound (tableOf (now table)) (stateOf (now state)) ⌝ }
     requires { ⌜ isReady (thread (stateOf (now state)) t) ≡ true ⌝ }
     requires { ⌜ UsedBelow (stateOf (now state)) top ⌝ }
     ensures { λ r. ⌜ _≡_ {A = Turned} (record { turn = r .turn; state = stateOf (now (state .exit)) }) (turnEnd (tableOf (now (table .entry))) (stateOf (now (state .entry))) t (turnBy t (move (tableOf (now (table .entry))) (stateOf (now (state .entry))) t))) ⌝ }
-    ensures { λ _. ⌜ settled (tableOf (now (table .entry))) (stateOf (now (state .exit))) ≡ stateOf (now (state .exit)) ⌝ }
+    ensures { λ _. ⌜ Sound (tableOf (now (table .entry))) (stateOf (now (state .exit))) ⌝ }
     ensures { λ r. ⌜ UsedBelow (stateOf (now (state .exit))) (r .top) ⌝ }
 {
     let m = step_ready(table, index, state, t, top);
@@ -409,10 +414,11 @@ fn turn_of(table: &[u8], index: &[u32], state: &mut [u32; state::WORDS], t: u32,
 // The next ready thread has its turn.
 pub fn take_turn(table: &[u8], index: &[u32], state: &mut [u32; state::WORDS], top: u32) -> Round
     requires { ⌜ Indexed (tableOf (now table)) (now index) ⌝ }
-    requires { ⌜ settled (tableOf (now table)) (stateOf (now state)) ≡ stateOf (now state) ⌝ }
+    requires { ⌜ Granted (tableOf (now table)) ⌝ }
+    requires { ⌜ Sound (tableOf (now table)) (stateOf (now state)) ⌝ }
     requires { ⌜ UsedBelow (stateOf (now state)) top ⌝ }
     ensures { λ r. ⌜ _≡_ {A = Turned} (record { turn = r .turn; state = stateOf (now (state .exit)) }) (takeTurn (tableOf (now (table .entry))) (stateOf (now (state .entry)))) ⌝ }
-    ensures { λ _. ⌜ settled (tableOf (now (table .entry))) (stateOf (now (state .exit))) ≡ stateOf (now (state .exit)) ⌝ }
+    ensures { λ _. ⌜ Sound (tableOf (now (table .entry))) (stateOf (now (state .exit))) ⌝ }
     ensures { λ r. ⌜ UsedBelow (stateOf (now (state .exit))) (r .top) ⌝ }
 {
     let t = moves::next_ready(state, top);

@@ -1,6 +1,7 @@
 use Rattle.calls.proofs.Laws.{give-refused, give-nobody, give-met}
 use Rattle.moves.specs.Partners.{partner-below}
 use Rattle.moves.specs.Top.{used-all}
+use Rattle.engine_laws.specs.Sound.Laws.{sound-settled, sound-apart}
 use borrow.Author.Needs.{needs}
 use Rattle.calls.proofs.give.Statement.{statement}
 use Rattle.calls.proofs.give.Tie as tie
@@ -11,9 +12,9 @@ give-spec =
     (tie.spec
     (λ c κs. search needs)
     (λ c. search give-refused)
-    (λ c κs. (search, search used-all))
+    (λ c κs. (search, (search used-all, search sound-apart)))
     (λ c. search needs)
     (λ c. search needs)
-    (λ c κs. (search, (search partner-below, search)))
+    (λ c κs. (search, (search partner-below, search sound-settled)))
     (λ c. search (give-nobody, give-met))
     (λ c. search (give-nobody, give-met)))

@@ -5,8 +5,8 @@ use mathlib.Core.Path.{_≡_}
 use Rattle.table.specs.Table.{tableOf}
 use Rattle.state.specs.State.{stateOf}
 use Rattle.moves.specs.Top.{UsedBelow}
-use Rattle.rules.specs.Holding.{settled}
 use Rattle.rules.specs.Calls.{courseOf}
+use Rattle.engine_laws.specs.Sound.{Sound}
 use Rattle.calls.specs.Course.{after, course-none, course-more}
 use Rattle.calls.proofs.Laws.{run-stopped, run-all}
 use borrow.Author.Needs.{needs}
@@ -15,7 +15,7 @@ use Rattle.calls.proofs.run.Tie as tie
 
 abbrev Inv-loop : tie.InvT-loop
 Inv-loop table index state₀ n top₀ i₀ state top i =
-    (i ≤ n) × (settled (tableOf table) (stateOf state) ≡ stateOf state) × UsedBelow (stateOf state) top
+    (i ≤ n) × Sound (tableOf table) (stateOf state) × UsedBelow (stateOf state) top
     × (courseOf (tableOf table) n (stateOf state₀) ≡ after i (courseOf (tableOf table) (n - i) (stateOf state)))
 
 abbrev μ-loop : tie.MeasureT-loop
@@ -29,7 +29,7 @@ run-spec =
     μ-loop
     (λ c κs. search needs)
     (λ c. (search needs, search needs, search needs, search course-none))
-    (λ c κs. (search, (search, search)))
+    (λ c κs. (search, (search, (search, search))))
     (λ c. search needs)
     (λ c. search needs)
     (λ c. search needs)

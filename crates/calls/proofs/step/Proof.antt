@@ -10,7 +10,7 @@ step-spec =
     (tie.spec
     (λ c κs. search needs)
     (λ c κs. search needs)
-    (λ c κs. (search, (search step-low, (search, (search step-is-ready, search used-all)))))
+    (λ c κs. (search, (search step-low, (search, (search, (search step-is-ready, search used-all))))))
     (λ c κs. search needs)
     (λ c. search step-done)
     (λ c. search step-refused))

@@ -1,4 +1,4 @@
-use Rattle.engine.proofs.Laws.{run-refused, run-admitted, admitted-indexed, admitted-length, admitted-settled}
+use Rattle.engine.proofs.Laws.{run-refused, run-admitted, admitted-indexed, admitted-length, admitted-granted, admitted-sound}
 use borrow.Author.Needs.{needs}
 use Rattle.engine.proofs.run.Statement.{statement}
 use Rattle.engine.proofs.run.Tie as tie
@@ -12,7 +12,7 @@ run-spec =
     (λ c. search needs)
     (λ c. search needs)
     (λ c. search needs)
-    (λ c κs. (search admitted-indexed, search admitted-settled))
+    (λ c κs. (search admitted-indexed, (search admitted-granted, search admitted-sound)))
     (λ c κs. search admitted-length)
     (λ c. search needs)
     (λ c. search run-refused)

@@ -9,7 +9,9 @@ use Rattle.numbers.specs.Search.Laws.{every-elim, every-intro}
 use Rattle.numbers.specs.Tests.{parts}
 use Rattle.table.specs.Table.{Table, ports}
 use Rattle.state.specs.State.{State, maxThreads, maxChannels, threadMark, channelMark, turn, thread, isWaiting, typeIn}
+use Rattle.rules.specs.Holding.{settled}
 use Rattle.rules.specs.Sound.{marksInRange, freeZero, rowInRange, spareZero, slotsTyped, slotsFilled, countTrue, portTyped, waitsRightly, sound}
+use Rattle.moves.specs.Apart.{Apart}
 use Rattle.engine_laws.specs.Shape.{Shaped}
 use Rattle.engine_laws.specs.Chosen.{Blocked}
 use Rattle.engine_laws.specs.Sound.{RowSound, Orderly, Sound}
@@ -74,6 +76,14 @@ module _ (tb : Table) (s : State) (e : sound tb s ≡ true) where
 -- a state, of the right shape, that passes the test is sound
 pub sound-elim : (tb : Table) (s : State) → Shaped s → sound tb s ≡ true → Sound tb s
 sound-elim tb s h e = record { orderly = orderly-elim tb s e h; counts = true-settled tb s h (counts-tested tb s e) }
+
+-- its channel rows are settled, and no two of its waiting threads could meet
+module _ (tb : Table) (s : State) (h : Sound tb s) where
+  pub sound-settled : settled tb s ≡ s
+  sound-settled = h .counts
+
+  pub sound-apart : Apart tb (s .threads)
+  sound-apart = h .orderly .apart
 
 -- ---- to the test
 

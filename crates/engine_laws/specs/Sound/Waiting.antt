@@ -23,7 +23,8 @@ use Rattle.rules.specs.declared.Partner.the-variants.{Nobody}
 use Rattle.rules.specs.declared.Move.the-variants.{Waits}
 use Rattle.engine_laws.specs.Reading.Laws.{offers-elim, offers-intro}
 use Rattle.engine_laws.specs.Chosen.{channelBy, Open, Blocked, Chosen, chosen}
-use Rattle.engine_laws.specs.Sound.{Apart, Orderly}
+use Rattle.moves.specs.Apart.{Apart}
+use Rattle.engine_laws.specs.Sound.{Orderly}
 
 module _ (tb : Table) (s : State) (t : ℕ) (d : Direction) (c : ℕ) where
   -- a thread that nobody answers has no partner

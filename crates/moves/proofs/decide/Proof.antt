@@ -14,7 +14,7 @@ decide-spec =
     (λ c κs. search needs)
     (λ c κs. search needs)
     (λ c κs. search needs)
-    (λ c κs. (search, (search, (search count-read, (search from-read, search needs)))))
+    (λ c κs. (search, (search, (search, (search count-read, (search from-read, search needs))))))
     (λ c. search kinds)
     (λ c. search kinds)
     (λ c. search kinds))

@@ -8,6 +8,6 @@ take-turn-spec =
     tie.close
     (tie.spec
     (λ c κs. search needs)
-    (λ c κs. (search, (search, (search, search next-is-ready))))
+    (λ c κs. (search, (search, (search, (search, search next-is-ready)))))
     (λ c. (search next-turn, search))
     (λ c. (search no-turn, search)))

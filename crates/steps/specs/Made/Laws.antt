@@ -1,6 +1,6 @@
 -- What the moves write is one row, two rows, or a row and a new channel, so that the upkeep of the counts settles it. Assumes nothing.
 use Prim.Native.Nat.{ℕ, _<_, _≤_}
-use mathlib.Core.Path.{_≡_, refl, sym, _∙_, ap}
+use mathlib.Core.Path.{_≡_, refl, sym, _∙_}
 use mathlib.Core.Logic.{_≢_}
 use mathlib.Core.List.{List}
 use mathlib.Core.Bool.{true}
@@ -21,10 +21,13 @@ use Rattle.moves.specs.Around.{next-ready-in}
 use Rattle.moves.specs.Decided.{meets-partner, spawns-free, spawns-other, creates-free}
 use Rattle.counts.specs.Own.{ownList}
 use Rattle.counts.specs.Shift.{settledOne, settledTwo, settledNew}
-use Rattle.counts.specs.Upkeep.{one-settled, two-settled, new-settled, settled-mark, two-mark, new-mark, settled-again}
+use Rattle.counts.specs.Upkeep.{one-settled, two-settled, new-settled, settled-mark, two-mark, new-mark}
 use Rattle.branches.specs.Way.{wayOf, metAlong, metAlongBoth, goneAlong}
 use Rattle.branches.specs.Way.Laws.{met-way, gone-way, meeting-way}
 use Rattle.branches.specs.declared.Way.{Way}
+use Rattle.granted.specs.Granted.{Granted}
+use Rattle.engine_laws.specs.Sound.{Sound}
+use Rattle.engine_laws.specs.Lasting.{move-kept, turn-kept}
 use Rattle.steps.specs.Made.{Writable, Alone, Paired, Creation, made}
 
 -- a mark that is moved besides changes nothing in this
@@ -213,22 +216,23 @@ module _ (tb : Table) (s : State) (t : ℕ) (r : isReady (thread s t) ≡ true) 
   pub move-writable : (m : Move) → m ≡ move tb s t → Writable t m
   move-writable m e = decided-writable m (sym e)
 
--- after a move the channel rows are settled
-module _ (tb : Table) (s : State) (e : settled tb s ≡ s) (t : ℕ) where
-  made-settled : (m : Move) → settled tb (made tb s t m) ≡ made tb s t m
-  unfolding made perform
-  made-settled Ends = settled-again tb (written tb s t Ends)
-  made-settled Calls = settled-again tb (written tb s t Calls)
-  made-settled Waits = settled-again tb (written tb s t Waits)
-  made-settled (Goes i) = settled-again tb (written tb s t (Goes i))
-  made-settled (Creates i c) = settled-again tb (written tb s t (Creates i c))
-  made-settled (Spawns i u) = settled-again tb (written tb s t (Spawns i u))
-  made-settled (Meets i u j) = settled-again tb (written tb s t (Meets i u j))
-  made-settled LacksThread = e
-  made-settled LacksChannel = e
+-- after a move, and after the turn has moved on, the state is sound
+module _ (tb : Table) (g : Granted tb) (s : State) (ok : Sound tb s) (t : ℕ) (l : t < 64) (r : isReady (thread s t) ≡ true) where
+  made-sound : (m : Move) → move tb s t ≡ m → Sound tb (made tb s t m)
+  unfolding made
+  made-sound Ends e = rw e at (move-kept tb g s ok t l r)
+  made-sound Calls e = rw e at (move-kept tb g s ok t l r)
+  made-sound Waits e = rw e at (move-kept tb g s ok t l r)
+  made-sound (Goes i) e = rw e at (move-kept tb g s ok t l r)
+  made-sound (Creates i c) e = rw e at (move-kept tb g s ok t l r)
+  made-sound (Spawns i u) e = rw e at (move-kept tb g s ok t l r)
+  made-sound (Meets i u j) e = rw e at (move-kept tb g s ok t l r)
+  made-sound LacksThread e = ok
+  made-sound LacksChannel e = ok
 
-  pub turn-settled : (s₁ s₂ : State) (v : ℕ) (m : Move) → s₂ ≡ withMark s₁ 2 v → s₁ ≡ made tb s t m → settled tb s₂ ≡ s₂
-  turn-settled s₁ s₂ v m f g = rw (f, g) (settled-mark tb (made tb s t m) 2 v ∙ ap (λ (x : State). withMark x 2 v) (made-settled m))
+  pub turn-sound : (s₁ s₂ : State) (v : ℕ) → s₂ ≡ withMark s₁ 2 v → s₁ ≡ made tb s t (move tb s t) → v ≡ oneUp maxThreads t → Sound tb s₂
+  unfolding pastTurn
+  turn-sound s₁ s₂ v f h i = rw (f, h, i) (turn-kept tb (made tb s t (move tb s t)) (made-sound (move tb s t) refl) t l)
 
 pub made-read : (tb : Table) (s s₁ : State) (t : ℕ) (m : Move) → s₁ ≡ made tb s t m → m ≡ move tb s t → s₁ ≡ made tb s t (move tb s t)
 made-read tb s s₁ t m e f = e ∙ rw f
