@@ -193,6 +193,12 @@ typedef struct {
     int32_t thread;  /* for the last two reasons the thread that lacked a row; else PITHREAD_NOBODY */
 } pithread_ran;
 
+/* The answer of pithread_collect. */
+typedef struct {
+    int32_t refusal; /* 0, or a ground from 8 to 10 */
+    int32_t threads; /* how many threads were taken */
+} pithread_collected;
+
 /*
  * Checks a procedure file and writes its table.
  *
@@ -251,6 +257,14 @@ pithread_taken pithread_take(const uint8_t *table, size_t table_len, uint8_t *st
  * thread stays as it is, and the turn moves past it, so that the next run begins with the others.
  */
 pithread_ran pithread_run(const uint8_t *table, size_t table_len, uint8_t *state, size_t state_len, uint16_t n);
+
+/*
+ * Takes away every thread that can never move again, whatever calls may follow: each waits, and
+ * nobody who may still move has a channel on which it offers anything. The bench counts as one who
+ * has the ports and may move. Rows of such threads become free, and so do channels that nobody has
+ * any more. The turn and the rows at which searches begin stay.
+ */
+pithread_collected pithread_collect(const uint8_t *table, size_t table_len, uint8_t *state, size_t state_len);
 
 #ifdef __cplusplus
 }

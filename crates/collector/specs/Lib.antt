@@ -1,3 +1,5 @@
 pub mod Rounds
 pub mod Enabled
 pub mod Collect
+pub mod Marking
+pub mod Freeing

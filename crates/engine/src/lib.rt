@@ -46,7 +46,7 @@ fn admit_start(table: &[u8], state: &[u8], index: &mut [u32]) -> Admission
 }
 
 // Grounds 8, 9 and 10. The words of an admitted state are left in `words`.
-fn admit(
+pub fn admit(
     table: &[u8],
     state: &[u8],
     index: &mut [u32],

@@ -21,12 +21,16 @@ use Rattle.rules.specs.declared.Taken.the-variants as Taken
 use Rattle.rules.specs.declared.Ran.{Ran}
 use Rattle.rules.specs.declared.Ran.the-variants as Ran
 use Rattle.engine.specs.Numbers as Numbers
+use Rattle.collector.specs.Collect.{collectCall}
+use Rattle.collector.specs.declared.Collected.{Collected}
+use Rattle.collector.specs.declared.Collected.the-variants as Collected
 use Rattle.pithread.specs.declared.LoadAnswer.{LoadAnswer}
 use Rattle.pithread.specs.declared.StartAnswer.{StartAnswer}
 use Rattle.pithread.specs.declared.StepAnswer.{StepAnswer}
 use Rattle.pithread.specs.declared.GiveAnswer.{GiveAnswer}
 use Rattle.pithread.specs.declared.TakeAnswer.{TakeAnswer}
 use Rattle.pithread.specs.declared.RunAnswer.{RunAnswer}
+use Rattle.pithread.specs.declared.CollectAnswer.{CollectAnswer}
 
 -- the answer of a load, and the bytes of the table's buffer
 pub record LoadResult : Type 0 where
@@ -74,6 +78,9 @@ runFields refusal steps reason thread = record {
   thread = toZ w32 thread;
 }
 
+unfoldable pub collectFields : ℕ → ℕ → CollectAnswer
+collectFields refusal threads = record { refusal = toZ w32 refusal; threads = toZ w32 threads }
+
 -- the numbers of each answer: all others are 0 where a call is refused, and "nobody" is thread -1, number 0
 unfoldable pub startNumbers : Started → StartAnswer
 startNumbers Started.Done = startFields 0
@@ -97,6 +104,10 @@ unfoldable pub runNumbers : Ran → RunAnswer
 runNumbers (Ran.Done n r) = runFields 0 n (Numbers.reasonNumber r) (Numbers.heldUpNumber r)
 runNumbers (Ran.Refused g) = runFields (Numbers.refusalNumber g) 0 0 0
 
+unfoldable pub collectNumbers : Collected → CollectAnswer
+collectNumbers (Collected.Done n) = collectFields 0 n
+collectNumbers (Collected.Refused g) = collectFields (Numbers.refusalNumber g) 0
+
 unfoldable pub inNumbers : {A B : Type 0} → (A → B) → Outcome A → StateResult B
 inNumbers f o = record { answer = f (o .answer); state = o .state }
 
@@ -115,3 +126,6 @@ takeResult table state p = inNumbers takeNumbers (takeCall table state p)
 
 unfoldable pub runResult : List ℕ → List ℕ → ℕ → StateResult RunAnswer
 runResult table state n = inNumbers runNumbers (runCall table state n)
+
+unfoldable pub collectResult : List ℕ → List ℕ → StateResult CollectAnswer
+collectResult table state = inNumbers collectNumbers (collectCall table state)

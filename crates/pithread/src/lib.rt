@@ -7,7 +7,8 @@ ghost use Prim.Native.Nat.{_<_};
 ghost use mir.Syntax.{w32};
 ghost use mir.Val.{ofZ};
 ghost use Rattle.engine.specs.Numbers as Numbers;
-ghost use Rattle.pithread.specs.Interface.{LoadResult, loadResult, StateResult, startFields, startNumbers, startResult, stepNumbers, stepFields, stepResult, giveNumbers, giveFields, giveResult, takeNumbers, takeFields, takeResult, runNumbers, runFields, runResult};
+ghost use Rattle.pithread.specs.Interface.{LoadResult, loadResult, StateResult, startFields, startNumbers, startResult, stepNumbers, stepFields, stepResult, giveNumbers, giveFields, giveResult, takeNumbers, takeFields, takeResult, runNumbers, runFields, runResult, collectNumbers, collectFields, collectResult};
+use collector::Collected;
 use loader::Ground;
 use loader::Loaded;
 use rules::Deed;
@@ -112,6 +113,12 @@ pub struct RunAnswer {
     pub steps: i32,
     pub reason: i32,
     pub thread: i32,
+}
+
+#[repr(C)]
+pub struct CollectAnswer {
+    pub refusal: i32,
+    pub threads: i32,
 }
 
 // The pattern of -1.
@@ -240,6 +247,15 @@ fn run_fields(refusal: u32, steps: u32, reason: u32, thread: u32) -> RunAnswer
     }
 }
 
+fn collect_fields(refusal: u32, threads: u32) -> CollectAnswer
+    ensures { λ r. ⌜ r ≡ collectFields refusal threads ⌝ }
+{
+    CollectAnswer {
+        refusal: numbers::signed(refusal),
+        threads: numbers::signed(threads),
+    }
+}
+
 fn start_numbers(answer: Started) -> StartAnswer
     ensures { λ r. ⌜ r ≡ startNumbers answer ⌝ }
 {
@@ -297,6 +313,15 @@ fn run_numbers(answer: Ran) -> RunAnswer
     }
 }
 
+fn collect_numbers(answer: Collected) -> CollectAnswer
+    ensures { λ r. ⌜ r ≡ collectNumbers answer ⌝ }
+{
+    match answer {
+        Collected::Done(threads) => collect_fields(0, threads),
+        Collected::Refused(ground) => collect_fields(refusal_of(ground), 0),
+    }
+}
+
 #[no_mangle]
 pub extern "C" fn pithread_start(table: &[u8], state: &mut [u8]) -> StartAnswer
     ensures { λ r. ⌜ _≡_ {A = StateResult StartAnswer} (record { answer = r; state = now (state .exit) }) (startResult (now (table .entry)) (now (state .entry))) ⌝ }
@@ -335,4 +360,11 @@ pub extern "C" fn pithread_run(table: &[u8], state: &mut [u8], n: u16) -> RunAns
     ensures { λ r. ⌜ _≡_ {A = StateResult RunAnswer} (record { answer = r; state = now (state .exit) }) (runResult (now (table .entry)) (now (state .entry)) n) ⌝ }
 {
     run_numbers(engine::run(table, state, n))
+}
+
+#[no_mangle]
+pub extern "C" fn pithread_collect(table: &[u8], state: &mut [u8]) -> CollectAnswer
+    ensures { λ r. ⌜ _≡_ {A = StateResult CollectAnswer} (record { answer = r; state = now (state .exit) }) (collectResult (now (table .entry)) (now (state .entry))) ⌝ }
+{
+    collect_numbers(collector::collect(table, state))
 }

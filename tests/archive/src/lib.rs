@@ -1,9 +1,9 @@
 //! The delivered archive, `libpithread.a`, as Rust sees it.
 
-use interface::{Engine, Given, Loaded, Ran, Started, Stepped, Taken};
+use interface::{Collected, Engine, Given, Loaded, Ran, Started, Stepped, Taken};
 
 /// The archive's calls on a table and a state.
-pub const ENGINE: Engine = Engine { start, step, give, take, run };
+pub const ENGINE: Engine = Engine { start, step, give, take, run, collect };
 
 #[link(name = "pithread", kind = "static")]
 extern "C" {
@@ -32,6 +32,7 @@ extern "C" {
         port: u32,
     ) -> Taken;
     fn pithread_run(table: *const u8, table_len: usize, state: *mut u8, state_len: usize, n: u16) -> Ran;
+    fn pithread_collect(table: *const u8, table_len: usize, state: *mut u8, state_len: usize) -> Collected;
 }
 
 // SAFETY, of every call below: each pointer comes with the length of what it points to, the two
@@ -66,4 +67,8 @@ pub fn take(table: &[u8], state: &mut [u8], port: u32) -> Taken {
 
 pub fn run(table: &[u8], state: &mut [u8], n: u16) -> Ran {
     unsafe { pithread_run(table.as_ptr(), table.len(), state.as_mut_ptr(), state.len(), n) }
+}
+
+pub fn collect(table: &[u8], state: &mut [u8]) -> Collected {
+    unsafe { pithread_collect(table.as_ptr(), table.len(), state.as_mut_ptr(), state.len()) }
 }

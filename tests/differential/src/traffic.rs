@@ -28,6 +28,7 @@ impl Traffic {
             Call::Give { .. } => "give",
             Call::Take { .. } => "take",
             Call::Run { .. } => "run",
+            Call::Collect => "collect",
         };
         self.note(name, answer.refusal());
         if answer.refusal() == 0 {
@@ -49,6 +50,7 @@ impl Traffic {
                     self.note("run of 0 steps, reason", ran.reason);
                 }
             }
+            Answer::Collected(collected) => self.note("took somebody", i32::from(collected.threads > 0)),
         }
     }
 

@@ -10,13 +10,14 @@ pub fn any_call(random: &mut Random, state: &[u8], ports: usize) -> Call {
     let ready = Words::new(state).threads(READY);
     let (steps, runs, starts) = if ready.is_empty() { (4, 4, 8) } else { (50, 24, 1) };
     let exchanges = if ports == 0 { 2 } else { 20 };
-    let kinds = [(0, steps), (1, runs), (2, exchanges), (3, exchanges), (4, starts)];
+    let kinds = [(0, steps), (1, runs), (2, exchanges), (3, exchanges), (4, starts), (5, 4)];
     match random.weighted(&kinds) {
         0 => Call::Step { thread: any_thread(random, &ready) },
         1 => Call::Run { n: any_count(random) },
         2 => Call::Give { port: any_port(random, ports), number: any_number(random) },
         3 => Call::Take { port: any_port(random, ports) },
-        _ => Call::Start,
+        4 => Call::Start,
+        _ => Call::Collect,
     }
 }
 

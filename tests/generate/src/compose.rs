@@ -50,6 +50,7 @@ pub fn minus(slot: i16, one: i16, other: i16) -> Action {
     [7, slot, one, other]
 }
 
+#[derive(Clone)]
 pub enum Node {
     End,
     Call(i16, Vec<i16>),

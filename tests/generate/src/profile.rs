@@ -148,6 +148,99 @@ const LARGEST: Profile = Profile {
     ..DENSE
 };
 
+/// Small files whose threads soon wait in vain, each kind with an aim of its own.
+pub const STILL: [Profile; 6] = [APART, CLOSED, BESIDE_PORTS, IN_LINE, HANDED_ON, LEFT_READY];
+
+/// Threads with few of the channels that there are: some wait alone, some for each other.
+const APART: Profile = Profile {
+    name: "apart",
+    size: |random| least_size(random, 1..=1, 2..=4, 0..=0),
+    opening: Some(Opening { slots: 3..=6, children: 2..=4 }),
+    restarts: 0,
+    actions: &[0, 1, 1, 2, 2, 3, 5],
+    exchanges: 75,
+    favoured: 20,
+    guarded: 15,
+    ends: 70,
+    tries: 4,
+    numbers: 20,
+    constants: &[0, 0, 1, 1],
+};
+
+/// Guards that are often false, so that a thread offers less than it knows, or nothing.
+const CLOSED: Profile = Profile {
+    name: "closed",
+    size: |random| least_size(random, 1..=1, 3..=5, 0..=1),
+    guarded: 75,
+    numbers: 30,
+    constants: &[0, 1, 2, -1],
+    ..APART
+};
+
+/// Some wait on a port, some for these, some apart from both.
+const BESIDE_PORTS: Profile = Profile {
+    name: "beside ports",
+    size: |random| least_size(random, 1..=1, 3..=5, 1..=2),
+    ends: 50,
+    ..APART
+};
+
+/// Threads with two or three channels use first the one and then the other, without a choice, so that
+/// many wait for others that wait.
+const IN_LINE: Profile = Profile {
+    name: "in line",
+    size: |random| {
+        let size = least_size(random, 1..=1, 3..=4, 1..=1);
+        Size { branches: size.nodes - size.definitions, ..size }
+    },
+    opening: Some(Opening { slots: 4..=6, children: 4..=6 }),
+    exchanges: 95,
+    favoured: 0,
+    guarded: 0,
+    ..APART
+};
+
+/// Channels go over channels, so that who knows what changes.
+const HANDED_ON: Profile = Profile {
+    name: "handed on",
+    size: |random| least_size(random, 2..=3, 4..=6, 0..=1),
+    opening: Some(Opening { slots: 4..=7, children: 2..=4 }),
+    exchanges: 85,
+    guarded: 5,
+    numbers: 5,
+    ..APART
+};
+
+/// Threads that go on for long beside those that wait, and wake some of them late.
+const LEFT_READY: Profile = Profile {
+    name: "left ready",
+    size: |random| least_size(random, 1..=2, 3..=5, 0..=1),
+    actions: &[0, 0, 1, 2, 3, 5, 6],
+    exchanges: 50,
+    ends: 10,
+    ..APART
+};
+
+/// Some definitions of one or two choices, with so many slots in each.
+fn least_size(
+    random: &mut Random,
+    types: RangeInclusive<usize>,
+    slots: RangeInclusive<usize>,
+    ports: RangeInclusive<usize>,
+) -> Size {
+    let definitions = random.within(2..=4);
+    let choices = random.within(definitions..=definitions * 2);
+    let types = random.within(types);
+    Size {
+        types,
+        definitions,
+        slots: definitions * random.within(slots).max(types + 1),
+        nodes: definitions + choices,
+        branches: random.within(choices..=choices * 2),
+        ports: random.within(ports),
+    }
+}
+
 /// A few definitions of some nodes, with so many slots in each.
 fn small_size(
     random: &mut Random,

@@ -151,8 +151,19 @@ impl Words {
 
     /// Adds what one thread holds to the counts.
     fn count_thread(&self, layout: &Layout, thread: usize, counts: &mut [[i32; 2]; CHANNELS]) {
+        let waits = self.thread(thread)[0] == WAITING;
+        for channel in self.held(layout, thread) {
+            counts[channel][0] += 1;
+            counts[channel][1] += i32::from(waits);
+        }
+    }
+
+    /// The channels that a thread holds, each once; none for a free row.
+    pub fn held(&self, layout: &Layout, thread: usize) -> Vec<usize> {
         let row = self.thread(thread);
-        let Some(definition) = layout.definition_of(row[1]).filter(|_| row[0] != FREE) else { return };
+        let Some(definition) = layout.definition_of(row[1]).filter(|_| row[0] != FREE) else {
+            return Vec::new();
+        };
         let mut held: Vec<usize> = layout
             .slot_types(definition)
             .into_iter()
@@ -162,10 +173,7 @@ impl Words {
             .collect();
         held.sort_unstable();
         held.dedup();
-        for channel in held {
-            counts[channel][0] += 1;
-            counts[channel][1] += i32::from(row[0] == WAITING);
-        }
+        held
     }
 }
 

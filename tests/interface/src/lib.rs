@@ -87,6 +87,13 @@ pub struct Ran {
     pub thread: i32,
 }
 
+#[repr(C)]
+#[derive(Clone, Copy, Debug, Default, PartialEq, Eq)]
+pub struct Collected {
+    pub refusal: i32,
+    pub threads: i32,
+}
+
 /// A call with its numbers; the buffers come beside it.
 #[derive(Clone, Copy, Debug, PartialEq, Eq)]
 pub enum Call {
@@ -95,6 +102,7 @@ pub enum Call {
     Give { port: u32, number: i32 },
     Take { port: u32 },
     Run { n: u16 },
+    Collect,
 }
 
 #[derive(Clone, Copy, Debug, PartialEq, Eq)]
@@ -104,6 +112,7 @@ pub enum Answer {
     Given(Given),
     Taken(Taken),
     Ran(Ran),
+    Collected(Collected),
 }
 
 impl Answer {
@@ -115,6 +124,7 @@ impl Answer {
             Answer::Given(answer) => answer.refusal,
             Answer::Taken(answer) => answer.refusal,
             Answer::Ran(answer) => answer.refusal,
+            Answer::Collected(answer) => answer.refusal,
         }
     }
 }
@@ -127,6 +137,7 @@ pub struct Engine {
     pub give: fn(&[u8], &mut [u8], u32, i32) -> Given,
     pub take: fn(&[u8], &mut [u8], u32) -> Taken,
     pub run: fn(&[u8], &mut [u8], u16) -> Ran,
+    pub collect: fn(&[u8], &mut [u8]) -> Collected,
 }
 
 impl Engine {
@@ -137,6 +148,7 @@ impl Engine {
             Call::Give { port, number } => Answer::Given((self.give)(table, state, port, number)),
             Call::Take { port } => Answer::Taken((self.take)(table, state, port)),
             Call::Run { n } => Answer::Ran((self.run)(table, state, n)),
+            Call::Collect => Answer::Collected((self.collect)(table, state)),
         }
     }
 }

@@ -27,11 +27,11 @@ use Rattle.collector.specs.Enabled.{Enabled, from-start, is-ready, by-be
 
 -- ---- tests joined by or
 
-or-elim : (a b : Bool) → (a || b) ≡ true → (a ≡ true) ⊎ (b ≡ true)
+pub or-elim : (a b : Bool) → (a || b) ≡ true → (a ≡ true) ⊎ (b ≡ true)
 or-elim true b e = inl refl
 or-elim false b e = inr e
 
-or-second : (a b : Bool) → b ≡ true → (a || b) ≡ true
+pub or-second : (a b : Bool) → b ≡ true → (a || b) ≡ true
 or-second true b e = refl
 or-second false b e = e
 

@@ -22,12 +22,16 @@ use Rattle.rules.specs.declared.Taken.the-variants as Taken
 use Rattle.rules.specs.declared.Ran.{Ran}
 use Rattle.rules.specs.declared.Ran.the-variants as Ran
 use Rattle.engine.specs.Numbers as Numbers
-use Rattle.pithread.specs.Interface.{StateResult, inNumbers, startFields, startNumbers, startResult, stepNumbers, stepFields, stepResult, giveNumbers, giveFields, giveResult, takeNumbers, takeFields, takeResult, runNumbers, runFields, runResult}
+use Rattle.collector.specs.Collect.{collectCall}
+use Rattle.collector.specs.declared.Collected.{Collected}
+use Rattle.collector.specs.declared.Collected.the-variants as Collected
+use Rattle.pithread.specs.Interface.{StateResult, inNumbers, startFields, startNumbers, startResult, stepNumbers, stepFields, stepResult, giveNumbers, giveFields, giveResult, takeNumbers, takeFields, takeResult, runNumbers, runFields, runResult, collectNumbers, collectFields, collectResult}
 use Rattle.pithread.specs.declared.StartAnswer.{StartAnswer}
 use Rattle.pithread.specs.declared.StepAnswer.{StepAnswer}
 use Rattle.pithread.specs.declared.GiveAnswer.{GiveAnswer}
 use Rattle.pithread.specs.declared.TakeAnswer.{TakeAnswer}
 use Rattle.pithread.specs.declared.RunAnswer.{RunAnswer}
+use Rattle.pithread.specs.declared.CollectAnswer.{CollectAnswer}
 
 -- the number of a pattern, as an answer has it
 pub signed-back : (x : ℕ) (v : ℤ) → v ≡ toZ w32 x → Fits w32 x → toZ w32 (ofZ w32 v) ≡ toZ w32 x
@@ -76,6 +80,10 @@ module _ (g : Refusal) (n : ℕ) (e : n ≡ Numbers.refusalNumber g) where
   unfolding runNumbers
   run-refused r a h f = rw (f, ← e) h
 
+  pub collect-refused : (r : CollectAnswer) (a : Collected) → r ≡ collectFields n 0 → a ≡ Collected.Refused g → r ≡ collectNumbers a
+  unfolding collectNumbers
+  collect-refused r a h f = rw (f, ← e) h
+
 pub step-done : (r : StepAnswer) (a : Stepped) (n : ℕ) (d : Deed) (x y z : ℕ) → r ≡ stepFields 0 n x y z → x ≡ Numbers.actNumber d → y ≡ Numbers.branchNumber d → z ≡ Numbers.partnerNumber d
     → a ≡ Stepped.Done n d → r ≡ stepNumbers a
 unfolding stepNumbers
@@ -88,6 +96,10 @@ give-met r a u h f = rw f h
 pub give-nobody : (r : GiveAnswer) (a : Given) → r ≡ giveFields 0 minusOne → a ≡ Given.Nobody → r ≡ giveNumbers a
 unfolding giveNumbers
 give-nobody r a h f = rw f h
+
+pub collect-done : (r : CollectAnswer) (a : Collected) (n : ℕ) → r ≡ collectFields 0 n → a ≡ Collected.Done n → r ≡ collectNumbers a
+unfolding collectNumbers
+collect-done r a n h f = rw f h
 
 pub take-met : (r : TakeAnswer) (a : Taken) (u v : ℕ) → r ≡ takeFields 0 u v → a ≡ Taken.Met u v → r ≡ takeNumbers a
 unfolding takeNumbers
@@ -122,6 +134,11 @@ module _ (table b b₁ : List ℕ) where
       → _≡_ {A = StateResult GiveAnswer} (record { answer = r; state = b₁ }) (giveResult table b p z)
   unfolding giveResult inNumbers
   give-answered p v z a r e g i f = let q : v ≡ ofZ w32 z = g ∙ rw (toZ-ofZ i) in rw (f, ← q) (ap (inNumbers giveNumbers) e)
+
+  pub collect-answered : (a : Collected) (r : CollectAnswer) → outcome a b₁ ≡ collectCall table b → r ≡ collectNumbers a
+      → _≡_ {A = StateResult CollectAnswer} (record { answer = r; state = b₁ }) (collectResult table b)
+  unfolding collectResult inNumbers
+  collect-answered a r e f = rw f (ap (inNumbers collectNumbers) e)
 
   pub take-answered : (p : ℕ) (a : Taken) (r : TakeAnswer) → outcome a b₁ ≡ takeCall table b p → r ≡ takeNumbers a
       → _≡_ {A = StateResult TakeAnswer} (record { answer = r; state = b₁ }) (takeResult table b p)

@@ -2,16 +2,17 @@
 //!
 //! Each call reads both buffers into structures of fixed size, works on these, and writes the state
 //! once at its end: `code` is the table, `state` the state, `sound` reads it with ground 10, `moves`
-//! and `meeting` are a step.
+//! and `meeting` are a step, `collect` is a collection.
 
 mod code;
+mod collect;
 mod meeting;
 mod moves;
 mod sound;
 mod state;
 
 use interface::{
-    Engine, Given, Ran, Started, Stepped, Taken, ALL_STEPS, BUFFER_LENGTH, LACKED_CHANNEL_ROW,
+    Collected, Engine, Given, Ran, Started, Stepped, Taken, ALL_STEPS, BUFFER_LENGTH, LACKED_CHANNEL_ROW,
     LACKED_THREAD_ROW, NOBODY, NONE_READY, NO_CHANNEL_ROW, NO_THREAD_ROW, PORT, STATE, STATE_BYTES, TABLE,
     THREAD, THREADS,
 };
@@ -24,7 +25,7 @@ pub use sound::Fault;
 use state::State;
 
 /// The reference's calls.
-pub const ENGINE: Engine = Engine { start, step, give, take, run };
+pub const ENGINE: Engine = Engine { start, step, give, take, run, collect };
 
 /// The number of a ground.
 type Ground = i32;
@@ -77,6 +78,16 @@ pub fn run(table: &[u8], state: &mut [u8], n: u16) -> Ran {
         Ok(ran)
     });
     ran.unwrap_or_else(|refusal| Ran { refusal, ..Ran::default() })
+}
+
+/// Frees the threads that nobody can wake, and the channels that only they held.
+pub fn collect(table: &[u8], state: &mut [u8]) -> Collected {
+    let collected = with_both(table, state, |code, read, state| {
+        let threads = read.collect(code);
+        read.write(state);
+        Ok(Collected { refusal: 0, threads: threads as i32 })
+    });
+    collected.unwrap_or_else(|refusal| Collected { refusal, ..Collected::default() })
 }
 
 /// What is wrong with a state, if its table and both lengths are right.

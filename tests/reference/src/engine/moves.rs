@@ -32,7 +32,7 @@ impl State {
         let done = |act, branch, partner| Stepped { refusal: 0, node: node as i32, act, branch, partner };
         match code.node(node).kind {
             Kind::End => {
-                self.end(code, thread);
+                self.remove_thread(code, thread);
                 Ok(done(ENDED, 0, NOBODY))
             }
             Kind::Call { called, parameters, arguments } => {
@@ -49,14 +49,6 @@ impl State {
                 self.waiting |= only(thread);
                 Ok(done(WAITS, 0, NOBODY))
             }
-        }
-    }
-
-    fn end(&mut self, code: &Code, thread: usize) {
-        self.ready &= !only(thread);
-        let Thread { node, slots } = self.threads[thread];
-        for channel in held(&slots, code.definition_at(node).channels) {
-            self.let_go(thread, channel);
         }
     }
 

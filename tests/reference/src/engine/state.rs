@@ -113,6 +113,16 @@ impl State {
         }
     }
 
+    /// The thread is no more, and lets go of all its channels.
+    pub fn remove_thread(&mut self, code: &Code, thread: usize) {
+        self.ready &= !only(thread);
+        self.waiting &= !only(thread);
+        let Thread { node, slots } = self.threads[thread];
+        for channel in held(&slots, code.definition_at(node).channels) {
+            self.let_go(thread, channel);
+        }
+    }
+
     /// The thread is given the channel in one of its slots, and the one that was there is let go if
     /// no other slot has it.
     pub fn put_channel(&mut self, code: &Code, thread: usize, slot: usize, channel: i32) {

@@ -1,7 +1,7 @@
 //! A file's table and the state that the calls lead to.
 
-use generate::{File, Words};
-use interface::{Given, Ran, Stepped, Taken, STATE_BYTES};
+use generate::{File, Words, FREE};
+use interface::{Collected, Given, Ran, Stepped, Taken, STATE_BYTES};
 use reference::TABLE_BYTES;
 
 pub struct Bench {
@@ -47,6 +47,20 @@ impl Bench {
 
     pub fn take(&mut self, port: u32) -> Taken {
         reference::take(&self.table, &mut self.state, port)
+    }
+
+    pub fn collect(&mut self) -> Collected {
+        reference::collect(&self.table, &mut self.state)
+    }
+
+    /// Collects, and answers the threads that are gone.
+    pub fn collected(&mut self) -> Vec<usize> {
+        let before = self.words().threads(FREE);
+        let collected = self.collect();
+        let mut gone = self.words().threads(FREE);
+        gone.retain(|thread| !before.contains(thread));
+        assert_eq!(collected, Collected { refusal: 0, threads: gone.len() as i32 });
+        gone
     }
 
     pub fn words(&self) -> Words {

@@ -2,6 +2,7 @@
 
 mod bench;
 mod channels;
+mod collections;
 mod listing;
 mod meetings;
 mod moves;

@@ -1,17 +1,18 @@
 //! The order of the grounds, and that a refused call changes nothing.
 
 use generate::procedures::ports;
-use interface::{Answer, Call, Given, Ran, Started, Stepped, Taken, STATE_BYTES};
+use interface::{Answer, Call, Collected, Given, Ran, Started, Stepped, Taken, STATE_BYTES};
 use reference::{ENGINE, TABLE_BYTES};
 
 use crate::bench::Bench;
 
-const CALLS: [Call; 5] = [
+const CALLS: [Call; 6] = [
     Call::Start,
     Call::Step { thread: 64 },
     Call::Give { port: 2, number: 3 },
     Call::Take { port: u32::MAX },
     Call::Run { n: 5 },
+    Call::Collect,
 ];
 
 /// All numbers but the ground are 0.
@@ -22,6 +23,7 @@ fn refused(call: Call, refusal: i32) -> Answer {
         Call::Give { .. } => Answer::Given(Given { refusal, ..Given::default() }),
         Call::Take { .. } => Answer::Taken(Taken { refusal, ..Taken::default() }),
         Call::Run { .. } => Answer::Ran(Ran { refusal, ..Ran::default() }),
+        Call::Collect => Answer::Collected(Collected { refusal, ..Collected::default() }),
     }
 }
 

@@ -49,6 +49,7 @@ fn check(name: &str, change: Change, fault: Option<Fault>) {
         assert_eq!(bench.unchanged(|bench| bench.step(64)).refusal, 10, "{name}");
         assert_eq!(bench.unchanged(|bench| bench.give(9, 0)).refusal, 10, "{name}");
         assert_eq!(bench.unchanged(|bench| bench.take(0)).refusal, 10, "{name}");
+        assert_eq!(bench.unchanged(|bench| bench.collect()).refusal, 10, "{name}");
     }
 }
 

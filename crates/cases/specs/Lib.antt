@@ -1,0 +1,4 @@
+pub mod Facts
+pub mod Files
+pub mod Tables
+pub mod Starred

@@ -1,0 +1,87 @@
+-- One law for each way out of the functions that free threads, and of the call. Assumes nothing.
+use Prim.Native.Nat.{ℕ, _<_}
+use mathlib.Core.Path.{_≡_, _∙_}
+use mathlib.Core.Bool.{Bool, true, false}
+use mathlib.Core.List.{List}
+use lib.ListN.{getD}
+use borrow.Author.Tests.{ne-eqb}
+use Rattle.numbers.specs.Bytes.{words}
+use Rattle.numbers.specs.Count.{bit}
+use Rattle.numbers.specs.Rows.{at}
+use Rattle.table.specs.Table.{Table, tableOf}
+use Rattle.state.specs.State.{State, stateOf, stateBytes, thread, isWaiting, withThread}
+use Rattle.state.specs.State.Laws.{length-threads}
+use Rattle.rules.specs.Holding.{settled}
+use Rattle.rules.specs.Start.{freeRow}
+use Rattle.rules.specs.Calls.{outcome, admission}
+use Rattle.rules.specs.declared.Refusal.{Refusal}
+use Rattle.rules.specs.declared.Admission.{Admission}
+use Rattle.rules.specs.declared.Admission.the-variants.{Admitted, Refused}
+use Rattle.counts.specs.Own.{ownList}
+use Rattle.counts.specs.Shift.{settledOne}
+use Rattle.counts.specs.Upkeep.{one-settled}
+use Rattle.collector.specs.declared.Collected.the-variants as Collected
+use Rattle.collector.specs.Collect.{collected, takenCount, collectBy, collectCall}
+use Rattle.collector.specs.Freeing.{leaves, freedBy, collectedTo}
+use Rattle.collector.specs.Freeing.Laws.{freed-none}
+
+-- free_thread
+pub freed-row : (tb : Table) (b : List ℕ) (t : ℕ) (s₁ s₂ : State) (l : List ℕ) (w : ℕ) → s₂ ≡ settledOne tb s₁ t l w → s₁ ≡ withThread (stateOf b) t freeRow
+    → l ≡ ownList tb (thread (stateOf b) t) → w ≡ bit (isWaiting (thread (stateOf b) t)) → settled tb (stateOf b) ≡ stateOf b → t < 64
+    → s₂ ≡ settled tb (withThread (stateOf b) t freeRow)
+freed-row tb b t s₁ s₂ l w e f g h i j = e ∙ rw (f, g, h) (one-settled tb (stateOf b) (length-threads b) i t j freeRow)
+
+-- take_thread: y is the status of thread t, x whether it is marked
+module _ (s : State) (m : List Bool) (t y : ℕ) (e : y ≡ at (s .threads) t 0) where
+  none-free : y ≡ 0 → leaves s m t ≡ false
+  unfolding leaves
+  none-free f = rw (← e, f)
+
+  pub free-counted : y ≡ 0 → 0 ≡ bit (leaves s m t)
+  unfolding bit
+  free-counted f = rw (none-free f)
+
+  pub free-kept : (tb : Table) → y ≡ 0 → s ≡ freedBy tb s m t
+  unfolding freedBy
+  free-kept tb f = rw (none-free f)
+
+  module _ (f : y ≡ 0 → ⊥) (x : Bool) (g : x ≡ getD m t false) where
+    none-marked : x ≡ true → leaves s m t ≡ false
+    unfolding leaves
+    none-marked h = rw (← e, ne-eqb y 0 f, ← g, h)
+
+    pub marked-counted : x ≡ true → 0 ≡ bit (leaves s m t)
+    unfolding bit
+    marked-counted h = rw (none-marked h)
+
+    pub marked-kept : (tb : Table) → x ≡ true → s ≡ freedBy tb s m t
+    unfolding freedBy
+    marked-kept tb h = rw (none-marked h)
+
+    one-left : x ≡ false → leaves s m t ≡ true
+    unfolding leaves
+    one-left h = rw (← e, ne-eqb y 0 f, ← g, h)
+
+    pub left-counted : x ≡ false → 1 ≡ bit (leaves s m t)
+    unfolding bit
+    left-counted h = rw (one-left h)
+
+    pub left-freed : (tb : Table) (s₂ : State) → x ≡ false → s₂ ≡ settled tb (withThread s t freeRow) → s₂ ≡ freedBy tb s m t
+    unfolding freedBy
+    left-freed tb s₂ h i = rw (one-left h) i
+
+-- take_unmarked
+pub none-freed : (tb : Table) (b : List ℕ) → settled tb (stateOf b) ≡ stateOf b → stateOf b ≡ collectedTo tb (stateOf b) 0
+none-freed tb b e = freed-none tb (stateOf b) (length-threads b) e
+
+-- collect
+module _ (table b : List ℕ) (a : Admission) (e : a ≡ admission table b) where
+  pub collect-refused : (g : Refusal) → a ≡ Refused g → outcome (Collected.Refused g) b ≡ collectCall table b
+  unfolding collectCall collectBy
+  collect-refused g f = rw (← e, f)
+
+  -- w: its words, and w₁ those after the call, of which b₁ are the bytes
+  pub collect-admitted : a ≡ Admitted → (w w₁ b₁ : List ℕ) → (a ≡ Admitted → w ≡ words b) → b₁ ≡ stateBytes (stateOf w₁) → (n : ℕ)
+      → n ≡ takenCount (tableOf table) (stateOf w) → stateOf w₁ ≡ collected (tableOf table) (stateOf w) → outcome (Collected.Done n) b₁ ≡ collectCall table b
+  unfolding collectCall collectBy
+  collect-admitted f w w₁ b₁ q h n i j = rw (← e, f, h, j, i, q f)

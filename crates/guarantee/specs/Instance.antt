@@ -1,0 +1,246 @@
+-- One file that loads, one list of calls from its start, and a collection after it that takes a thread and leaves another waiting. Assumes nothing.
+use Prim.Native.Nat.{ℕ, _<_}
+use native.Mathlib.Omega.{arith}
+use mathlib.Core.Path.{_≡_, refl, ap, _∙_}
+use mathlib.Core.Bool.{true, false}
+use mathlib.Core.List.{List, [], _∷_}
+use lib.Dec.{ltb, eqb}
+use lib.ListN.{length, getD, replicate, length-replicate}
+use borrow.Author.Tests.{ltb-true, eqb-true}
+use Rattle.numbers.specs.Rows.{at}
+use Rattle.numbers.specs.Search.{every, computing}
+use Rattle.numbers.specs.Search.Laws.{every-elim}
+use Rattle.text.specs.Text.{fileText}
+use Rattle.table.specs.Table.{Table, tableOf, ports, rowNumbers}
+use Rattle.table.specs.Layout.{blocks, lines, branchCount, size, start, endsPast, owner}
+use Rattle.table.specs.Form.{gain, loss, within, headerInRange, kindDue, kindWrong, gainOf, lossOf, sumAgrees, sumsAgree}
+use Rattle.table.specs.Roles.{guardRole, actionRole, operandPlace, operand, operandRole, reads, writes}
+use Rattle.checks.specs.Ranges.{roleInRange, ahead, unusedFrom, restUnused, typeInRange, definitionInRange, nodeInRange, operandInRange, targetsInRange, branchInRange, rowInRange, outOfRange}
+use Rattle.checks.specs.Types.{roleTyped, portTyped, portsTyped, nodeTyped, operandTyped, branchTyped, rowTyped, typesDisagree}
+use Rattle.flow.specs.Flow.{slotWritten, pastWrite, either, arrive, begins, beginning, branchFollowed, branchesFollowed, flowTo, flow, mayLack, callWritten, operandWritten, rowWritten, readsUnwritten, unreachable, marked}
+use Rattle.loader.specs.File.{fileTable}
+use Rattle.loader.specs.Verdict.{atFault, judgedFlow, judgedRows, judged, verdict}
+use Rattle.loader.specs.Load.{tableLength, tableBytes, Outcome, outcome, loaded, accepted}
+use Rattle.loader.specs.declared.Loaded.the-variants.{Done}
+use Rattle.loader.specs.declared.Verdict.the-variants.{Sound}
+use Rattle.loading.specs.Printed.{Printable, filledUp, print-table, print-judged}
+use Rattle.loading.specs.Yields.{bytes-hold, file-shaped, sound-loads}
+use Rattle.state.specs.State.{State, stateLength, view, stateBytes, thread, isWaiting}
+use Rattle.rules.specs.Start.{started}
+use Rattle.rules.specs.Offers.{partnerOf}
+use Rattle.rules.specs.Calls.{startAdmission, startBy, startCall, bench, givenTo, giveBy, giveCall, courseOf, runBy, runCall}
+use Rattle.rules.specs.declared.Direction.the-variants.{In}
+use Rattle.rules.specs.declared.Partner.the-variants.{At}
+use Rattle.rules.specs.declared.Admission.{Admission}
+use Rattle.rules.specs.declared.Admission.the-variants as Admission
+use Rattle.rules.specs.declared.Started.the-variants as Started
+use Rattle.granted.specs.Codes.{clash}
+use Rattle.engine_laws.specs.Shape.Laws.{view-bytes}
+use Rattle.engine_laws.specs.Lasting.{course-kept}
+use Rattle.engine_laws.specs.Started.{started-sound}
+use Rattle.engine_laws.specs.Frames.{elem}
+use Rattle.engine_laws.specs.Buffers.{SoundBuffer, view-sound}
+use Rattle.engine_laws.specs.Calls.{start-done, admitted}
+use Rattle.engine_laws.specs.Lists.{Call, give, run, after}
+use Rattle.engine_laws.specs.Instance.{loaded-small, loaded-accepted}
+use Rattle.collector.specs.Collect.{collected, takenCount, collectCall}
+use Rattle.collector_laws.specs.Linked.{Series}
+use Rattle.collector_laws.specs.Out.{takenThread}
+use Rattle.collector_laws.specs.Computing.{collecting}
+use Rattle.collector.specs.declared.Collected.the-variants as Collected
+use Rattle.guarantee.specs.Claim.{Any, on, afterAny, afterList, reachedBy, metByGive, moving, movingAll, takenBy, Guarantee}
+use Rattle.guarantee.specs.Kept.{grants, collect-view, taken-is}
+use Rattle.guarantee.specs.Proof.{reached-sound, collection-made, guarantee}
+
+-- ---- the state that the bytes hold after a start, and after a run
+
+start-by : (table state : List ℕ) (a : Admission) → startBy a table state .answer ≡ Started.Done
+    → startBy a table state .state ≡ stateBytes (started (tableOf table))
+unfolding startBy
+start-by table state (Admission.Refused r) e = clash cc
+start-by table state Admission.Admitted e = refl
+
+module _ (table : List ℕ) (ok : accepted table ≡ true) (fit : (i : ℕ) → getD table i 0 < 256) (state : List ℕ) where
+  start-view : length state ≡ stateLength → view (startCall table state .state) ≡ started (tableOf table)
+  unfolding startCall
+  start-view long =
+      rw (start-by table state (startAdmission table state) (start-done table ok state long))
+      (view-bytes _ (started-sound (tableOf table) (grants table ok fit) .orderly .shaped))
+
+  run-view : SoundBuffer table state → (n : ℕ) → view (runCall table state n .state) ≡ courseOf (tableOf table) n (view state) .state
+  unfolding runCall runBy
+  run-view b n =
+      rw (admitted table ok state b)
+      (view-bytes _ (course-kept (tableOf table) (grants table ok fit) n (view state) (view-sound table state b) .orderly .shaped))
+
+-- ---- the example
+
+abbrev row : ℕ → ℕ → ℕ → ℕ → ℕ → ℕ → ℕ → ℕ → ℕ → ℕ → List ℕ
+row a b c d e f g h i j = a ∷ b ∷ c ∷ d ∷ e ∷ f ∷ g ∷ h ∷ i ∷ j ∷ 0 ∷ 0 ∷ []
+
+-- one type that carries numbers, one port; slots: the port, a channel, a number. Nodes: 0 new channel, 1 spawn, 2 a new channel in the place of the first,
+-- 3 receive on the port; 4, where the child starts, receive on the channel, which it alone knows by then; 5 end
+abbrev pub parting : Table
+parting =
+    row 1 1 1 3 6 5 1 0 0 0
+    ∷ row 2 0 0 0 0 0 0 0 0 0
+    ∷ row 3 1 3 6 0 0 0 0 0 0
+    ∷ row 4 1 0 0 0 0 0 0 0 0
+    ∷ row 4 1 0 0 0 0 0 0 0 0
+    ∷ row 4 0 0 0 0 0 0 0 0 0
+    ∷ row 5 1 1 0 0 0 0 0 0 0
+    ∷ row 5 1 1 0 0 0 0 0 0 0
+    ∷ row 5 1 1 0 0 0 0 0 0 0
+    ∷ row 5 1 1 0 0 0 0 0 0 0
+    ∷ row 5 1 1 0 0 0 0 0 0 0
+    ∷ row 5 0 0 0 0 0 0 0 0 0
+    ∷ row 6 0 0 0 3 1 0 0 1 0
+    ∷ row 6 0 0 0 4 0 0 0 2 4
+    ∷ row 6 0 0 0 3 1 0 0 3 0
+    ∷ row 6 0 0 0 2 0 2 0 5 0
+    ∷ row 6 0 0 0 2 1 2 0 5 0
+    ∷ []
+
+-- the table that its file gives
+abbrev tb : Table
+tb = filledUp parting
+
+-- ---- the file is in order
+
+-- what a verdict on rows computes with
+unfoldable judging : Unit {0}
+unfolding computing blocks lines branchCount size start endsPast owner gain loss within headerInRange kindDue kindWrong gainOf lossOf sumAgrees sumsAgree guardRole actionRole operandPlace operand operandRole reads writes roleInRange ahead unusedFrom restUnused typeInRange definitionInRange nodeInRange operandInRange targetsInRange branchInRange rowInRange outOfRange roleTyped portTyped portsTyped nodeTyped operandTyped branchTyped rowTyped typesDisagree slotWritten pastWrite either arrive begins beginning branchFollowed branchesFollowed flowTo flow marked mayLack callWritten operandWritten rowWritten readsUnwritten unreachable atFault judgedFlow judgedRows judged
+judging = tt
+
+in-order : judged tb 17 ≡ Sound
+unfolding judging
+in-order = refl
+
+twelve-each : every (λ i. eqb (length (getD parting i [])) rowNumbers) 17 ≡ true
+unfolding computing
+twelve-each = refl
+
+small-each : every (λ i. every (λ k. ltb (at parting i k) 65536) rowNumbers) 17 ≡ true
+unfolding computing
+small-each = refl
+
+printable : Printable parting
+printable = record {
+  some = omega arith;
+  few = omega arith;
+  twelve = λ i l. eqb-true (length (getD parting i [])) rowNumbers (every-elim _ 17 i twelve-each l);
+  small = λ i k l m. ltb-true (at parting i k) 65536 (every-elim _ rowNumbers k (every-elim _ 17 i small-each l) m);
+}
+
+pub parting-sound : verdict (fileText parting) ≡ Sound
+parting-sound = print-judged parting printable ∙ in-order
+
+-- so it loads, here into a buffer of zeros; the table that it leaves there
+pub blankTable : List ℕ
+blankTable = replicate tableLength 0
+
+pub table : List ℕ
+table = loaded (fileText parting) blankTable .table
+
+loading-done : loaded (fileText parting) blankTable ≡ outcome Done (tableBytes (fileTable (fileText parting)))
+unfolding blankTable
+loading-done = sound-loads (fileText parting) (replicate tableLength 0) parting-sound (length-replicate {A = ℕ} tableLength 0)
+
+pub parting-loads : loaded (fileText parting) blankTable .answer ≡ Done
+parting-loads = ap (λ (o : Outcome). o .answer) loading-done
+
+table-accepted : accepted table ≡ true
+unfolding table
+table-accepted = loaded-accepted (fileText parting) blankTable parting-loads
+
+table-small : (i : ℕ) → getD table i 0 < 256
+unfolding table
+table-small = loaded-small (fileText parting) blankTable parting-loads
+
+table-holds : tableOf table ≡ tb
+unfolding table
+table-holds =
+    ap (λ (o : Outcome). tableOf (o .table)) loading-done
+    ∙ bytes-hold (fileTable (fileText parting)) (file-shaped (fileText parting))
+    ∙ print-table parting printable
+
+-- ---- a list of calls, from the start in a buffer of zeros
+
+pub blankState : List ℕ
+blankState = replicate stateLength 0
+
+blank-long : length blankState ≡ stateLength
+unfolding blankState
+blank-long = length-replicate {A = ℕ} stateLength 0
+
+-- the whole claim, of whatever list
+pub parting-guarantee : (ks : List Any) → Guarantee table blankState ks
+unfolding table
+parting-guarantee = guarantee (fileText parting) blankTable parting-loads blankState blank-long
+
+-- a run of five steps
+abbrev pub worked : List ℕ
+worked = reachedBy table blankState (on (run 5) ∷ [])
+
+-- ---- the state after it
+
+unfoldable parted : State
+parted = courseOf tb 5 (started tb) .state
+
+-- a collection takes one thread, thread 1, and leaves thread 0 waiting
+one-taken : (takenCount tb parted ≡ 1) × (takenThread tb parted 1 ≡ true) × (isWaiting (thread (collected tb parted) 0) ≡ true)
+unfolding collecting parted takenThread
+one-taken = (refl, refl, refl)
+
+worked-sound : SoundBuffer table worked
+worked-sound = reached-sound table table-accepted table-small blankState blank-long (on (run 5) ∷ [])
+
+worked-view : view worked ≡ parted
+unfolding parted afterList afterAny after
+worked-view =
+    run-view table table-accepted table-small (startCall table blankState .state) (reached-sound table table-accepted table-small blankState blank-long []) 5
+    ∙ ap (λ (s : State). courseOf (tableOf table) 5 s .state) (start-view table table-accepted table-small blankState blank-long)
+    ∙ ap (λ (x : Table). courseOf x 5 (started x) .state) table-holds
+
+-- ---- so, by the bytes: the collection is made and takes one thread, which is thread 1; and thread 0 waits after it, so that no part of the claim is empty
+
+taken-one : takenCount (tableOf table) (view worked) ≡ 1
+taken-one = rw (table-holds, worked-view) (one-taken .0)
+
+pub one-collected : collectCall table worked .answer ≡ Collected.Done 1
+one-collected = collection-made table table-accepted table-small blankState blank-long (on (run 5) ∷ []) ∙ ap (λ n. Collected.Done n) taken-one
+
+taken-child : takenThread (tableOf table) (view worked) 1 ≡ true
+taken-child = rw (table-holds, worked-view) (one-taken .1)
+
+pub child-taken : takenBy table worked 1 ≡ true
+child-taken = taken-is table table-accepted table-small worked worked-sound 1 ∙ taken-child
+
+left-parent : isWaiting (thread (collected (tableOf table) (view worked)) 0) ≡ true
+left-parent = rw (table-holds, worked-view) (one-taken .2)
+
+pub parent-waits : isWaiting (thread (view (collectCall table worked .state)) 0) ≡ true
+parent-waits = rw (collect-view table table-accepted table-small worked worked-sound) left-parent
+
+-- whatever would have been called in place of the collection, thread 1 would not have moved
+pub child-rests : (later : List Call) → elem 1 (movingAll table worked later) ≡ false
+child-rests later = parting-guarantee (on (run 5) ∷ []) .untouched 1 one-collected later 1 child-taken .0
+
+port-open : ltb 0 (ports (tableOf table)) ≡ true
+port-open = rw table-holds refl
+
+parent-offers : partnerOf tb parted bench In 0 ≡ At 0 0
+unfolding collecting parted
+parent-offers = refl
+
+parent-found : partnerOf (tableOf table) (view worked) bench In 0 ≡ At 0 0
+parent-found = rw (table-holds, worked-view) parent-offers
+
+-- while thread 0 would have: a give on the port moves it
+pub parent-moves : elem 0 (movingAll table worked (give 0 7 (omega arith) ∷ [])) ≡ true
+unfolding movingAll moving giveCall giveBy givenTo metByGive elem
+parent-moves = rw (admitted table table-accepted worked worked-sound, port-open, parent-found)
+
+-- and after the collection thread 0 is linked
+pub parent-linked : (r : List ℕ) × Series (tableOf table) (view (collectCall table worked .state)) 0 r
+parent-linked = parting-guarantee (on (run 5) ∷ []) .linked 1 one-collected 0 (omega arith) parent-waits

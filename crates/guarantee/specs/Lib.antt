@@ -1,0 +1,5 @@
+pub mod Claim
+pub mod Kept
+pub mod Later
+pub mod Proof
+pub mod Instance
