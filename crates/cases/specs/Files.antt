@@ -59,7 +59,7 @@ module _ (rs : Table) where
   is-sound (Fault g l) e = contra e refl
 
   -- then the file is in order, and its table is the rows, filled up
-  rows-load : inOrder rs ≡ true → (verdict (fileText rs) ≡ Sound) × (fileTable (fileText rs) ≡ filledUp rs)
+  pub rows-load : inOrder rs ≡ true → (verdict (fileText rs) ≡ Sound) × (fileTable (fileText rs) ≡ filledUp rs)
   unfolding inOrder
   rows-load e =
       let p = printable (and-left _ _ e) in

@@ -4,26 +4,16 @@ use native.Mathlib.Omega.{arith}
 use mathlib.Core.Path.{_≡_, refl, ap, _∙_}
 use mathlib.Core.Bool.{true, false}
 use mathlib.Core.List.{List, [], _∷_}
-use lib.Dec.{ltb, eqb}
+use lib.Dec.{ltb}
 use lib.ListN.{length, getD, replicate, length-replicate}
-use borrow.Author.Tests.{ltb-true, eqb-true}
-use Rattle.numbers.specs.Rows.{at}
-use Rattle.numbers.specs.Search.{every, computing}
-use Rattle.numbers.specs.Search.Laws.{every-elim}
 use Rattle.text.specs.Text.{fileText}
-use Rattle.table.specs.Table.{Table, tableOf, ports, rowNumbers}
-use Rattle.table.specs.Layout.{blocks, lines, branchCount, size, start, endsPast, owner}
-use Rattle.table.specs.Form.{gain, loss, within, headerInRange, kindDue, kindWrong, gainOf, lossOf, sumAgrees, sumsAgree}
-use Rattle.table.specs.Roles.{guardRole, actionRole, operandPlace, operand, operandRole, reads, writes}
-use Rattle.checks.specs.Ranges.{roleInRange, ahead, unusedFrom, restUnused, typeInRange, definitionInRange, nodeInRange, operandInRange, targetsInRange, branchInRange, rowInRange, outOfRange}
-use Rattle.checks.specs.Types.{roleTyped, portTyped, portsTyped, nodeTyped, operandTyped, branchTyped, rowTyped, typesDisagree}
-use Rattle.flow.specs.Flow.{slotWritten, pastWrite, either, arrive, begins, beginning, branchFollowed, branchesFollowed, flowTo, flow, mayLack, callWritten, operandWritten, rowWritten, readsUnwritten, unreachable, marked}
+use Rattle.table.specs.Table.{Table, tableOf, ports}
 use Rattle.loader.specs.File.{fileTable}
-use Rattle.loader.specs.Verdict.{atFault, judgedFlow, judgedRows, judged, verdict}
+use Rattle.loader.specs.Verdict.{verdict}
 use Rattle.loader.specs.Load.{tableLength, tableBytes, Outcome, outcome, loaded, accepted}
 use Rattle.loader.specs.declared.Loaded.the-variants.{Done}
 use Rattle.loader.specs.declared.Verdict.the-variants.{Sound}
-use Rattle.loading.specs.Printed.{Printable, filledUp, print-table, print-judged}
+use Rattle.loading.specs.Printed.{filledUp}
 use Rattle.loading.specs.Yields.{bytes-hold, file-shaped, sound-loads}
 use Rattle.state.specs.State.{State, stateLength, view, stateBytes, thread, isWaiting}
 use Rattle.rules.specs.Start.{started}
@@ -48,6 +38,7 @@ use Rattle.collector_laws.specs.Linked.{Series}
 use Rattle.collector_laws.specs.Out.{takenThread}
 use Rattle.collector_laws.specs.Computing.{collecting}
 use Rattle.collector.specs.declared.Collected.the-variants as Collected
+use Rattle.cases.specs.Files.{inOrder, rows-load, judging}
 use Rattle.guarantee.specs.Claim.{Any, on, afterAny, afterList, reachedBy, metByGive, moving, movingAll, takenBy, Guarantee}
 use Rattle.guarantee.specs.Kept.{grants, collect-view, taken-is}
 use Rattle.guarantee.specs.Proof.{reached-sound, collection-made, guarantee}
@@ -107,33 +98,12 @@ tb = filledUp parting
 
 -- ---- the file is in order
 
--- what a verdict on rows computes with
-unfoldable judging : Unit {0}
-unfolding computing blocks lines branchCount size start endsPast owner gain loss within headerInRange kindDue kindWrong gainOf lossOf sumAgrees sumsAgree guardRole actionRole operandPlace operand operandRole reads writes roleInRange ahead unusedFrom restUnused typeInRange definitionInRange nodeInRange operandInRange targetsInRange branchInRange rowInRange outOfRange roleTyped portTyped portsTyped nodeTyped operandTyped branchTyped rowTyped typesDisagree slotWritten pastWrite either arrive begins beginning branchFollowed branchesFollowed flowTo flow marked mayLack callWritten operandWritten rowWritten readsUnwritten unreachable atFault judgedFlow judgedRows judged
-judging = tt
-
-in-order : judged tb 17 ≡ Sound
+in-order : inOrder parting ≡ true
 unfolding judging
 in-order = refl
 
-twelve-each : every (λ i. eqb (length (getD parting i [])) rowNumbers) 17 ≡ true
-unfolding computing
-twelve-each = refl
-
-small-each : every (λ i. every (λ k. ltb (at parting i k) 65536) rowNumbers) 17 ≡ true
-unfolding computing
-small-each = refl
-
-printable : Printable parting
-printable = record {
-  some = omega arith;
-  few = omega arith;
-  twelve = λ i l. eqb-true (length (getD parting i [])) rowNumbers (every-elim _ 17 i twelve-each l);
-  small = λ i k l m. ltb-true (at parting i k) 65536 (every-elim _ rowNumbers k (every-elim _ 17 i small-each l) m);
-}
-
 pub parting-sound : verdict (fileText parting) ≡ Sound
-parting-sound = print-judged parting printable ∙ in-order
+parting-sound = rows-load parting in-order .0
 
 -- so it loads, here into a buffer of zeros; the table that it leaves there
 pub blankTable : List ℕ
@@ -162,7 +132,7 @@ unfolding table
 table-holds =
     ap (λ (o : Outcome). tableOf (o .table)) loading-done
     ∙ bytes-hold (fileTable (fileText parting)) (file-shaped (fileText parting))
-    ∙ print-table parting printable
+    ∙ rows-load parting in-order .1
 
 -- ---- a list of calls, from the start in a buffer of zeros
 

@@ -3,3 +3,4 @@ pub mod Kept
 pub mod Later
 pub mod Proof
 pub mod Instance
+pub mod Exported

@@ -1,0 +1,111 @@
+-- The claim speaks of the calls by which `Claim.antt` performs a list. Here they are held against what the contracts of the exported calls say, in the
+-- numbers that C sees: the same bytes are left, and a call is answered with refusal 10 only where the claim has it so. Assumes nothing.
+use Prim.Native.Nat.{ℕ, _<_}
+use mathlib.Core.Path.{_≡_, refl, sym, ap, _∙_}
+use mathlib.Core.List.{List}
+use lib.IntN.{ℤ, pos}
+use mir.Syntax.{w32}
+use mir.Val.{toZ, ofZ}
+use mir.Facts.{ofZ-toZ}
+use Rattle.rules.specs.Calls.{startCall, stepCall, giveCall, takeCall, runCall}
+use Rattle.rules.specs.declared.Refusal.{Refusal}
+use Rattle.rules.specs.declared.Refusal.the-variants as Ground
+use Rattle.rules.specs.declared.Stepped.{Stepped}
+use Rattle.rules.specs.declared.Stepped.the-variants as Stepped
+use Rattle.rules.specs.declared.Given.{Given}
+use Rattle.rules.specs.declared.Given.the-variants as Given
+use Rattle.rules.specs.declared.Taken.{Taken}
+use Rattle.rules.specs.declared.Taken.the-variants as Taken
+use Rattle.rules.specs.declared.Ran.{Ran}
+use Rattle.rules.specs.declared.Ran.the-variants as Ran
+use Rattle.granted.specs.Codes.{clash}
+use Rattle.engine.specs.Numbers.{refusalNumber}
+use Rattle.engine_laws.specs.Lists.{step, give, take, run, after, RefusedWith}
+use Rattle.collector.specs.Collect.{collectCall}
+use Rattle.collector.specs.declared.Collected.{Collected}
+use Rattle.collector.specs.declared.Collected.the-variants as Collected
+use Rattle.pithread.specs.Interface.{inNumbers, startResult, stepFields, stepNumbers, stepResult, giveFields, giveNumbers, giveResult, takeFields, takeNumbers, takeResult, runFields, runNumbers, runResult, collectFields, collectNumbers, collectResult}
+use Rattle.guarantee.specs.Claim.{Any, on, collect, afterAny, RefusedBy}
+
+-- ---- what C sees of a call: the bytes that it leaves, and the first number of its answer
+
+unfoldable pub left : List ℕ → List ℕ → Any → List ℕ
+left table state (on (step t)) = stepResult table state t .state
+left table state (on (give p v h)) = giveResult table state p (toZ w32 v) .state
+left table state (on (take p)) = takeResult table state p .state
+left table state (on (run n)) = runResult table state n .state
+left table state collect = collectResult table state .state
+
+unfoldable pub refusal : List ℕ → List ℕ → Any → ℤ
+refusal table state (on (step t)) = stepResult table state t .answer .refusal
+refusal table state (on (give p v h)) = giveResult table state p (toZ w32 v) .answer .refusal
+refusal table state (on (take p)) = takeResult table state p .answer .refusal
+refusal table state (on (run n)) = runResult table state n .answer .refusal
+refusal table state collect = collectResult table state .answer .refusal
+
+-- C gives a number, and the claim has its pattern
+given-so : (v : ℕ) → v < 4294967296 → ofZ w32 (toZ w32 v) ≡ v
+given-so v h = ofZ-toZ {w = w32} {n = v} (record { fits = h })
+
+-- ---- the bytes are those of the claim
+
+pub started-so : (table state : List ℕ) → startResult table state .state ≡ startCall table state .state
+unfolding startResult inNumbers
+started-so table state = refl
+
+pub left-so : (table state : List ℕ) (k : Any) → left table state k ≡ afterAny table state k
+unfolding left afterAny after stepResult giveResult takeResult runResult collectResult inNumbers
+left-so table state (on (step t)) = refl
+left-so table state (on (give p v h)) = ap (λ x. giveCall table state p x .state) (given-so v h)
+left-so table state (on (take p)) = refl
+left-so table state (on (run n)) = refl
+left-so table state collect = refl
+
+-- ---- 10 is the number of one ground alone
+
+ten-is : (r : Refusal) → toZ w32 (refusalNumber r) ≡ pos 10 → r ≡ Ground.State
+unfolding refusalNumber
+ten-is Ground.Length e = clash cc
+ten-is Ground.Table e = clash cc
+ten-is Ground.State e = refl
+ten-is Ground.Thread e = clash cc
+ten-is Ground.Port e = clash cc
+ten-is Ground.ThreadRow e = clash cc
+ten-is Ground.ChannelRow e = clash cc
+
+step-ten : (a : Stepped) → stepNumbers a .refusal ≡ pos 10 → a ≡ Stepped.Refused Ground.State
+unfolding stepNumbers stepFields
+step-ten (Stepped.Done n d) e = clash cc
+step-ten (Stepped.Refused r) e = ap (λ x. Stepped.Refused x) (ten-is r e)
+
+give-ten : (a : Given) → giveNumbers a .refusal ≡ pos 10 → a ≡ Given.Refused Ground.State
+unfolding giveNumbers giveFields
+give-ten (Given.Met u) e = clash cc
+give-ten Given.Nobody e = clash cc
+give-ten (Given.Refused r) e = ap (λ x. Given.Refused x) (ten-is r e)
+
+take-ten : (a : Taken) → takeNumbers a .refusal ≡ pos 10 → a ≡ Taken.Refused Ground.State
+unfolding takeNumbers takeFields
+take-ten (Taken.Met u v) e = clash cc
+take-ten Taken.Nobody e = clash cc
+take-ten (Taken.Refused r) e = ap (λ x. Taken.Refused x) (ten-is r e)
+
+run-ten : (a : Ran) → runNumbers a .refusal ≡ pos 10 → a ≡ Ran.Refused Ground.State
+unfolding runNumbers runFields
+run-ten (Ran.Done n r) e = clash cc
+run-ten (Ran.Refused r) e = ap (λ x. Ran.Refused x) (ten-is r e)
+
+collect-ten : (a : Collected) → collectNumbers a .refusal ≡ pos 10 → a ≡ Collected.Refused Ground.State
+unfolding collectNumbers collectFields
+collect-ten (Collected.Done n) e = clash cc
+collect-ten (Collected.Refused r) e = ap (λ x. Collected.Refused x) (ten-is r e)
+
+-- a call that C sees refused with 10 is one that the claim has refused with 10; so none is
+pub refused-so : (table state : List ℕ) (k : Any) → refusal table state k ≡ pos 10 → RefusedBy table state k Ground.State
+unfolding refusal RefusedBy RefusedWith stepResult giveResult takeResult runResult collectResult inNumbers
+refused-so table state (on (step t)) e = step-ten (stepCall table state t .answer) e
+refused-so table state (on (give p v h)) e =
+    give-ten (giveCall table state p v .answer) (sym (ap (λ x. giveNumbers (giveCall table state p x .answer) .refusal) (given-so v h)) ∙ e)
+refused-so table state (on (take p)) e = take-ten (takeCall table state p .answer) e
+refused-so table state (on (run n)) e = run-ten (runCall table state n .answer) e
+refused-so table state collect e = collect-ten (collectCall table state .answer) e
