@@ -13,7 +13,7 @@ mod sections;
 mod text;
 mod types;
 
-pub use engine::{collect, fault, give, run, start, step, take, Fault, ENGINE};
+pub use engine::{collect, fault, give, listing, run, start, step, take, Fault, ENGINE};
 
 /// Fields in a line, and numbers in a row of the table.
 pub const FIELDS: usize = 12;

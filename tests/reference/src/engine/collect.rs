@@ -11,11 +11,16 @@ type Sleepers = [Threads; CHANNELS];
 impl State {
     /// Frees every thread that is not reached, and answers how many there were.
     pub fn collect(&mut self, code: &Code) -> u32 {
-        let lost = self.waiting & !self.reached(code);
+        let lost = self.lost(code);
         for thread in members(lost) {
             self.remove_thread(code, thread);
         }
         lost.count_ones()
+    }
+
+    /// The threads that are not reached.
+    pub fn lost(&self, code: &Code) -> Threads {
+        self.waiting & !self.reached(code)
     }
 
     /// The threads to which a way leads. Ways begin at the ready threads and at the bench, which has the

@@ -2,10 +2,11 @@
 //!
 //! Each call reads both buffers into structures of fixed size, works on these, and writes the state
 //! once at its end: `code` is the table, `state` the state, `sound` reads it with ground 10, `moves`
-//! and `meeting` are a step, `collect` is a collection.
+//! and `meeting` are a step, `collect` is a collection. `listing` is what the listing program prints.
 
 mod code;
 mod collect;
+mod listing;
 mod meeting;
 mod moves;
 mod sound;
@@ -19,6 +20,7 @@ use interface::{
 
 use crate::TABLE_BYTES;
 use code::{Code, Direction};
+pub use listing::listing;
 use meeting::Offer;
 use moves::Lack;
 pub use sound::Fault;
@@ -73,7 +75,7 @@ pub fn take(table: &[u8], state: &mut [u8], port: u32) -> Taken {
 
 pub fn run(table: &[u8], state: &mut [u8], n: u16) -> Ran {
     let ran = with_both(table, state, |code, read, state| {
-        let ran = run_steps(code, read, n);
+        let ran = run_steps(code, read, n, |_, _| {});
         read.write(state);
         Ok(ran)
     });
@@ -151,13 +153,14 @@ fn thread_of(met: &Option<Offer>) -> i32 {
     met.as_ref().map_or(NOBODY, |offer| offer.thread as i32)
 }
 
-fn run_steps(code: &Code, state: &mut State, n: u16) -> Ran {
+/// Makes up to n steps, and hands on each one's thread and answer.
+fn run_steps(code: &Code, state: &mut State, n: u16, mut stepped: impl FnMut(usize, &Stepped)) -> Ran {
     let stopped = |steps, reason, thread| Ran { refusal: 0, steps: i32::from(steps), reason, thread };
     for steps in 0..n {
         let Some(thread) = state.next_ready() else { return stopped(steps, NONE_READY, NOBODY) };
         state.turn = (thread + 1) % THREADS;
         match state.step(code, thread) {
-            Ok(_) => {}
+            Ok(answer) => stepped(thread, &answer),
             Err(Lack::ThreadRow) => return stopped(steps, LACKED_THREAD_ROW, thread as i32),
             Err(Lack::ChannelRow) => return stopped(steps, LACKED_CHANNEL_ROW, thread as i32),
         }
