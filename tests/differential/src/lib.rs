@@ -1,8 +1,10 @@
-//! What the comparisons share: one load or one call by both sides, and tallies of what was met.
+//! What the comparisons share: one load, one call or one listing by both sides, and tallies of what was
+//! met.
 
 mod calls;
 mod comparison;
 mod kept;
+mod listings;
 mod padded;
 mod sequence;
 mod tally;
@@ -10,6 +12,7 @@ mod traffic;
 
 pub use calls::Calls;
 pub use comparison::{Answer, Comparison};
+pub use listings::{Listings, PROGRAM};
 pub use sequence::Sequence;
 pub use tally::Tally;
 pub use traffic::Traffic;

@@ -142,6 +142,14 @@ pub fn creators() -> File {
     compose(&[1], 0, &[filler, keeper])
 }
 
+/// One thread makes sixteen channels, leaves them to a child that waits on one of them for ever, and
+/// begins again, until no channel is left.
+pub fn hoarders() -> File {
+    let mut nodes: Vec<Node> = (0..16).map(|slot| one(go(new(slot), slot + 1))).collect();
+    nodes.extend([one(spawn(17, 18)), call(0, &[]), one(go(receive(0, 0), 19)), Node::End]);
+    compose(&[1], 0, &[definition(0, &[1; 16], nodes)])
+}
+
 /// One thread spawns for ever; each child makes a channel and waits on it, so that all rows fill.
 pub fn spawners() -> File {
     let opening = definition(0, &[1, 0], vec![one(go(new(0), 1)), one(go(set(1, 3), 2)), call(1, &[0, 1])]);

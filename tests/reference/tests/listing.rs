@@ -2,6 +2,7 @@
 
 use generate::cases::LISTING;
 use generate::compose::{call, compose, definition, go, new, one, receive, spawn, Node};
+use generate::procedures::hoarders;
 use generate::standstills::{all_closed, lone_receiver, port_waiter, ring_beside_port};
 use generate::{profiled, text_of, File, Random, Words, LIVELY, READY, STILL};
 use interface::{CHANNELS, STATE_BYTES};
@@ -100,12 +101,9 @@ fn reason_2_and_no_line_for_the_step_refused() {
     assert_eq!(steps[188..], [[189, 0, 2, 3, 0, 63], [190, 63, 4, 2, 0, -1], [191, 0, 3, 1, 0, -1]]);
 }
 
-/// One thread makes sixteen channels, leaves them to a child that waits on one, and begins again.
 #[test]
 fn reason_3_and_all_channels_freed() {
-    let mut nodes: Vec<Node> = (0..16).map(|slot| one(go(new(slot), slot + 1))).collect();
-    nodes.extend([one(spawn(17, 18)), call(0, &[]), one(go(receive(0, 0), 19)), Node::End]);
-    let rows = rows(&listed(&compose(&[1], 0, &[definition(0, &[1; 16], nodes)])));
+    let rows = rows(&listed(&hoarders()));
     assert_eq!(rows.len(), 152 + 1 + 8);
     assert_eq!(rows[151..153], [vec![152, 0, 17, 1, 0, -1], vec![152, 3, 0, 8, 0]]);
     let waited: Vec<Vec<i32>> = (1..=8).map(|thread| vec![thread, 18]).collect();
