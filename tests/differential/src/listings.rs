@@ -5,6 +5,7 @@ use std::io::{ErrorKind, Write};
 use std::path::{Path, PathBuf};
 use std::process::{ChildStdin, Command, Output, Stdio};
 use std::thread;
+use std::time::Duration;
 
 use crate::kept::keep;
 
@@ -62,10 +63,12 @@ impl Listings {
     }
 }
 
-/// Writes a file in two parts. The program need not read a file that is too long to its end.
+/// Writes a file in two parts, far enough apart that one read does not get both. The program need not
+/// read a file that is too long to its end.
 fn write_parts(mut input: ChildStdin, file: &[u8], first: usize) {
     let (one, other) = file.split_at(first.min(file.len()));
-    if let Err(error) = input.write_all(one).and_then(|()| input.write_all(other)) {
+    let pause = || thread::sleep(Duration::from_millis(3));
+    if let Err(error) = input.write_all(one).map(|()| pause()).and_then(|()| input.write_all(other)) {
         assert_eq!(error.kind(), ErrorKind::BrokenPipe, "{error}");
     }
 }

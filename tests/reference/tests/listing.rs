@@ -1,5 +1,8 @@
 //! The reference's listing against texts worked out by hand, and against the calls.
 
+use std::fs;
+use std::path::Path;
+
 use generate::cases::LISTING;
 use generate::compose::{call, compose, definition, go, new, one, receive, spawn, Node};
 use generate::procedures::hoarders;
@@ -129,6 +132,29 @@ fn ports_are_in_use() {
     assert_eq!(listed(&port_waiter()), format!("{HEADING}{expected}"));
     let expected = "     4     1    -1     1     1\n     0     3\n";
     assert!(listed(&all_closed()).ends_with(expected), "the port is in use, and the thread is gone");
+}
+
+/// The files in examples/listings are the listings of the examples.
+#[test]
+fn the_examples_have_their_listings() {
+    let examples = Path::new(env!("CARGO_MANIFEST_DIR")).join("../../examples");
+    let names = |folder: &Path, extension: &str| -> Vec<String> {
+        let entries = fs::read_dir(folder).expect("a folder of the examples");
+        let paths = entries.map(|entry| entry.expect("an entry of the folder").path());
+        let files = paths.filter(|path| path.extension().is_some_and(|given| given == extension));
+        let mut names: Vec<String> =
+            files.map(|path| path.file_stem().expect("a name").to_string_lossy().into_owned()).collect();
+        names.sort_unstable();
+        names
+    };
+    let found = names(&examples, "txt");
+    assert!(found.len() >= 11);
+    assert_eq!(found, names(&examples.join("listings"), "out"));
+    for name in found {
+        let file = fs::read(examples.join(format!("{name}.txt"))).expect("an example");
+        let kept = fs::read(examples.join(format!("listings/{name}.out"))).expect("its listing");
+        assert!(listing(&file) == kept, "examples/listings/{name}.out is not the listing of its file");
+    }
 }
 
 /// Each line is what a step of the next ready thread answers; the closing line is what a run and a
