@@ -1,10 +1,15 @@
 #!/usr/bin/env bash
-# The names that docs/RULES.md gives are there: a file of definitions, a definition in some file of
-# definitions, a function in the crate before its colons (or, without colons, in some crate).
+# What the documents say of files. The names that docs/RULES.md gives are there: a file of
+# definitions, a definition in some file of definitions, a function in the crate before its colons
+# (or, without colons, in some crate). The procedure files that docs/PROCEDURES.md and
+# examples/README.md show are those in examples.
 set -euo pipefail
 root=$(cd "$(dirname "$0")/.." && pwd)
 source "$root/tests/counted.sh"
 cd "$root"
+
+scratch=$(mktemp -d)
+trap 'rm -rf "$scratch"' EXIT
 
 file_is_there() {
     [ -n "$(find crates -path "*/specs/*" -path "*$1" -print -quit)" ]
@@ -34,6 +39,7 @@ named() {
 
 all_named() {
     local name all=0
+    # shellcheck disable=SC2016 # the names stand between backquotes
     while IFS= read -r name; do
         named "$name" || {
             echo "docs/RULES.md names $name, which is not there"
@@ -43,5 +49,54 @@ all_named() {
     return "$all"
 }
 
+# The command that docs/PROCEDURES.md gives for making a file of short lines.
+# shellcheck disable=SC2016 # for awk
+columns='{ sub(/#.*/, "") } NF { for (f = 1; f <= 12; f++) printf "%6d", $f; print "" }'
+
+# Writes the blocks of a document that show a file to the scratch folder, each as a file; prints a
+# line for each: how it is shown, the path, where it was written.
+blocks() {
+    awk -v folder="$scratch" '
+        /^```(file|short|part) / {
+            block = folder "/" ++count
+            print substr($1, 4), $2, block
+            printf "" >block
+            next
+        }
+        /^```/ { block = "" }
+        block != "" { print >block }' "$1"
+}
+
+# shown_as HOW PATH BLOCK: the block shows the file, byte by byte (file), as short lines (short), or
+# some of its lines in their order, with dots for the others (part).
+shown_as() {
+    case $1 in
+    file) cmp "$3" "$2" ;;
+    short) awk "$columns" "$3" | cmp - "$2" ;;
+    part)
+        awk 'NR == FNR { if ($0 != "...") wanted[++count] = $0; next }
+            found < count && $0 == wanted[found + 1] { found++ }
+            END { exit found < count }' "$3" "$2"
+        ;;
+    esac
+}
+
+# shows DOCUMENT COUNT: at least so many files, each as it is.
+shows() {
+    local how path block count=0 all=0
+    while read -r how path block; do
+        shown_as "$how" "$path" "$block" || {
+            echo "$1 does not show $path as it is"
+            all=1
+        }
+        count=$((count + 1))
+    done < <(blocks "$1")
+    echo "$1 shows $count files"
+    [ "$all" -eq 0 ] && [ "$count" -ge "$2" ]
+}
+
 check "every name in docs/RULES.md is there" all_named
+check "docs/PROCEDURES.md shows files as they are" shows docs/PROCEDURES.md 10
+check "docs/PROCEDURES.md has the command for short lines" grep -qF "awk '$columns'" docs/PROCEDURES.md
+check "examples/README.md shows files as they are" shows examples/README.md 5
 close_checks

@@ -109,6 +109,18 @@ fn the_first_file_answers_with_one_more() {
     assert_eq!(example.collect(), (0, 1, 1));
 }
 
+#[test]
+fn the_stages_before_it() {
+    let mut example = Example::start("first/1.txt", "run");
+    example.run();
+    assert_eq!(example.threads(), 0);
+    let mut example = Example::start("first/2.txt", "run");
+    example.run();
+    assert_eq!(example.give(0, 41), Some(0));
+    example.run();
+    assert_eq!(example.threads(), 0);
+}
+
 /// The worker whose question the bench has taken gets the answer, and no other is in between.
 #[test]
 fn critical_section() {
