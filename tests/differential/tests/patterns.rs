@@ -121,6 +121,19 @@ fn the_stages_before_it() {
     assert_eq!(example.threads(), 0);
 }
 
+#[test]
+fn the_exercise_keeps_the_largest() {
+    let mut example = Example::start("largest.txt", "run");
+    example.run();
+    assert_eq!(example.take(1), Some((0, 0)));
+    for (number, largest) in [(-40_000, 0), (3, 3), (-7, 3), (3, 3), (1 << 30, 1 << 30)] {
+        example.run();
+        assert_eq!(example.give(0, number), Some(0));
+        example.run();
+        assert_eq!(example.take(1), Some((largest, 0)));
+    }
+}
+
 /// The worker whose question the bench has taken gets the answer, and no other is in between.
 #[test]
 fn critical_section() {
