@@ -11,7 +11,7 @@ pub struct Offer {
 }
 
 impl State {
-    /// Exchanges a value with the first waiting thread that offers the opposite, if there is one, and
+    /// Exchanges a value with the first thread that waits with the opposite offer, if there is one, and
     /// answers that thread. The acting thread's own node is left as it is.
     pub fn meet(&mut self, code: &Code, thread: usize, own: Exchange) -> Option<usize> {
         let channel = self.threads[thread].slots[usize::from(own.channel)] as usize;

@@ -24,7 +24,7 @@ pub enum Fault {
     Node,
     /// A slot that the definition has not is not 0.
     PastSlots,
-    /// A channel slot has neither -1 nor a channel in use of its type.
+    /// A channel slot has neither -1 nor a channel of its type that is in use.
     Slot,
     /// A channel slot that is surely written has -1.
     Unfilled,

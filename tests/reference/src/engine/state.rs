@@ -22,7 +22,7 @@ pub struct State {
     pub threads: [Thread; THREADS],
     /// For each channel its type, 0 if it is free.
     pub types: [i32; CHANNELS],
-    /// For each channel the threads that hold it.
+    /// The holders of each channel.
     pub holders: [Threads; CHANNELS],
     /// The channels in use.
     pub used: u128,
