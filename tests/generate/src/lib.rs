@@ -1,4 +1,4 @@
-//! Makes procedure files and tables for the tests: right ones, and ones with faults.
+//! Makes procedure files, tables and states for the tests: right ones, and ones with faults.
 //!
 //! Everything follows from a seed, so that a failing test can be run again.
 
@@ -12,6 +12,7 @@ mod opening;
 pub mod procedures;
 mod profile;
 mod random;
+mod rules;
 mod size;
 pub mod standstills;
 mod states;
@@ -24,6 +25,7 @@ pub use damage::{damaged, damaged_rows};
 pub use file::{padded, text_of, File, Row, FIELDS, LINE_BYTES, MOST_LINES};
 pub use profile::{Profile, ANY, LIVELY, STILL};
 pub use random::Random;
+pub use rules::{without, Rule, View};
 pub use size::Size;
 pub use states::{changed_state, woken_state};
 pub use tables::{damaged_table, table_of, TABLE_BYTES};

@@ -1,15 +1,13 @@
 //! Whether a thread that a collection takes could have moved: every short list of calls is tried.
 
 mod futures;
-mod rules;
 mod shapes;
 mod walks;
 
 use futures::{search, Outcome};
 use generate::standstills::{self, any_group, chain, port_waiter, through_a_waiter, Foot};
-use generate::{profiled, table_of, File, Layout, Random, LIVELY, STILL};
+use generate::{profiled, table_of, without, File, Layout, Random, Rule, View, LIVELY, STILL};
 use interface::Collected;
-use rules::{without, Rule, View};
 use shapes::{Shapes, EVERY_SHAPE};
 use walks::{long_walk, walk};
 

@@ -2,9 +2,7 @@
 
 use std::collections::BTreeMap;
 
-use generate::READY;
-
-use crate::rules::{Rule, View};
+use generate::{Rule, View, READY};
 
 /// How a thread waits.
 #[derive(Clone, Copy, Debug, PartialEq, Eq, PartialOrd, Ord)]

@@ -3,8 +3,10 @@
 //! All is read off the words of a state, and each thread is judged by itself: from it a series is looked
 //! for, from thread to thread, that ends with somebody who can move.
 
-use generate::{Layout, Row, Words, FREE, READY, WAITING};
 use interface::THREADS;
+
+use crate::file::Row;
+use crate::words::{Layout, Words, FREE, READY, WAITING};
 
 #[derive(Clone, Copy, Debug, PartialEq, Eq)]
 pub enum Rule {
@@ -79,6 +81,11 @@ impl View {
         let mut taken = self.waiting();
         taken.retain(|thread| !self.has_series(rule, *thread, &mut [false; THREADS]));
         taken
+    }
+
+    /// Whether a series leads from the thread to one that can move.
+    pub fn is_linked(&self, thread: usize) -> bool {
+        self.has_series(Rule::Right, thread, &mut [false; THREADS])
     }
 
     /// Whether a series leads from the thread, by way of threads that were not seen yet, to one that is
