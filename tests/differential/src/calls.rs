@@ -1,9 +1,11 @@
 //! One call on a table and a state by an engine and by the reference.
 
+use generate::Words;
 use interface::{Answer, Call, Engine};
 
 use crate::kept::keep;
 use crate::padded::Padded;
+use crate::Traffic;
 
 /// An engine to be held against the reference, with the buffers that it gets.
 pub struct Calls {
@@ -38,6 +40,23 @@ impl Calls {
             return given;
         };
         keep(&[table, state], &format!("{about}: {call:?} answered {given:?}, {differs}"));
+    }
+
+    /// The same, and counts what the call met.
+    pub fn count(
+        &mut self,
+        traffic: &mut Traffic,
+        call: Call,
+        table: &[u8],
+        state: &[u8],
+        about: &str,
+    ) -> Answer {
+        let answer = self.compare(call, table, state, about);
+        traffic.add(call, &answer);
+        if call == Call::Collect && answer.refusal() == 0 {
+            traffic.add_collection(&Words::new(state), &Words::new(self.state()));
+        }
+        answer
     }
 
     /// The state after the last call.

@@ -2,6 +2,7 @@
 //! met.
 
 mod calls;
+mod collections;
 mod comparison;
 mod kept;
 mod listings;

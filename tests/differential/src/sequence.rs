@@ -6,6 +6,7 @@ use generate::{
 };
 use interface::{Answer, Call, STATE, STATE_BYTES};
 
+use crate::collections::Freed;
 use crate::{Calls, Traffic};
 
 /// One file, and the state that the calls so far have led to.
@@ -16,6 +17,7 @@ pub struct Sequence<'a> {
     file: &'a File,
     table: Vec<u8>,
     state: Vec<u8>,
+    freed: Freed,
     about: &'a str,
 }
 
@@ -30,7 +32,8 @@ impl<'a> Sequence<'a> {
         let table = table_of(&file.rows);
         let layout = Layout::new(file);
         let state = vec![0x5a; STATE_BYTES];
-        let mut sequence = Sequence { calls, traffic, layout, file, table, state, about };
+        let freed = Freed::default();
+        let mut sequence = Sequence { calls, traffic, layout, file, table, state, freed, about };
         sequence.call(Call::Start);
         sequence
     }
@@ -65,16 +68,23 @@ impl<'a> Sequence<'a> {
 
     /// A call that counts: the state goes on from it.
     pub fn call(&mut self, call: Call) -> Answer {
-        let answer = self.calls.compare(call, &self.table, &self.state, self.about);
-        self.traffic.add(call, &answer);
+        let before = self.state.clone();
+        let answer = self.calls.count(self.traffic, call, &self.table, &before, self.about);
         if let (Call::Step { thread }, Answer::Stepped(stepped)) = (call, &answer) {
             if stepped.refusal == 0 {
-                let before = Words::new(&self.state);
-                self.traffic.add_step(&self.layout, &before, thread as usize, stepped);
+                self.traffic.add_step(&self.layout, &Words::new(&before), thread as usize, stepped);
             }
         }
-        self.state.clone_from_slice(self.calls.state());
+        self.go_on(call, &answer, &before);
         answer
+    }
+
+    /// Takes the state after the last call, which was made on this one.
+    fn go_on(&mut self, call: Call, answer: &Answer, before: &[u8]) {
+        self.state.clone_from_slice(self.calls.state());
+        if answer.refusal() == 0 {
+            self.freed.follow(call, &Words::new(before), &Words::new(&self.state), self.traffic);
+        }
     }
 
     /// A call on a state that was changed. If it is still sound, the calls may go on from there.
@@ -85,7 +95,7 @@ impl<'a> Sequence<'a> {
         let sound = answer.refusal() != STATE && call != Call::Start;
         self.traffic.note("changed state is sound", i32::from(sound));
         if sound && random.chance(40) {
-            self.state.clone_from_slice(self.calls.state());
+            self.go_on(call, &answer, &state);
         }
     }
 
@@ -116,8 +126,7 @@ impl<'a> Sequence<'a> {
 
     /// A call that the state does not go on from.
     fn aside(&mut self, call: Call, table: &[u8], state: &[u8]) -> Answer {
-        let answer = self.calls.compare(call, table, state, self.about);
-        self.traffic.add(call, &answer);
+        let answer = self.calls.count(self.traffic, call, table, state, self.about);
         if answer.refusal() == STATE {
             let fault = reference::fault(table, state).expect("refused for a fault of the state");
             self.traffic.add_fault(fault);

@@ -39,7 +39,7 @@ impl Traffic {
     fn add_done(&mut self, call: Call, answer: &Answer) {
         let somebody = |thread: i32| i32::from(thread != NOBODY);
         match answer {
-            Answer::Started(_) => {}
+            Answer::Started(_) | Answer::Collected(_) => {}
             Answer::Stepped(stepped) => self.note("act", stepped.act),
             Answer::Given(given) => self.note("given to somebody", somebody(given.thread)),
             Answer::Taken(taken) => self.note("taken from somebody", somebody(taken.thread)),
@@ -50,7 +50,6 @@ impl Traffic {
                     self.note("run of 0 steps, reason", ran.reason);
                 }
             }
-            Answer::Collected(collected) => self.note("took somebody", i32::from(collected.threads > 0)),
         }
     }
 

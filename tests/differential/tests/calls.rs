@@ -1,11 +1,14 @@
 //! The archive's calls against the reference, on very many states.
 
 use differential::{for_seeds, Calls, Sequence, Traffic};
+use generate::standstills::{self, any_group, chain, ring_beside_port, Foot};
 use generate::{
-    any_valid, cases, padded, procedures, profiled, table_of, File, Layout, Random, Words, FREE, LIVELY,
-    READY,
+    any_valid, cases, padded, procedures, profiled, table_of, File, Layout, Profile, Random, Words, FREE,
+    LIVELY, READY, STILL,
 };
-use interface::{Call, BRANCH, ENDED, LACKED_CHANNEL_ROW, NO_CHANNEL_ROW, NO_THREAD_ROW, STATE_BYTES, WAITS};
+use interface::{
+    Call, BRANCH, ENDED, LACKED_CHANNEL_ROW, NO_CHANNEL_ROW, NO_THREAD_ROW, STATE, STATE_BYTES, WAITS,
+};
 use reference::Fault;
 
 /// Files of each profile, and calls on each file.
@@ -16,24 +19,38 @@ const CALLS: usize = 150;
 const EVERY_ACTION: [i32; 8] = [0, 1, 2, 3, 4, 5, 6, 7];
 const SEND_AND_RECEIVE: [i32; 2] = [1, 2];
 
-#[test]
-fn lively_files() {
+/// Calls on files of each of these profiles, or on random groups of threads where there is none; the first
+/// call on each is a run.
+fn played(first: u64, profiles: &[Option<&Profile>]) -> Traffic {
     let mut calls = Calls::new(archive::ENGINE);
     let mut traffic = Traffic::default();
-    for (place, profile) in LIVELY.iter().enumerate() {
-        for_seeds(10_000_000 + 100_000 * place as u64, FILES, |random, about| {
-            let about = format!("{about}, {}", profile.name);
-            let file = profiled(random, profile);
+    for (place, profile) in profiles.iter().enumerate() {
+        for_seeds(first + 100_000 * place as u64, FILES, |random, about| {
+            let (name, file) = match profile {
+                Some(profile) => (profile.name, profiled(random, profile)),
+                None => ("group", any_group(random)),
+            };
+            let about = format!("{about}, {name}");
             let mut sequence = Sequence::new(&mut calls, &mut traffic, &file, &about);
             sequence.call(Call::Run { n: random.pick(&[0, 30, 200, 2_000]) });
             sequence.play(random, CALLS);
         });
     }
     traffic.print();
+    traffic
+}
+
+#[test]
+fn lively_files() {
+    let traffic = played(10_000_000, &LIVELY.each_ref().map(Some));
     assert!(traffic.calls() >= 300_000);
     expect_refusals(&traffic);
     expect_moves(&traffic);
     expect_faults(&traffic);
+    expect_collections(&traffic);
+    traffic.expect("threads taken, at least", [8], 200);
+    traffic.expect("threads in rows of taken ones, at least", [1, 2, 8], 130);
+    traffic.expect("channels in rows of freed ones, at least", [1, 2], 50);
 }
 
 /// Each call came to each ground that it has.
@@ -42,6 +59,7 @@ fn expect_refusals(traffic: &Traffic) {
     for name in ["step", "give", "take", "run"] {
         traffic.expect(name, [0, 8, 9, 10], 500);
     }
+    traffic.expect("collect", [8, 9, 10], 140);
     traffic.expect("step", [11], 3_000);
     traffic.expect("give", [12], 1_000);
     traffic.expect("take", [12], 1_000);
@@ -70,11 +88,39 @@ fn expect_moves(traffic: &Traffic) {
     traffic.expect("run of 0 steps, reason", [0], 1_000);
 }
 
+/// Collections took one thread, several or nobody, with and without others that wait, and the calls went on
+/// after them.
+fn expect_collections(traffic: &Traffic) {
+    traffic.expect("collect", [0], 7_000);
+    traffic.expect("threads taken, at least", [0], 5_000);
+    traffic.expect("threads taken, at least", [1, 2], 500);
+    traffic.expect("nobody taken, some left waiting", [0, 1], 2_500);
+    traffic.expect("some taken, some left waiting", [0, 1], 700);
+    traffic.expect("some taken, a channel freed", [0, 1], 300);
+    for name in ["step after a taking", "run after a taking"] {
+        traffic.expect(name, [1], 4_500);
+    }
+    for name in ["give after a taking", "take after a taking"] {
+        traffic.expect(name, [0, 1], 400);
+    }
+    traffic.expect("collect after a taking", [0, 1], 280);
+}
+
 /// Each thing that can be wrong with a state came, and changes that left it sound.
 fn expect_faults(traffic: &Traffic) {
     traffic.expect("changed state is sound", [0, 1], 10_000);
     traffic.expect("fault", Fault::Mark as i32..Fault::Meets as i32, 500);
     traffic.expect("fault", [Fault::Meets as i32], 150);
+}
+
+#[test]
+fn still_files() {
+    let profiles = [&STILL.each_ref().map(Some)[..], &[None; 2]].concat();
+    let traffic = played(15_000_000, &profiles);
+    assert!(traffic.calls() >= 300_000);
+    traffic.expect("collect", [8, 9, 10], 180);
+    expect_faults(&traffic);
+    expect_collections(&traffic);
 }
 
 #[test]
@@ -91,7 +137,7 @@ fn files_of_any_size() {
 
 /// The files written by hand, with their names.
 fn hand_made() -> Vec<(&'static str, File)> {
-    vec![
+    let mut files = vec![
         ("listing", File::new(cases::LISTING.map(padded).to_vec())),
         ("pair", File::new(cases::PAIR.map(padded).to_vec())),
         ("ping-pong", procedures::ping_pong()),
@@ -102,7 +148,13 @@ fn hand_made() -> Vec<(&'static str, File)> {
         ("creators", procedures::creators()),
         ("spawners", procedures::spawners()),
         ("ports", procedures::ports()),
-    ]
+        ("64 in a chain to a port", chain(64, Foot::Port)),
+        ("64 in a chain to a ready thread", chain(64, Foot::Ready)),
+        ("64 in a chain to a lone thread", chain(64, Foot::Lone)),
+        ("64 in a ring", chain(64, Foot::First)),
+    ];
+    files.extend(standstills::all());
+    files
 }
 
 /// Calls from far within long runs.
@@ -124,6 +176,10 @@ fn files_written_by_hand() {
     traffic.expect("step", [NO_CHANNEL_ROW], 100);
     traffic.expect("reason", [LACKED_CHANNEL_ROW], 100);
     traffic.expect("another like the partner", [1], 50);
+    traffic.expect("threads taken, at least", [1, 2, 8], 40);
+    traffic.expect("threads taken, at least", [64], 4);
+    traffic.expect("threads in rows of taken ones, at least", [1, 2, 8], 40);
+    traffic.expect("channels in rows of freed ones, at least", [1, 2, 8], 20);
 }
 
 /// The state of a file after so many steps.
@@ -138,8 +194,13 @@ fn state_after(calls: &mut Calls, table: &[u8], n: u16) -> Vec<u8> {
 #[test]
 fn each_word_of_a_state() {
     let mut calls = Calls::new(archive::ENGINE);
-    let mut sound = [0; 2];
-    let bases = [(procedures::crowd(4), 40), (procedures::ports(), 9), (procedures::creators(), 50)];
+    let mut traffic = Traffic::default();
+    let bases = [
+        (procedures::crowd(4), 40),
+        (procedures::ports(), 9),
+        (procedures::creators(), 50),
+        (ring_beside_port(), 200),
+    ];
     for (file, steps) in bases {
         let table = table_of(&file.rows);
         let mut state = state_after(&mut calls, &table, steps);
@@ -149,18 +210,23 @@ fn each_word_of_a_state() {
             for number in [old - 1, old + 1, -1, 0, 1, 2, 3, 63, 64, 127, 128, old ^ 1 << 8, i32::MIN] {
                 state[4 * place..4 * place + 4].copy_from_slice(&number.to_le_bytes());
                 let about = format!("word {place} is {number}");
-                let answer = calls.compare(Call::Run { n: 3 }, &table, &state, &about);
-                sound[usize::from(answer.refusal() == 0)] += 1;
+                for call in [Call::Run { n: 3 }, Call::Collect] {
+                    calls.count(&mut traffic, call, &table, &state, &about);
+                }
             }
             state[4 * place..4 * place + 4].copy_from_slice(&kept);
         }
     }
-    println!("{sound:?}");
-    assert!(sound[0] > 20_000 && sound[1] > 3_000);
+    traffic.print();
+    for name in ["run", "collect"] {
+        traffic.expect(name, [10], 50_000);
+        traffic.expect(name, [0], 4_000);
+    }
+    traffic.expect("threads taken, at least", [0, 2], 1_000);
 }
 
 /// Two waiting threads and a ready one at a choice of eight branches, each with any one of the
-/// branches open or none: who can meet whom at which place, and what is no sound state.
+/// branches open or none: who can meet whom at which place, who is taken, and what is no sound state.
 #[test]
 fn every_place_of_a_choice() {
     const CLOSED: i32 = 100;
@@ -179,15 +245,19 @@ fn every_place_of_a_choice() {
             words.thread_mut(1)[0] = READY;
             words.recount(&layout);
             let about = format!("{places} places on, open: {open:?}");
-            let call = Call::Step { thread: 1 };
-            let answer = calls.compare(call, &table, &words.to_bytes(), &about);
-            traffic.add(call, &answer);
+            for call in [Call::Step { thread: 1 }, Call::Collect] {
+                calls.count(&mut traffic, call, &table, &words.to_bytes(), &about);
+            }
         }
     }
     traffic.print();
-    traffic.expect("step", [0], 1_000);
-    traffic.expect("step", [10], 3_000);
+    for name in ["step", "collect"] {
+        traffic.expect(name, [0], 1_000);
+        traffic.expect(name, [10], 3_000);
+    }
     traffic.expect("act", [WAITS, BRANCH], 300);
+    traffic.expect("threads taken, at least", [0, 1], 400);
+    traffic.expect("threads taken, at least", [2], 50);
 }
 
 /// States that are no states at all.
@@ -198,13 +268,17 @@ fn hostile_states() {
     for (name, file) in hand_made() {
         let table = table_of(&file.rows);
         for byte in [0, 1, 2, 127, 128, 255] {
-            calls.compare(Call::Run { n: 9 }, &table, &[byte; STATE_BYTES], name);
+            for call in [Call::Run { n: 9 }, Call::Collect] {
+                calls.compare(call, &table, &[byte; STATE_BYTES], name);
+            }
         }
         for round in 0..200 {
             let few = random.pick(&[3, 64, 256]);
             let state: Vec<u8> = (0..STATE_BYTES).map(|_| random.below(few) as u8).collect();
             let about = format!("{name}, random bytes, round {round}");
-            assert_eq!(calls.compare(Call::Step { thread: 0 }, &table, &state, &about).refusal(), 10);
+            for call in [Call::Step { thread: 0 }, Call::Collect] {
+                assert_eq!(calls.compare(call, &table, &state, &about).refusal(), STATE);
+            }
         }
     }
 }
@@ -213,17 +287,22 @@ fn hostile_states() {
 #[test]
 fn states_of_other_files() {
     let mut calls = Calls::new(archive::ENGINE);
-    let mut refused = [0; 2];
-    for_seeds(14_000_000, 1_500, |random, about| {
+    let mut traffic = Traffic::default();
+    let profiles: Vec<&Profile> = LIVELY.iter().chain(&STILL).collect();
+    for_seeds(14_000_000, 2_000, |random, about| {
         let [first, second] = [(); 2].map(|_| {
-            let profile = random.below(LIVELY.len());
-            table_of(&profiled(random, &LIVELY[profile]).rows)
+            let profile = random.pick(&profiles);
+            table_of(&profiled(random, profile).rows)
         });
         let state = state_after(&mut calls, &first, random.below(60) as u16);
-        let empty = Words::new(&state).threads(FREE).len() == 64;
-        let answer = calls.compare(Call::Run { n: 2 }, &second, &state, about);
-        refused[usize::from(answer.refusal() == 10)] += usize::from(!empty);
+        if Words::new(&state).threads(FREE).len() < 64 {
+            for call in [Call::Run { n: 2 }, Call::Collect] {
+                calls.count(&mut traffic, call, &second, &state, about);
+            }
+        }
     });
-    println!("{refused:?}");
-    assert!(refused[1] > 500);
+    traffic.print();
+    for name in ["run", "collect"] {
+        traffic.expect(name, [10], 1_200);
+    }
 }
