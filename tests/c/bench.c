@@ -15,7 +15,7 @@ _Static_assert(PITHREAD_STATE_WORDS == PITHREAD_CHANNEL_ROWS + PITHREAD_CHANNEL_
                "a state ends with the channel rows");
 _Static_assert(PITHREAD_THREAD_WORDS == PITHREAD_THREAD_SLOTS + PITHREAD_SLOTS, "a row ends with its slots");
 
-static const char *const names[] = {"start", "step", "give", "take", "run"};
+static const char *const names[CALLS] = {"start", "step", "give", "take", "run", "collect"};
 
 bench *opened(const char *name, const line *lines, size_t count) {
     bench *b = malloc(sizeof *b);
@@ -90,15 +90,26 @@ static buffers buffers_of(const bench *b, uint8_t *state) {
     return with;
 }
 
-static answer ask_state(int call, buffers with, uint32_t number) {
+static answer ask_whole(int call, buffers with) {
     if (call == START) {
         pithread_started started =
             pithread_start(with.table, with.table_length, with.state, with.state_length);
         return (answer){{started.refusal}};
     }
-    pithread_stepped stepped =
-        pithread_step(with.table, with.table_length, with.state, with.state_length, number);
-    return (answer){{stepped.refusal, stepped.node, stepped.act, stepped.branch, stepped.partner}};
+    pithread_collected collected =
+        pithread_collect(with.table, with.table_length, with.state, with.state_length);
+    return (answer){{collected.refusal, collected.threads}};
+}
+
+static answer ask_steps(int call, buffers with, uint32_t number) {
+    if (call == STEP) {
+        pithread_stepped stepped =
+            pithread_step(with.table, with.table_length, with.state, with.state_length, number);
+        return (answer){{stepped.refusal, stepped.node, stepped.act, stepped.branch, stepped.partner}};
+    }
+    pithread_ran ran =
+        pithread_run(with.table, with.table_length, with.state, with.state_length, (uint16_t)number);
+    return (answer){{ran.refusal, ran.steps, ran.reason, ran.thread}};
 }
 
 static answer ask_port(int call, buffers with, uint32_t port, int32_t number) {
@@ -112,15 +123,13 @@ static answer ask_port(int call, buffers with, uint32_t port, int32_t number) {
 }
 
 answer ask(int call, buffers with, uint32_t number, int32_t value) {
-    if (call == START || call == STEP) {
-        return ask_state(call, with, number);
+    if (call == START || call == COLLECT) {
+        return ask_whole(call, with);
     }
-    if (call == GIVE || call == TAKE) {
-        return ask_port(call, with, number, value);
+    if (call == STEP || call == RUN) {
+        return ask_steps(call, with, number);
     }
-    pithread_ran ran =
-        pithread_run(with.table, with.table_length, with.state, with.state_length, (uint16_t)number);
-    return (answer){{ran.refusal, ran.steps, ran.reason, ran.thread}};
+    return ask_port(call, with, number, value);
 }
 
 static void check_answer(const char *name, const char *call, uint32_t number, answer got, answer wanted) {
@@ -184,6 +193,10 @@ void take(bench *b, uint32_t port, int thread, int32_t number) {
 
 void run(bench *b, uint16_t n, int steps, int reason, int thread) {
     expect(b, RUN, n, 0, (answer){{0, steps, reason, thread}});
+}
+
+void collect(bench *b, int threads) {
+    expect(b, COLLECT, 0, 0, (answer){{0, threads}});
 }
 
 void walk(bench *b, uint32_t thread, int steps) {

@@ -65,13 +65,15 @@ void step_refused(bench *b, uint32_t thread, int ground);
 void give(bench *b, uint32_t port, int32_t number, int thread);
 void take(bench *b, uint32_t port, int thread, int32_t number);
 void run(bench *b, uint16_t n, int steps, int reason, int thread);
+void collect(bench *b, int threads);
 
 /* To come to where a case begins: so many steps of one thread, or a run until none is ready. */
 void walk(bench *b, uint32_t thread, int steps);
 void settle(bench *b);
 
-/* All calls behind one function. The number is a thread, a port or the n of a run. */
-enum { START, STEP, GIVE, TAKE, RUN, CALLS };
+/* All calls behind one function. The number is a thread, a port or the n of a run; a start and a collection
+ * have none. */
+enum { START, STEP, GIVE, TAKE, RUN, COLLECT, CALLS };
 
 typedef struct {
     const uint8_t *table;

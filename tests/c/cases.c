@@ -1,5 +1,5 @@
 /*
- * Cases of starting, stepping, giving, taking and running through the C interface.
+ * Cases of starting, stepping, giving, taking, running and collecting through the C interface.
  *
  * Prints how many checks passed; the status is 1 if one failed.
  */
@@ -15,5 +15,6 @@ int main(void) {
     check_runs();
     check_refusals();
     check_sound_states();
+    check_collections();
     return close_checks();
 }

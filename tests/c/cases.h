@@ -9,5 +9,6 @@ void check_ports(void);
 void check_runs(void);
 void check_refusals(void);
 void check_sound_states(void);
+void check_collections(void);
 
 #endif

@@ -45,7 +45,7 @@ check "load.c" target/c/load examples
 check "load.c under valgrind" under_valgrind target/c/load examples
 
 check "cases.c compiles without a warning" tests/c/build.sh cases checks lines bench \
-    moves meetings rows ports runs refusals sound
+    moves meetings rows ports runs refusals sound collections
 check "cases.c" target/c/cases
 check "cases.c under valgrind" under_valgrind target/c/cases
 

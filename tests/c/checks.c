@@ -37,6 +37,12 @@ uint8_t *copied(const uint8_t *bytes, size_t length) {
     return copy;
 }
 
+uint8_t *resized(const uint8_t *bytes, size_t has, size_t length) {
+    uint8_t *other = filled(length, 0);
+    memcpy(other, bytes, length < has ? length : has);
+    return other;
+}
+
 int all_are(const uint8_t *bytes, size_t length, int byte) {
     for (size_t place = 0; place < length; place++) {
         if (bytes[place] != byte) {

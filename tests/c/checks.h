@@ -20,6 +20,10 @@ uint8_t *filled(size_t length, int byte);
 /* A buffer of exactly this length with these bytes. To be freed. */
 uint8_t *copied(const uint8_t *bytes, size_t length);
 
+/* The first bytes of a buffer that has so many, and zeros behind its end, in a buffer of exactly this
+ * length. To be freed. */
+uint8_t *resized(const uint8_t *bytes, size_t has, size_t length);
+
 int all_are(const uint8_t *bytes, size_t length, int byte);
 
 #endif

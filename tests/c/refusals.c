@@ -10,13 +10,6 @@
 /* A number that no call takes as a thread or a port. */
 #define NO_SUCH 4294967295u
 
-/* The first bytes of a buffer, and zeros behind its end, in a buffer of exactly this length. */
-static uint8_t *resized(const uint8_t *bytes, size_t has, size_t length) {
-    uint8_t *other = filled(length, 0);
-    memcpy(other, bytes, length < has ? length : has);
-    return other;
-}
-
 static void expect_all(const char *what, int ground, buffers with, uint32_t number) {
     for (int call = START; call < CALLS; call++) {
         expect_refused(what, call, with, number, ground);
