@@ -1,9 +1,10 @@
 /*
- * An hour at the bench, from a program's side: bench_hour FILE, with the procedure in workers.txt.
+ * An hour at the bench, from a program's side: bench_hour FILE, with the procedure in units.txt.
  *
- * The procedure takes numbers at port 0. For each it starts a worker, a thread of its own, which
- * doubles the number and waits until the bench takes the result at port 1. A number below 0 tells
- * it to take no more.
+ * The bench gives the numbers of units at port 0. For each unit the procedure starts a tester, a
+ * thread of its own, which asks for a reading and waits until the bench takes it at port 1. Units
+ * from 100 on get no reading: their testers wait for good, until a collection takes them away and
+ * the bench pulls the units. A number below 0 tells the procedure that there are no more.
  *
  * Shows each call, what its answers mean and what a bench does about them. Status: 0 all went
  * well; 1 the file was refused; 2 it could not be read, or this program has made a mistake.
@@ -11,12 +12,17 @@
 #include <inttypes.h>
 #include <stdio.h>
 #include <stdlib.h>
+#include <string.h>
 
 #include "pithread.h"
 
-#define NUMBERS_IN 0
-#define RESULTS_OUT 1
+#define UNITS_IN 0
+#define READINGS_OUT 1
 #define STEPS_AT_ONCE 1000
+
+/* Where a tester waits for its reading, and the slot in which it has the number of its unit. */
+#define AT_READING 12
+#define UNIT 2
 
 static uint8_t table[PITHREAD_TABLE_BYTES];
 static uint8_t state[PITHREAD_STATE_BYTES];
@@ -33,6 +39,16 @@ static const char *const file_faults[] = {
     "no path leads to this node",
 };
 
+/* Grounds 8 to 12 are mistakes of the calling program; with what it can do about each. Nothing was
+ * changed, so it may go on. */
+static const char *const mistakes[] = {
+    "a buffer has the wrong length: hand over all of it",
+    "the table is not what loading wrote: load the file again, the state stays good",
+    "the state does not belong to the table, or was damaged: take up a copy of it, or start again",
+    "the thread is not ready, or there is none of this number: look at its row first",
+    "there is no such port: the file's header says how many there are",
+};
+
 /* Reads up to `most` bytes. Answers 1, or 0 if the file cannot be read. */
 static int read_procedure(const char *path, uint8_t *bytes, size_t most, size_t *length) {
     FILE *stream = fopen(path, "rb");
@@ -45,19 +61,19 @@ static int read_procedure(const char *path, uint8_t *bytes, size_t most, size_t 
     return read;
 }
 
-/* Grounds 8 to 12 are mistakes of the calling program. Nothing was changed, so a bench may report
- * them and go on; this program stops, since it does not expect any. */
+static int is_mistake(int32_t refusal) {
+    return refusal >= PITHREAD_BUFFER_LENGTH && refusal <= PITHREAD_PORT;
+}
+
+static void report_mistake(FILE *to, const char *call, int32_t refusal) {
+    fprintf(to, "%s: refused, ground %" PRId32 ": %s\n", call, refusal,
+            mistakes[refusal - PITHREAD_BUFFER_LENGTH]);
+}
+
+/* This program stops where it does not expect a mistake. */
 static void stop_if_mistaken(const char *call, int32_t refusal) {
-    static const char *const mistakes[] = {
-        "a buffer has the wrong length",
-        "the table is not what loading wrote",
-        "the state does not belong to the table, or was damaged",
-        "the thread is not ready, or there is none of this number",
-        "there is no such port",
-    };
-    if (refusal >= PITHREAD_BUFFER_LENGTH && refusal <= PITHREAD_PORT) {
-        fprintf(stderr, "%s: refused, ground %" PRId32 ": %s\n", call, refusal,
-                mistakes[refusal - PITHREAD_BUFFER_LENGTH]);
+    if (is_mistake(refusal)) {
+        report_mistake(stderr, call, refusal);
         exit(2);
     }
 }
@@ -93,13 +109,13 @@ static pithread_ran run(void) {
 }
 
 static pithread_given give(int32_t number) {
-    pithread_given given = pithread_give(table, sizeof table, state, sizeof state, NUMBERS_IN, number);
+    pithread_given given = pithread_give(table, sizeof table, state, sizeof state, UNITS_IN, number);
     stop_if_mistaken("give", given.refusal);
     return given;
 }
 
 static pithread_taken take(void) {
-    pithread_taken taken = pithread_take(table, sizeof table, state, sizeof state, RESULTS_OUT);
+    pithread_taken taken = pithread_take(table, sizeof table, state, sizeof state, READINGS_OUT);
     stop_if_mistaken("take", taken.refusal);
     return taken;
 }
@@ -130,13 +146,13 @@ static void show_run(void) {
         printf("there may be more to do, run again\n");
         break;
     case PITHREAD_NONE_READY:
-        printf("none is ready, it is for the bench to give or to take\n");
+        printf("none is ready, it is for the bench to give, to take or to collect\n");
         break;
     case PITHREAD_LACKED_THREAD_ROW:
-        printf("thread %" PRId32 " cannot start another, let some come to their end\n", ran.thread);
+        printf("thread %" PRId32 " cannot start another, collect or let some come to their end\n", ran.thread);
         break;
     case PITHREAD_LACKED_CHANNEL_ROW:
-        printf("thread %" PRId32 " cannot make a channel, let others give some up\n", ran.thread);
+        printf("thread %" PRId32 " cannot make a channel, collect or let others give some up\n", ran.thread);
         break;
     }
 }
@@ -154,76 +170,142 @@ static void show_give(int32_t number) {
 static void show_take(void) {
     pithread_taken taken = take();
     if (taken.thread == PITHREAD_NOBODY) {
-        printf("take: nobody sends a result now\n");
+        printf("take: nobody sends a reading now\n");
     } else {
         printf("take: thread %" PRId32 " sent %" PRId32 "\n", taken.thread, taken.number);
     }
 }
 
-/* A word of the state: four bytes, the lowest first. */
-static int32_t word_at(size_t place) {
+/* A word of a state: four bytes, the lowest first. */
+static int32_t word_at(const uint8_t *bytes, size_t place) {
     uint32_t bits = 0;
     for (size_t byte = 4; byte > 0; byte--) {
-        bits = bits << 8 | state[4 * place + byte - 1];
+        bits = bits << 8 | bytes[4 * place + byte - 1];
     }
     return (int32_t)bits;
+}
+
+/* A word of a thread's row. */
+static int32_t thread_word(const uint8_t *bytes, size_t thread, size_t word) {
+    return word_at(bytes, PITHREAD_THREAD_ROWS + PITHREAD_THREAD_WORDS * thread + word);
+}
+
+/* Threads that can never move again are taken away. Which ones, and at what they waited, is seen in
+ * a copy of the state from before: the testers among them show the units that have to be pulled. */
+static void show_collect(void) {
+    static uint8_t before[PITHREAD_STATE_BYTES];
+    memcpy(before, state, sizeof before);
+    pithread_collected collected = pithread_collect(table, sizeof table, state, sizeof state);
+    stop_if_mistaken("collect", collected.refusal);
+    printf("collect: %" PRId32 " threads taken; units to pull:", collected.threads);
+    int units = 0;
+    for (size_t thread = 0; thread < PITHREAD_THREADS; thread++) {
+        int waited = thread_word(before, thread, PITHREAD_THREAD_STATUS) == PITHREAD_WAITING;
+        int free_now = thread_word(state, thread, PITHREAD_THREAD_STATUS) == PITHREAD_FREE;
+        if (waited && free_now && thread_word(before, thread, PITHREAD_THREAD_NODE) == AT_READING) {
+            printf(" %" PRId32, thread_word(before, thread, PITHREAD_THREAD_SLOTS + UNIT));
+            units++;
+        }
+    }
+    printf(units > 0 ? "\n" : " none\n");
 }
 
 static void show_state(void) {
     int rows[3] = {0, 0, 0};
     for (size_t thread = 0; thread < PITHREAD_THREADS; thread++) {
-        size_t row = PITHREAD_THREAD_ROWS + PITHREAD_THREAD_WORDS * thread;
-        rows[word_at(row + PITHREAD_THREAD_STATUS)]++;
+        rows[thread_word(state, thread, PITHREAD_THREAD_STATUS)]++;
     }
-    size_t port = PITHREAD_CHANNEL_ROWS + PITHREAD_CHANNEL_WORDS * RESULTS_OUT;
+    size_t port = PITHREAD_CHANNEL_ROWS + PITHREAD_CHANNEL_WORDS * READINGS_OUT;
     printf("state: %d threads ready, %d waiting, %d rows free; ", rows[PITHREAD_READY], rows[PITHREAD_WAITING],
            rows[PITHREAD_FREE]);
-    printf("%" PRId32 " hold port %d, the bench among them\n", word_at(port + PITHREAD_CHANNEL_HOLDERS),
-           RESULTS_OUT);
+    printf("%" PRId32 " hold port %d, the bench among them\n", word_at(state, port + PITHREAD_CHANNEL_HOLDERS),
+           READINGS_OUT);
 }
 
-/* One number, the first part of its way step by step. */
-static void one_number(void) {
-    printf("\none number:\n");
+/* One unit, after the first steps by which the procedure comes to receive it. */
+static void one_unit(void) {
+    printf("\none unit:\n");
+    show_step(0);
     show_step(0);
     show_take();
+    show_run();
     show_give(21);
-    show_step(0);
     show_run();
     show_state();
     show_take();
     show_run();
 }
 
-/* Gives until a thread lacks a row: the workers keep their rows while nobody takes their results. */
-static void many_numbers(void) {
-    int32_t number = 1;
-    printf("\nmany numbers:\n");
-    while (give(number).thread != PITHREAD_NOBODY && run().reason == PITHREAD_NONE_READY) {
-        number++;
+/* One unit without a reading. That nobody sends one now does not say that nobody ever will; that the
+ * collection takes the tester does. */
+static void one_unit_to_pull(void) {
+    printf("\none unit to pull:\n");
+    show_give(130);
+    show_collect();
+    show_run();
+    show_take();
+    show_state();
+    show_collect();
+    show_state();
+}
+
+/* Gives until a thread lacks a row: the testers keep their rows while nobody takes their readings,
+ * and those without a reading until they are collected. */
+static void many_units(void) {
+    int32_t unit = 121;
+    printf("\nmany units:\n");
+    while (give(unit).thread != PITHREAD_NOBODY && run().reason == PITHREAD_NONE_READY) {
+        unit--;
     }
-    printf("number %" PRId32 " found no row\n", number);
+    printf("unit %" PRId32 " found no row\n", unit);
     show_run();
     show_state();
-    show_give(number + 1);
+    show_give(unit - 1);
     show_step(0);
     show_take();
     show_run();
-    show_give(number + 1);
+    show_give(unit - 1);
+    show_run();
+    show_collect();
+    show_run();
 }
 
-static void all_results(void) {
-    int results = 0;
+static void all_readings(void) {
+    int readings = 0;
     int64_t sum = 0;
-    printf("\nall results:\n");
-    run();
+    printf("\nall readings:\n");
     for (pithread_taken taken = take(); taken.thread != PITHREAD_NOBODY; taken = take()) {
-        results++;
+        readings++;
         sum += taken.number;
         run();
     }
-    printf("%d results, their sum is %" PRId64 "\n", results, sum);
+    printf("%d readings, their sum is %" PRId64 "\n", readings, sum);
     show_state();
+}
+
+/* A collection with a mistake in it, made on purpose. */
+static void show_mistake(size_t state_bytes) {
+    pithread_collected collected = pithread_collect(table, sizeof table, state, state_bytes);
+    if (is_mistake(collected.refusal)) {
+        report_mistake(stdout, "collect", collected.refusal);
+    } else {
+        printf("collect: done, though it should be refused\n");
+    }
+}
+
+/* A buffer handed over in part, a table overwritten, a state overwritten; each is made good. */
+static void mistakes_made_good(const char *path) {
+    static uint8_t copy[PITHREAD_STATE_BYTES];
+    printf("\nmistakes:\n");
+    memcpy(copy, state, sizeof copy);
+    show_mistake(sizeof state / 2);
+    memset(table, 0, sizeof table / 2);
+    show_mistake(sizeof state);
+    load(path);
+    memset(state, 0, sizeof state / 2);
+    show_mistake(sizeof state);
+    memcpy(state, copy, sizeof state);
+    show_collect();
 }
 
 int main(int count, char **words) {
@@ -233,12 +315,15 @@ int main(int count, char **words) {
     }
     load(words[1]);
     start();
-    one_number();
-    many_numbers();
-    all_results();
+    one_unit();
+    one_unit_to_pull();
+    many_units();
+    all_readings();
+    mistakes_made_good(words[1]);
     printf("\nthe end:\n");
     show_give(-1);
     show_run();
+    show_collect();
     show_state();
     return 0;
 }

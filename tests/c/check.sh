@@ -50,9 +50,9 @@ check "cases.c" target/c/cases
 check "cases.c under valgrind" under_valgrind target/c/cases
 
 check "bench_hour.c compiles without a warning" tests/c/build.sh bench_hour
-check "bench_hour.c" prints examples/bench_hour.out target/c/bench_hour examples/workers.txt
+check "bench_hour.c" prints examples/bench_hour.out target/c/bench_hour examples/units.txt
 check "bench_hour.c under valgrind" prints examples/bench_hour.out \
-    under_valgrind target/c/bench_hour examples/workers.txt
+    under_valgrind target/c/bench_hour examples/units.txt
 check "bench_hour.c on a slot of no type" says 1 "load: refused, ground 4, line 5:" \
     target/c/bench_hour "$scratch/range.txt"
 

@@ -56,7 +56,7 @@ static whole_file example(const char *folder, const char *name) {
 
 static void check_examples(const char *folder) {
     static const char *const names[] = {"listing.txt", "doubler.txt", "countdown.txt", "relay.txt",
-                                        "itself.txt",  "workers.txt"};
+                                        "itself.txt",  "workers.txt", "units.txt"};
     for (size_t place = 0; place < sizeof names / sizeof *names; place++) {
         whole_file file = example(folder, names[place]);
         expect_accepted(file, names[place]);

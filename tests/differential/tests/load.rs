@@ -181,5 +181,5 @@ fn examples_are_accepted() {
             files += 1;
         }
     }
-    assert!(files >= 4);
+    assert!(files >= 7);
 }
