@@ -13,7 +13,7 @@
  * What a call promises. Any bytes, lengths and numbers get an answer. A call reads and writes
  * inside its buffers and nowhere else, keeps no pointer, allocates nothing and always ends. Its
  * answer and what it writes follow from what it was given and from nothing else. A load takes
- * about 28,000 bytes of stack, any other call about 12,000.
+ * about 28,000 bytes of stack, any other call, a collection too, about 12,000.
  *
  * Every call answers a struct whose first number is 0 if the call was done, or else the number of
  * the ground on which it was refused. A refused call changes no buffer, and the other numbers of

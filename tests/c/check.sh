@@ -1,6 +1,6 @@
 #!/usr/bin/env bash
-# The interface as a C program meets it: the header, the tests in load.c and cases.c, the example
-# program, and ./run.
+# The interface as a C program meets it: the header, the tests in load.c and cases.c, the stack that the
+# calls take, the example program, and ./run.
 set -euo pipefail
 root=$(cd "$(dirname "$0")/../.." && pwd)
 source "$root/tests/counted.sh"
@@ -48,6 +48,9 @@ check "cases.c compiles without a warning" tests/c/build.sh cases checks lines b
     moves meetings rows ports runs refusals sound collections
 check "cases.c" target/c/cases
 check "cases.c under valgrind" under_valgrind target/c/cases
+
+check "stack.c compiles without a warning" tests/c/build.sh stack checks
+check "stack.c" target/c/stack examples/units.txt
 
 check "bench_hour.c compiles without a warning" tests/c/build.sh bench_hour
 check "bench_hour.c" prints examples/bench_hour.out target/c/bench_hour examples/units.txt

@@ -2,6 +2,7 @@
 //!
 //! `cargo run --release --offline -p bench`, from the folder tests, with the archive built.
 
+mod collecting;
 mod loading;
 mod report;
 mod running;
@@ -13,4 +14,5 @@ fn main() {
     loading::report();
     running::report();
     stepping::report();
+    collecting::report();
 }

@@ -1,7 +1,7 @@
 //! The archive's calls against the reference, on very many states.
 
 use differential::{for_seeds, Calls, Sequence, Traffic};
-use generate::standstills::{self, any_group, chain, ring_beside_port, Foot};
+use generate::standstills::{self, any_group, chain, clique, ring_beside_port, Foot};
 use generate::{
     any_valid, cases, padded, procedures, profiled, table_of, File, Layout, Profile, Random, Words, FREE,
     LIVELY, READY, STILL,
@@ -152,6 +152,8 @@ fn hand_made() -> Vec<(&'static str, File)> {
         ("64 in a chain to a ready thread", chain(64, Foot::Ready)),
         ("64 in a chain to a lone thread", chain(64, Foot::Lone)),
         ("64 in a ring", chain(64, Foot::First)),
+        ("64 in a clique", clique(1)),
+        ("64 in a clique at a port", clique(0)),
     ];
     files.extend(standstills::all());
     files

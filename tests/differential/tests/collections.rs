@@ -1,7 +1,7 @@
 //! Collections by the archive alone: nobody whom it takes could have moved, and whoever waits on is linked.
 
 use differential::for_seeds;
-use generate::standstills::{self, any_group, chain, port_waiter, Foot};
+use generate::standstills::{self, any_group, chain, clique, port_waiter, Foot};
 use generate::{
     any_call, changed_state, profiled, table_of, without, woken_state, File, Layout, Profile, Random, Rule,
     View, Words, FREE, LIVELY, STILL,
@@ -189,6 +189,7 @@ fn files_written_by_hand_keep_those_who_can_move() {
     let mut files = standstills::all();
     let feet = [Foot::Port, Foot::Ready, Foot::Lone, Foot::First];
     files.extend(feet.map(|foot| ("64 in a chain", chain(THREADS as i16, foot))));
+    files.extend([1, 0].map(|of_the_last| ("64 in a clique", clique(of_the_last))));
     let (mut took, mut moves) = (0, 0);
     for (name, file) in files {
         let met = one_file(name, &file, Rule::Right);

@@ -4,7 +4,7 @@ use crate::compose::{
     below_constant, call, choice, compose, definition, equal_to, go, minus, new, one, receive, send, set,
     spawn, when, Definition, Node, ALWAYS, TAU,
 };
-use crate::file::File;
+use crate::file::{File, Row};
 use crate::random::Random;
 
 /// A thread of a group: the channels that it keeps, and what it does. Its slots are the channels in this
@@ -161,6 +161,22 @@ fn links(foot: Foot) -> Vec<Node> {
         Foot::Lone => nodes.extend([one(go(new(5), 6)), call(2, &[2, 5, 3])]),
     }
     nodes
+}
+
+/// All 64 threads know the same channels, as many as a thread can know beside a number: a port, which is
+/// channel 0, and fourteen others. Each waits with as many offers as a choice can have, on the channels
+/// from 1 on. Only the last thread waits on one channel, which is given.
+pub fn clique(of_the_last: i16) -> File {
+    const MADE: i16 = 14;
+    const SPAWNS: i16 = 63;
+    const NUMBER: i16 = MADE + 1;
+    let waits = MADE + SPAWNS;
+    let mut nodes: Vec<Node> = (0..MADE).map(|place| one(go(new(place + 1), place + 1))).collect();
+    nodes.extend((MADE + 1..waits).map(|next| one(spawn(next, waits))));
+    nodes.push(one(spawn(waits, waits + 1)));
+    let offers: Vec<Row> = (1..=8).map(|channel| go(receive(channel, NUMBER), waits + 2)).collect();
+    nodes.extend([choice(&offers), one(go(receive(of_the_last, NUMBER), waits + 2)), Node::End]);
+    compose(&[0], 1, &[definition(1, &channel_slots(MADE + 1), nodes)])
 }
 
 /// A ring of three threads, a chain of two that ends at a port, and one thread that knows a channel of

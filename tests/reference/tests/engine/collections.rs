@@ -5,8 +5,8 @@ use generate::compose::{
 };
 use generate::procedures::{crowd, ping_pong, spawners};
 use generate::standstills::{
-    all_closed, chain, group, idle_knowledge, lone_receiver, member, port_waiter, receiver, ring_beside_port,
-    through_a_waiter, two_apart, with_itself, Foot,
+    all_closed, chain, clique, group, idle_knowledge, lone_receiver, member, port_waiter, receiver,
+    ring_beside_port, through_a_waiter, two_apart, with_itself, Foot,
 };
 use generate::{File, Layout, FREE, READY, WAITING};
 use interface::{Collected, LACKED_THREAD_ROW, NONE_READY};
@@ -153,6 +153,21 @@ fn chains_that_end_at_a_lost_thread_are_lost() {
         assert_eq!(bench.collected().len(), threads as usize);
         assert_eq!((bench.words().channels(1), bench.channel(0)), (vec![0], [1, 1, 0]));
     }
+}
+
+#[test]
+fn cliques_go_or_stay_whole() {
+    let mut bench = still(&clique(1));
+    assert_eq!((bench.words().threads(WAITING).len(), bench.channel(14)), (64, [1, 64, 64]));
+    assert_eq!(bench.collected().len(), 64);
+    assert_eq!((bench.words().channels(1), bench.channel(0)), (vec![0], [1, 1, 0]));
+    let mut bench = still(&clique(0));
+    assert_eq!((bench.words().threads(WAITING).len(), bench.channel(0)), (64, [1, 65, 64]));
+    takes_nobody(&mut bench);
+    // Without the last thread nobody waits on the port.
+    assert_eq!(bench.give(0, 4).thread, 63);
+    assert_eq!(bench.run(10).steps, 1);
+    assert_eq!(bench.collected().len(), 63);
 }
 
 #[test]
