@@ -250,7 +250,7 @@ static void both_directions_alone(void) {
         BRANCH(ALWAYS, SEND(0, 1), 3),
         BRANCH(ALWAYS, RECEIVE(0, 1), 3),
     };
-    bench *b = OPENED("send and receive of one channel, alone", lines);
+    bench *b = OPENED("both directions on one channel, alone", lines);
     walk(b, 0, 2);
     want_thread(b, 0, WAITS(2, 0, 4));
     want_channel(b, 0, 1, 1, 1);

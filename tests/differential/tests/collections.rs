@@ -54,7 +54,7 @@ impl Bench<'_> {
         }
     }
 
-    /// A step, a give, a take or a run.
+    /// Some call that is neither a start nor a collection.
     fn any_call(&mut self, state: &[u8]) -> Call {
         loop {
             let call = any_call(self.random, state, self.layout.ports());
