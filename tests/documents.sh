@@ -16,7 +16,7 @@ file_is_there() {
 }
 
 definition_is_there() {
-    grep -rqE --include='*.antt' "(^| )$1 :" crates/*/specs
+    grep -rqE --include='*.antt' "(^| )$1 (:|\()" crates/*/specs
 }
 
 function_is_there() {
