@@ -1,98 +1,13 @@
 //! The engine's calls and their answers, in one form for every engine that the tests know.
 //!
-//! The answers have the layout of the structs in `include/pithread.h`.
+//! The answers and numbers are those of `include/pithread.h`.
 
-/// Bytes in a state, four for each of its words.
-pub const STATE_BYTES: usize = 4 * (CHANNELS_START + CHANNELS * CHANNEL_WORDS);
-/// Words before the first row: two marks and the turn.
-pub const FRONT_WORDS: usize = 3;
-pub const THREADS: usize = 64;
-/// Words of a thread's row: status, node, slots.
-pub const THREAD_WORDS: usize = 2 + SLOTS;
-pub const SLOTS: usize = 16;
-/// Where the rows of the channels begin.
-pub const CHANNELS_START: usize = FRONT_WORDS + THREADS * THREAD_WORDS;
-pub const CHANNELS: usize = 128;
-/// Words of a channel's row: type, count, count of waiting holders.
-pub const CHANNEL_WORDS: usize = 3;
-/// Stands for a thread where there is none.
-pub const NOBODY: i32 = -1;
-
-/// The grounds on which a call can be refused by the bench's or the procedures' doing.
-pub const BUFFER_LENGTH: i32 = 8;
-pub const TABLE: i32 = 9;
-pub const STATE: i32 = 10;
-pub const THREAD: i32 = 11;
-pub const PORT: i32 = 12;
-pub const NO_THREAD_ROW: i32 = 13;
-pub const NO_CHANNEL_ROW: i32 = 14;
-
-/// What a step did.
-pub const ENDED: i32 = 0;
-pub const CALLED: i32 = 1;
-pub const WAITS: i32 = 2;
-pub const BRANCH: i32 = 3;
-
-/// Why a run came to its end.
-pub const ALL_STEPS: i32 = 0;
-pub const NONE_READY: i32 = 1;
-pub const LACKED_THREAD_ROW: i32 = 2;
-pub const LACKED_CHANNEL_ROW: i32 = 3;
-
-/// The answer of loading.
-#[repr(C)]
-#[derive(Clone, Copy, Debug, Default, PartialEq, Eq)]
-pub struct Loaded {
-    pub refusal: i32,
-    pub line: i32,
-}
-
-#[repr(C)]
-#[derive(Clone, Copy, Debug, Default, PartialEq, Eq)]
-pub struct Started {
-    pub refusal: i32,
-}
-
-#[repr(C)]
-#[derive(Clone, Copy, Debug, Default, PartialEq, Eq)]
-pub struct Stepped {
-    pub refusal: i32,
-    pub node: i32,
-    pub act: i32,
-    pub branch: i32,
-    pub partner: i32,
-}
-
-#[repr(C)]
-#[derive(Clone, Copy, Debug, Default, PartialEq, Eq)]
-pub struct Given {
-    pub refusal: i32,
-    pub thread: i32,
-}
-
-#[repr(C)]
-#[derive(Clone, Copy, Debug, Default, PartialEq, Eq)]
-pub struct Taken {
-    pub refusal: i32,
-    pub thread: i32,
-    pub number: i32,
-}
-
-#[repr(C)]
-#[derive(Clone, Copy, Debug, Default, PartialEq, Eq)]
-pub struct Ran {
-    pub refusal: i32,
-    pub steps: i32,
-    pub reason: i32,
-    pub thread: i32,
-}
-
-#[repr(C)]
-#[derive(Clone, Copy, Debug, Default, PartialEq, Eq)]
-pub struct Collected {
-    pub refusal: i32,
-    pub threads: i32,
-}
+pub use pithread_header::{
+    Collected, Given, Loaded, Ran, Started, Stepped, Taken, ALL_STEPS, BRANCH, BUFFER_LENGTH, CALLED,
+    CHANNELS, CHANNEL_ROWS as CHANNELS_START, CHANNEL_WORDS, ENDED, LACKED_CHANNEL_ROW, LACKED_THREAD_ROW,
+    NOBODY, NONE_READY, NO_CHANNEL_ROW, NO_THREAD_ROW, PORT, SLOTS, STATE, STATE_BYTES, TABLE, THREAD,
+    THREADS, THREAD_ROWS as FRONT_WORDS, THREAD_WORDS, WAITS,
+};
 
 /// A call with its numbers; the buffers come beside it.
 #[derive(Clone, Copy, Debug, PartialEq, Eq)]

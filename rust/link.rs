@@ -1,0 +1,26 @@
+//! Build script of the crates that link an archive: says where the archive stands.
+//!
+//! The archive has the name of the crate behind `lib`. Its folder is the value of PITHREAD_LIB, taken from
+//! the folder above the crate if it is not absolute; without it, `target/staticlib` at the root of the
+//! repository.
+
+use std::env;
+use std::path::PathBuf;
+
+fn main() {
+    let here = PathBuf::from(env::var_os("CARGO_MANIFEST_DIR").expect("cargo sets this"));
+    let name = env::var("CARGO_PKG_NAME").expect("cargo sets this");
+    let above = here.parent().expect("the crate stands in a folder of the repository");
+    let folder = match env::var_os("PITHREAD_LIB") {
+        Some(folder) => above.join(folder),
+        None => above.join("../target/staticlib"),
+    };
+    let archive = folder.join(format!("lib{name}.a"));
+    if !archive.exists() {
+        println!("cargo:warning={} is not there: rt staticlib {name} writes it", archive.display());
+    }
+    println!("cargo:rerun-if-env-changed=PITHREAD_LIB");
+    println!("cargo:rerun-if-changed={}", folder.display());
+    println!("cargo:rerun-if-changed={}", archive.display());
+    println!("cargo:rustc-link-search=native={}", folder.display());
+}

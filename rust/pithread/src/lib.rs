@@ -1,0 +1,43 @@
+//! An engine for test benches: it loads procedure files and runs their threads.
+//!
+//! The engine is written and proved in another language; this crate is `include/pithread.h` for a program
+//! in Rust. `rt staticlib pithread` writes the archive that it links, `libpithread.a`. The environment
+//! variable `PITHREAD_LIB` names its folder if it is not `target/staticlib` of the repository.
+//!
+//! ```
+//! use pithread::{Bench, Reason};
+//!
+//! let file = std::fs::read("../../examples/doubler.txt")?;
+//! let mut bench = Bench::load(&file)?; // a refusal names the ground and the line at fault
+//! bench.run(1000)?;
+//!
+//! match bench.give(0, 21)? {
+//!     Some(thread) => println!("thread {thread} received 21"),
+//!     None => println!("no thread waits for a number at port 0"), // give it again later
+//! }
+//! if bench.run(1000)?.reason == Reason::NoneReady {
+//!     println!("all threads wait or have ended"); // give or take
+//! }
+//! if let Some(taken) = bench.take(1)? {
+//!     println!("{} from thread {}", taken.number, taken.thread);
+//! #   assert_eq!((taken.number, taken.thread), (42, 0));
+//! }
+//! println!("{} threads could never move again", bench.collect()?);
+//! # assert_eq!(bench.state().threads().count(), 1);
+//! # Ok::<(), Box<dyn std::error::Error>>(())
+//! ```
+//!
+//! [`Bench`] has buffers of the right lengths and a state that is always sound. The calls on buffers of the
+//! caller's are in [`raw`], the only module with unsafe code.
+
+mod bench;
+pub mod raw;
+mod refusal;
+mod state;
+mod table;
+
+pub use bench::{Act, Bench, Ran, Reason, Stepped, Taken};
+pub use pithread_header as header;
+pub use refusal::Refusal;
+pub use state::{Channel, State, Status, Thread};
+pub use table::{Row, Table, FIELDS};

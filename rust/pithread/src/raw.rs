@@ -1,0 +1,79 @@
+//! The calls of `include/pithread.h` as they are: buffers of any length, numbers in the answers.
+//!
+//! Every call takes any bytes and any numbers and answers; none of them can go wrong for a caller in
+//! Rust, since a slice is not null, says how long it is, and lies apart from one that may be written.
+//! [`Bench`](crate::Bench) is what a program uses. This layer is for one that keeps its buffers itself,
+//! and for tests that hand over wrong ones.
+
+#![allow(unsafe_code)]
+
+pub use pithread_header::{Collected, Given, Loaded, Ran, Started, Stepped, Taken};
+
+#[link(name = "pithread", kind = "static")]
+extern "C" {
+    fn pithread_load(file: *const u8, file_len: usize, table: *mut u8, table_len: usize) -> Loaded;
+    fn pithread_start(table: *const u8, table_len: usize, state: *mut u8, state_len: usize) -> Started;
+    fn pithread_step(
+        table: *const u8,
+        table_len: usize,
+        state: *mut u8,
+        state_len: usize,
+        thread: u32,
+    ) -> Stepped;
+    fn pithread_give(
+        table: *const u8,
+        table_len: usize,
+        state: *mut u8,
+        state_len: usize,
+        port: u32,
+        number: i32,
+    ) -> Given;
+    fn pithread_take(
+        table: *const u8,
+        table_len: usize,
+        state: *mut u8,
+        state_len: usize,
+        port: u32,
+    ) -> Taken;
+    fn pithread_run(table: *const u8, table_len: usize, state: *mut u8, state_len: usize, n: u16) -> Ran;
+    fn pithread_collect(table: *const u8, table_len: usize, state: *mut u8, state_len: usize) -> Collected;
+}
+
+// SAFETY, of every call below: each pointer comes from a slice with the slice's length, a slice that is
+// written is borrowed by the call alone, and no call keeps a pointer. The declarations above are those of
+// the header, which the test `header` compares.
+
+/// Checks a procedure file and writes its table.
+pub fn load(file: &[u8], table: &mut [u8]) -> Loaded {
+    unsafe { pithread_load(file.as_ptr(), file.len(), table.as_mut_ptr(), table.len()) }
+}
+
+/// Writes the state in which thread 0 stands ready at the first node.
+pub fn start(table: &[u8], state: &mut [u8]) -> Started {
+    unsafe { pithread_start(table.as_ptr(), table.len(), state.as_mut_ptr(), state.len()) }
+}
+
+/// Lets one ready thread make one step.
+pub fn step(table: &[u8], state: &mut [u8], thread: u32) -> Stepped {
+    unsafe { pithread_step(table.as_ptr(), table.len(), state.as_mut_ptr(), state.len(), thread) }
+}
+
+/// Gives a number to a thread that waits to receive on a port.
+pub fn give(table: &[u8], state: &mut [u8], port: u32, number: i32) -> Given {
+    unsafe { pithread_give(table.as_ptr(), table.len(), state.as_mut_ptr(), state.len(), port, number) }
+}
+
+/// Takes a number from a thread that waits to send on a port.
+pub fn take(table: &[u8], state: &mut [u8], port: u32) -> Taken {
+    unsafe { pithread_take(table.as_ptr(), table.len(), state.as_mut_ptr(), state.len(), port) }
+}
+
+/// Makes up to `n` steps of ready threads in turn.
+pub fn run(table: &[u8], state: &mut [u8], n: u16) -> Ran {
+    unsafe { pithread_run(table.as_ptr(), table.len(), state.as_mut_ptr(), state.len(), n) }
+}
+
+/// Takes away every thread that can never move again.
+pub fn collect(table: &[u8], state: &mut [u8]) -> Collected {
+    unsafe { pithread_collect(table.as_ptr(), table.len(), state.as_mut_ptr(), state.len()) }
+}

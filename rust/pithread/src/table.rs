@@ -1,0 +1,79 @@
+//! Loaded procedure files.
+
+use std::fmt;
+
+use pithread_header::{STATE_BYTES, TABLE_BYTES};
+
+use crate::{raw, Refusal};
+
+/// Numbers in a row of a table, one for each field of a line.
+pub const FIELDS: usize = 12;
+
+/// The numbers of one line of a procedure file.
+pub type Row = [i16; FIELDS];
+
+/// The table of a procedure file: one row of twelve numbers for each line, then rows of zeros.
+///
+/// There is no other table than one that some file loads to.
+///
+/// ```
+/// use pithread::Table;
+///
+/// let file = std::fs::read("../../examples/doubler.txt")?;
+/// let table = Table::load(&file)?;
+/// assert_eq!(table.ports(), 2);
+/// assert_eq!(table.row(0), [1, 1, 2, 7, 6, 4, 2, 0, 0, 0, 0, 0]);
+/// # Ok::<(), Box<dyn std::error::Error>>(())
+/// ```
+#[derive(Clone, PartialEq, Eq)]
+pub struct Table {
+    bytes: Box<[u8; TABLE_BYTES]>,
+}
+
+impl Table {
+    /// Rows of a table, and lines of the longest file.
+    pub const ROWS: usize = TABLE_BYTES / (2 * FIELDS);
+
+    /// Checks a procedure file. The grounds of its refusal are 1 to 7.
+    pub fn load(file: &[u8]) -> Result<Table, Refusal> {
+        let mut bytes = Box::new([0; TABLE_BYTES]);
+        let loaded = raw::load(file, &mut bytes[..]);
+        Refusal::unless_done(loaded.refusal, loaded.line)?;
+        Ok(Table { bytes })
+    }
+
+    /// A table that was kept as bytes. It is checked again: refused with ground 8 for another length and
+    /// with ground 9 if no file has this table.
+    pub fn from_bytes(bytes: &[u8]) -> Result<Table, Refusal> {
+        let started = raw::start(bytes, &mut [0; STATE_BYTES]);
+        Refusal::unless_done(started.refusal, 0)?;
+        let bytes = Box::new(bytes.try_into().map_err(|_| Refusal::BufferLength)?);
+        Ok(Table { bytes })
+    }
+
+    /// The bytes, to be kept: each number as two of them, the lower one first.
+    pub fn as_bytes(&self) -> &[u8; TABLE_BYTES] {
+        &self.bytes
+    }
+
+    /// The numbers of a line, counted from 0; zeros behind the last line.
+    ///
+    /// # Panics
+    ///
+    /// If the number of the row is not below [`Table::ROWS`].
+    pub fn row(&self, row: usize) -> Row {
+        let (numbers, _) = self.bytes.as_chunks::<2>();
+        std::array::from_fn(|field| i16::from_le_bytes(numbers[row * FIELDS + field]))
+    }
+
+    /// How many ports the file has. Ports are the channels from 0 on.
+    pub fn ports(&self) -> u32 {
+        u32::from(self.row(0)[6].unsigned_abs())
+    }
+}
+
+impl fmt::Debug for Table {
+    fn fmt(&self, formatter: &mut fmt::Formatter) -> fmt::Result {
+        formatter.debug_struct("Table").field("header", &self.row(0)).finish_non_exhaustive()
+    }
+}
