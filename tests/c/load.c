@@ -55,8 +55,10 @@ static whole_file example(const char *folder, const char *name) {
 }
 
 static void check_examples(const char *folder) {
-    static const char *const names[] = {"listing.txt", "doubler.txt", "countdown.txt", "relay.txt",
-                                        "itself.txt",  "workers.txt", "units.txt"};
+    static const char *const names[] = {"listing.txt",        "doubler.txt",     "countdown.txt",
+                                        "relay.txt",          "itself.txt",      "workers.txt",
+                                        "ring_and_chain.txt", "late_sender.txt", "philosophers.txt",
+                                        "units.txt"};
     for (size_t place = 0; place < sizeof names / sizeof *names; place++) {
         whole_file file = example(folder, names[place]);
         expect_accepted(file, names[place]);

@@ -5,7 +5,6 @@
 
 use interface::THREADS;
 
-use crate::file::Row;
 use crate::words::{Layout, Words, FREE, READY, WAITING};
 
 #[derive(Clone, Copy, Debug, PartialEq, Eq)]
@@ -35,7 +34,7 @@ impl View {
             ports: layout.ports(),
             status: (0..THREADS).map(|thread| words.thread(thread)[0]).collect(),
             held: (0..THREADS).map(|thread| words.held(layout, thread)).collect(),
-            offered: (0..THREADS).map(|thread| offered(layout, words.thread(thread))).collect(),
+            offered: (0..THREADS).map(|thread| offered(layout, &words, thread)).collect(),
         }
     }
 
@@ -124,27 +123,7 @@ pub fn without(layout: &Layout, state: &[u8], taken: &[usize]) -> Vec<u8> {
     words.to_bytes()
 }
 
-/// The channels on which a thread with this row offers something.
-fn offered(layout: &Layout, row: &[i32]) -> Vec<usize> {
-    if row[0] != WAITING {
-        return Vec::new();
-    }
-    let (node, slots) = (row[1], &row[2..]);
-    let branches = (0..i32::from(layout.node(node)[2])).map(|branch| layout.branch(node, branch));
-    let open = branches.filter(|branch| is_open(branch, slots));
-    open.filter(|branch| [1, 2].contains(&branch[4]))
-        .map(|branch| slots[branch[5] as usize] as usize)
-        .collect()
-}
-
-fn is_open(branch: &Row, slots: &[i32]) -> bool {
-    let [guard, one, other] = [branch[1], branch[2], branch[3]];
-    let slot = |number: i16| slots[number as usize];
-    match guard {
-        0 => true,
-        1 => slot(one) == i32::from(other),
-        2 => slot(one) < i32::from(other),
-        3 => slot(one) == slot(other),
-        _ => slot(one) < slot(other),
-    }
+/// The channels on which a thread offers something.
+fn offered(layout: &Layout, words: &Words, thread: usize) -> Vec<usize> {
+    words.offers(layout, thread).iter().map(|offer| offer.channel).collect()
 }

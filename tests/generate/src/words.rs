@@ -7,6 +7,7 @@ use interface::{
 };
 
 use crate::file::{File, Row};
+use crate::profile::EXCHANGES;
 
 /// The status of a thread's row.
 pub const FREE: i32 = 0;
@@ -72,6 +73,15 @@ impl<'a> Layout<'a> {
     pub fn branch(&self, node: i32, branch: i32) -> &Row {
         &self.file.rows[self.nodes[node as usize].1 + branch as usize]
     }
+}
+
+/// A send or receive by which a waiting thread can be met.
+#[derive(Clone, Copy, Debug, PartialEq, Eq)]
+pub struct Offer {
+    /// Its branch, counted from 0 in the choice.
+    pub branch: usize,
+    pub sends: bool,
+    pub channel: usize,
 }
 
 /// The words of a state.
@@ -174,6 +184,35 @@ impl Words {
         held.sort_unstable();
         held.dedup();
         held
+    }
+
+    /// What a thread offers, in the order of its branches; nothing if it does not wait.
+    pub fn offers(&self, layout: &Layout, thread: usize) -> Vec<Offer> {
+        let [status, node, slots @ ..] = self.thread(thread) else { return Vec::new() };
+        if *status != WAITING {
+            return Vec::new();
+        }
+        let branches = (0..i32::from(layout.node(*node)[2])).map(|branch| layout.branch(*node, branch));
+        let open = branches.enumerate().filter(|(_, branch)| is_open(branch, slots));
+        open.filter(|(_, branch)| EXCHANGES.contains(&branch[4]))
+            .map(|(number, branch)| Offer {
+                branch: number,
+                sends: branch[4] == EXCHANGES[0],
+                channel: slots[branch[5] as usize] as usize,
+            })
+            .collect()
+    }
+}
+
+fn is_open(branch: &Row, slots: &[i32]) -> bool {
+    let [guard, one, other] = [branch[1], branch[2], branch[3]];
+    let slot = |number: i16| slots[number as usize];
+    match guard {
+        0 => true,
+        1 => slot(one) == i32::from(other),
+        2 => slot(one) < i32::from(other),
+        3 => slot(one) == slot(other),
+        _ => slot(one) < slot(other),
     }
 }
 

@@ -1,0 +1,136 @@
+//! The program on wrong words, files that are none, and places that cannot be written to: a message on
+//! standard error and a status, and nothing on standard output.
+
+use std::ffi::OsStr;
+use std::fs::{self, File};
+use std::os::unix::ffi::OsStrExt;
+use std::path::{Path, PathBuf};
+use std::process::{Command, Output, Stdio};
+
+fn example(name: &str) -> PathBuf {
+    Path::new(env!("CARGO_MANIFEST_DIR")).join("../../examples").join(name)
+}
+
+fn picture(words: &[&OsStr]) -> Output {
+    Command::new(env!("CARGO_BIN_EXE_picture")).args(words).output().expect("the program starts")
+}
+
+fn words<'a>(path: &'a Path, steps: &'a str, form: &'a str) -> [&'a OsStr; 3] {
+    [path.as_os_str(), OsStr::new(steps), OsStr::new(form)]
+}
+
+/// It ends with this status, and its message has these words.
+fn expect(output: Output, status: i32, message: &str) {
+    let said = String::from_utf8_lossy(&output.stderr);
+    assert_eq!(output.status.code(), Some(status), "{said}");
+    assert!(said.starts_with("picture: ") && said.ends_with('\n') && said.lines().count() == 1, "{said}");
+    assert!(said.contains(message), "{said} has no {message}");
+    assert!(output.stdout.is_empty(), "{said}");
+}
+
+/// A file of these bytes, of a name that belongs to the test alone.
+fn kept(name: &OsStr, bytes: &[u8]) -> PathBuf {
+    let folder = Path::new(env!("CARGO_TARGET_TMPDIR")).join("hostile");
+    fs::create_dir_all(&folder).expect("a folder for the files");
+    let path = folder.join(name);
+    fs::write(&path, bytes).expect("the file is written");
+    path
+}
+
+#[test]
+fn right_words_draw() {
+    for (form, beginning) in [("--svg", "<svg "), ("--dot", "digraph waits {")] {
+        for steps in ["0", "007", "65535"] {
+            let output = picture(&words(&example("relay.txt"), steps, form));
+            assert!(output.status.success() && output.stderr.is_empty(), "{output:?}");
+            assert!(String::from_utf8_lossy(&output.stdout).starts_with(beginning), "{output:?}");
+        }
+    }
+}
+
+#[test]
+fn wrong_words() {
+    let path = example("relay.txt");
+    let right = words(&path, "5", "--svg");
+    for count in 0..3 {
+        expect(picture(&right[..count]), 2, "usage: picture FILE STEPS --svg|--dot");
+    }
+    expect(picture(&[&right[..], &right[2..]].concat()), 2, "usage:");
+    for steps in ["", "-1", "+1", " 1", "1.5", "65536", "99999999999999999999", "x", "１"] {
+        expect(picture(&words(&path, steps, "--svg")), 2, "is no number from 0 to 65535");
+    }
+    expect(picture(&[right[0], OsStr::from_bytes(b"\xff"), right[2]]), 2, "is no number from 0 to 65535");
+    for form in ["", "svg", "--SVG", "--png", "--svg "] {
+        expect(picture(&words(&path, "5", form)), 2, "is neither --svg nor --dot");
+    }
+    expect(picture(&[right[0], right[1], OsStr::from_bytes(b"--\xff")]), 2, "is neither --svg nor --dot");
+}
+
+#[test]
+fn what_cannot_be_read() {
+    for path in ["", "no/such/file.txt", "two\nlines\u{1b}[2J", "/", "."] {
+        expect(picture(&words(Path::new(path), "5", "--svg")), 2, "cannot be read");
+    }
+    let long = "x".repeat(5_000);
+    expect(picture(&words(Path::new(&long), "5", "--svg")), 2, "cannot be read");
+    expect(
+        picture(&[OsStr::from_bytes(b"\xff\xfe"), OsStr::new("5"), OsStr::new("--dot")]),
+        2,
+        "cannot be read",
+    );
+}
+
+#[test]
+fn refused_files() {
+    let right = fs::read(example("relay.txt")).expect("an example");
+    let mut range = right.clone();
+    range[3 * 73 + 6 + 5] = b'9';
+    let files: [(&str, &[u8], &str); 6] = [
+        ("empty", b"", "is refused, ground 1: "),
+        ("cut", &right[..right.len() - 1], "is refused, ground 1: "),
+        ("bytes", &[0xff; 730], "is refused, ground 2, line 1: "),
+        ("range", &range, "is refused, ground 4, line 4: "),
+        ("whole lines, but too many", &right[..73].repeat(866), "is refused, ground 1: "),
+        ("one byte too many", &vec![b' '; 63_146], "is refused, ground 1: "),
+    ];
+    for (name, bytes, message) in files {
+        let path = kept(OsStr::new(name), bytes);
+        for form in ["--svg", "--dot"] {
+            expect(picture(&words(&path, "5", form)), 1, message);
+        }
+    }
+}
+
+#[test]
+fn a_file_without_an_end() {
+    expect(picture(&words(Path::new("/dev/zero"), "5", "--svg")), 1, "is refused, ground 1: ");
+}
+
+#[test]
+fn a_name_that_is_no_text() {
+    let right = fs::read(example("relay.txt")).expect("an example");
+    let path = kept(OsStr::from_bytes(b"<\xff&\n>.txt"), &right);
+    let output = picture(&words(&path, "5", "--svg"));
+    let drawn = String::from_utf8(output.stdout).expect("a picture is text");
+    assert!(output.status.success(), "{drawn}");
+    assert!(drawn.contains(">&lt;\u{fffd}&amp;\u{fffd}&gt;.txt after 5 steps</text>"), "{drawn}");
+}
+
+#[test]
+fn a_picture_that_cannot_be_written() {
+    let full = File::options().write(true).open("/dev/full").expect("a device that is always full");
+    let output = Command::new(env!("CARGO_BIN_EXE_picture"))
+        .args(words(&example("relay.txt"), "5", "--svg"))
+        .stdout(Stdio::from(full))
+        .output()
+        .expect("the program starts");
+    expect(output, 2, "the picture cannot be written: ");
+}
+
+#[test]
+fn nobody_reads_what_it_says() {
+    let full =
+        || Stdio::from(File::options().write(true).open("/dev/full").expect("a device that is always full"));
+    let status = Command::new(env!("CARGO_BIN_EXE_picture")).stdout(full()).stderr(full()).status();
+    assert_eq!(status.expect("the program starts").code(), Some(2));
+}
