@@ -19,20 +19,20 @@ pub const HOLDS: &str = "#7a7a7a";
 
 impl Thread {
     pub fn look(&self) -> &'static Look {
-        if self.stays {
-            &STAYS
-        } else {
-            &TAKEN
-        }
+        left_or_taken(self.stays, &STAYS)
     }
 }
 
 impl Channel {
     pub fn look(&self) -> &'static Look {
-        if self.stays {
-            &CHANNEL
-        } else {
-            &TAKEN
-        }
+        left_or_taken(self.stays, &CHANNEL)
+    }
+}
+
+fn left_or_taken(stays: bool, look: &'static Look) -> &'static Look {
+    if stays {
+        look
+    } else {
+        &TAKEN
     }
 }

@@ -15,20 +15,9 @@ const TOP: i32 = 84;
 const THREAD_WIDTH: i32 = 268;
 const CHANNEL_WIDTH: i32 = 124;
 const BENCH_WIDTH: i32 = 84;
-/// Between threads and channels, and between channels and the bench.
-const WIDE_SPACE: i32 = 170;
+const CHANNEL_LEFT: i32 = MARGIN + THREAD_WIDTH + 170;
+/// Between channels and bench.
 const SPACE: i32 = 90;
-const CHANNEL_LEFT: i32 = MARGIN + THREAD_WIDTH + WIDE_SPACE;
-/// Between two frames of a column, and between two parts.
-const GAP: i32 = 14;
-const PART_GAP: i32 = 34;
-const ROW_HEIGHT: i32 = 18;
-const LEAST_THREAD_HEIGHT: i32 = 52;
-const LEAST_CHANNEL_HEIGHT: i32 = 30;
-/// Between the ends of two lines at a channel or at the bench.
-const END_STEP: i32 = 9;
-/// How often the columns are drawn towards each other.
-const ROUNDS: usize = 4;
 
 #[derive(Clone, Copy, Debug, PartialEq, Eq)]
 pub struct Frame {
@@ -106,6 +95,10 @@ pub struct Plan {
     pub ports: Vec<(usize, [Point; 2])>,
 }
 
+/// Between two frames of a column, and between two parts.
+const GAP: i32 = 14;
+const PART_GAP: i32 = 34;
+
 impl Plan {
     pub fn new(graph: &Graph) -> Plan {
         let mut rows: Vec<Vec<Row>> = graph.threads.iter().map(rows_of).collect();
@@ -173,6 +166,19 @@ fn order_rows(graph: &Graph, rows: &mut [Vec<Row>], parts: &[Part]) {
     }
 }
 
+const ROW_HEIGHT: i32 = 18;
+/// Between the ends of two lines at a channel.
+const END_STEP: i32 = 9;
+
+/// How high a frame is in which so many stand one below the other.
+fn height_for(step: i32, count: usize) -> i32 {
+    16 + step * count as i32
+}
+
+/// The least heights of frames, with two lines of words and with one.
+const TWO_LINES: i32 = 52;
+const ONE_LINE: i32 = 30;
+
 /// How far below the top of its frame the middle of a row is.
 fn row_middle(height: i32, rows: usize, row: usize) -> i32 {
     height / 2 + fan(ROW_HEIGHT, rows, row)
@@ -194,11 +200,11 @@ struct Columns {
 impl Columns {
     fn new(graph: &Graph, rows: &[Vec<Row>]) -> Columns {
         let lines = lines(graph, rows);
-        let ends = |channel: usize| lines.iter().filter(|line| line[1] == channel).count() as i32;
+        let ends = |channel: usize| lines.iter().filter(|line| line[1] == channel).count();
         let threads: Vec<i32> =
-            rows.iter().map(|rows| LEAST_THREAD_HEIGHT.max(16 + ROW_HEIGHT * rows.len() as i32)).collect();
+            rows.iter().map(|rows| TWO_LINES.max(height_for(ROW_HEIGHT, rows.len()))).collect();
         let channels: Vec<i32> = (0..graph.channels.len())
-            .map(|channel| LEAST_CHANNEL_HEIGHT.max(16 + END_STEP * ends(channel)))
+            .map(|channel| ONE_LINE.max(height_for(END_STEP, ends(channel))))
             .collect();
         let mut columns = Columns {
             tops: [vec![0; threads.len()], vec![0; channels.len()]],
@@ -219,7 +225,8 @@ impl Columns {
 
     /// Places a part from this height on, and answers where it ends.
     fn place(&mut self, part: &Part, top: i32) -> i32 {
-        for round in 0..2 * ROUNDS {
+        // In turn, until little changes any more.
+        for round in 0..8 {
             self.draw_together(part, round % 2);
         }
         let sides = || (0..2).flat_map(|side| part[side].iter().map(move |member| (side, *member)));
@@ -285,7 +292,7 @@ fn bench(graph: &Graph, channels: &[Frame]) -> (Option<Frame>, Vec<(usize, [Poin
     ports.sort_by_key(|(_, point)| point.1);
     let count = ports.len();
     let Some((_, (right, _))) = ports.first() else { return (None, Vec::new()) };
-    let height = LEAST_THREAD_HEIGHT.max(16 + ROW_HEIGHT * count as i32);
+    let height = TWO_LINES.max(height_for(ROW_HEIGHT, count));
     let middle = ports.iter().map(|(_, point)| point.1).sum::<i32>() / count as i32;
     let frame = Frame { left: right + SPACE, top: middle - height / 2, width: BENCH_WIDTH, height };
     let ends = |place: usize| (frame.left, frame.middle() + fan(ROW_HEIGHT, count, place));

@@ -4,11 +4,11 @@ use generate::{table_of, File, Layout, Offer, Words, FREE, READY};
 
 pub struct Thread {
     pub number: usize,
+    pub held: Vec<usize>,
+    pub offers: Vec<Offer>,
     pub node: i32,
     pub ready: bool,
     pub taken: bool,
-    pub held: Vec<usize>,
-    pub offers: Vec<Offer>,
 }
 
 pub struct Expected {
