@@ -3,7 +3,7 @@
 /// The fonts that are asked for, the first that is there.
 pub const FONTS: &str = "DejaVu Sans, Verdana, Helvetica, Arial, sans-serif";
 
-/// At most so wide are these words in a font of this size, in any of the fonts.
+/// At most so wide are these words in a font of this size; the first two fonts are the widest.
 pub fn width(words: &str, size: i32, bold: bool) -> i32 {
     let hundredths: i32 = words.chars().map(character_width).sum();
     let hundredths = if bold { hundredths * 112 / 100 } else { hundredths };
@@ -13,11 +13,11 @@ pub fn width(words: &str, size: i32, bold: bool) -> i32 {
 /// In hundredths of the size.
 fn character_width(character: char) -> i32 {
     match character {
-        ' ' | '!' | '\'' | ',' | '.' | ':' | ';' | '|' | 'i' | 'j' | 'l' | 'I' => 34,
-        '(' | ')' | '-' | '[' | ']' | 'f' | 'r' | 't' | '/' | '\\' => 42,
-        'm' | 'w' | 'M' | 'W' | '%' | '@' => 100,
-        'a'..='z' | '0'..='9' | '_' => 64,
-        ' '..='~' => 84,
+        ' ' | '\'' | ',' | '.' | 'i' | 'j' | 'l' => 37,
+        '!' | '(' | ')' | '-' | '/' | ':' | ';' | '[' | '\\' | ']' | 'f' | 'r' | 't' | '|' => 46,
+        'a'..='l' | 'n'..='v' | 'x'..='z' | '0'..='9' | '_' => 64,
+        'A'..='L' | 'N'..='V' | 'X'..='Z' => 84,
+        'm' | 'w' | 'M' | 'W' => 100,
         _ => 110,
     }
 }
