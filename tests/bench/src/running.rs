@@ -1,9 +1,9 @@
-//! Steps in a second, in long runs.
+//! Steps in a second, and nanoseconds for one rendezvous, in long runs.
 
 use std::hint::black_box;
 
-use generate::procedures::{crowd, ping_pong, reckoner};
-use generate::{table_of, File};
+use generate::procedures::{crowd, ping_pong, reckoner, selecting};
+use generate::{table_of, File, Words, WAITING};
 use interface::{Engine, STATE_BYTES};
 
 use crate::report::{heading, line, Unit};
@@ -22,20 +22,45 @@ pub fn report() {
         ("guards, sums and calls alone", reckoner()),
     ];
     for (name, file) in subjects {
-        line(name, Unit::MillionsPerSecond, &times(&file));
+        line(name, Unit::MillionsPerSecond, &times(&file, usize::from(STEPS)));
     }
 }
 
-fn times(file: &File) -> Times {
-    let table = table_of(&file.rows);
-    let mut states = [vec![0; STATE_BYTES], vec![0; STATE_BYTES]];
-    for state in &mut states {
-        assert_eq!(reference::start(&table, state).refusal, 0);
-        assert_eq!(reference::run(&table, state, BEFORE).steps, i32::from(BEFORE));
+/// Prints, for each load that other languages have too, its name and the archive's nanoseconds for one
+/// rendezvous.
+pub fn report_meetings() {
+    for (name, file) in [("ping-pong", ping_pong()), ("select", selecting())] {
+        println!("{name} {:.1}", times(&file, meetings(&file)).archive * 1e9);
     }
+}
+
+/// A state after some steps.
+fn begun(table: &[u8]) -> Vec<u8> {
+    let mut state = vec![0; STATE_BYTES];
+    assert_eq!(reference::start(table, &mut state).refusal, 0);
+    assert_eq!(reference::run(table, &mut state, BEFORE).steps, i32::from(BEFORE));
+    state
+}
+
+/// In how many steps of a sample a waiting thread is met.
+fn meetings(file: &File) -> usize {
+    let table = table_of(&file.rows);
+    let mut state = begun(&table);
+    let met = (0..STEPS).filter(|_| {
+        let before = Words::new(&state).threads(WAITING).len();
+        assert_eq!(reference::run(&table, &mut state, 1).steps, 1);
+        Words::new(&state).threads(WAITING).len() < before
+    });
+    met.count()
+}
+
+/// Times of a sample by so many pieces.
+fn times(file: &File, pieces: usize) -> Times {
+    let table = table_of(&file.rows);
+    let mut states = [begun(&table), begun(&table)];
     let [first, second] = &mut states;
     let times = Times::take(
-        usize::from(STEPS),
+        pieces,
         || run(&archive::ENGINE, &table, first),
         || run(&reference::ENGINE, &table, second),
     );

@@ -20,6 +20,26 @@ pub fn ping_pong() -> File {
     compose(&[0], 0, &[opening, first, second])
 }
 
+/// One thread sends on two channels in turn, the other receives from whichever it can, for ever.
+pub fn selecting() -> File {
+    let nodes = vec![
+        one(go(new(0), 1)),
+        one(go(new(1), 2)),
+        one(go(set(2, 7), 3)),
+        one(spawn(4, 5)),
+        call(1, &[0, 1, 2]),
+        call(2, &[0, 1, 2]),
+    ];
+    let sender = vec![one(go(send(0, 2), 1)), one(go(send(1, 2), 2)), call(1, &[0, 1, 2])];
+    let receiver = vec![choice(&[go(receive(0, 2), 1), go(receive(1, 2), 1)]), call(2, &[0, 1, 2])];
+    let definitions = [
+        definition(0, &[1, 1, 0], nodes),
+        definition(3, &[1, 1, 0], sender),
+        definition(3, &[1, 1, 0], receiver),
+    ];
+    compose(&[0], 0, &definitions)
+}
+
 /// An even number of threads on one channel, for ever: the first half send, the others receive, so
 /// that in each round one half waits for the other.
 pub fn crowd(threads: i16) -> File {
