@@ -4,6 +4,14 @@
 //! Rust, since a slice is not null, says how long it is, and lies apart from one that may be written.
 //! [`Bench`](crate::Bench) is what a program uses. This layer is for one that keeps its buffers itself,
 //! and for tests that hand over wrong ones.
+//!
+//! ```
+//! use pithread::raw;
+//!
+//! let mut short = [7; 10];
+//! assert_eq!(raw::start(&[1, 2, 3], &mut short).refusal, 8);
+//! assert_eq!(short, [7; 10]);
+//! ```
 
 #![allow(unsafe_code)]
 

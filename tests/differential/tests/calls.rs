@@ -148,6 +148,7 @@ fn hand_made() -> Vec<(&'static str, File)> {
         ("creators", procedures::creators()),
         ("spawners", procedures::spawners()),
         ("ports", procedures::ports()),
+        ("selecting", procedures::selecting()),
         ("64 in a chain to a port", chain(64, Foot::Port)),
         ("64 in a chain to a ready thread", chain(64, Foot::Ready)),
         ("64 in a chain to a lone thread", chain(64, Foot::Lone)),

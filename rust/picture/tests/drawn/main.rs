@@ -281,6 +281,7 @@ fn files_written_by_hand() {
     let mut files = standstills::all();
     files.extend([
         ("ping-pong", procedures::ping_pong()),
+        ("selecting", procedures::selecting()),
         ("crowd of 60", procedures::crowd(60)),
         ("both ways", procedures::both_ways()),
         ("ports", procedures::ports()),
