@@ -1,8 +1,8 @@
 //! Elements of an SVG picture, each on a line of its own.
 
+use crate::frame::{Frame, Point};
 use crate::graph::Direction;
 use crate::look::Look;
-use crate::plan::{Frame, Point};
 use crate::text::{marked_up, FONTS};
 
 /// Which part of the words stands at their point.

@@ -2,12 +2,15 @@
 //! and offers.
 
 mod canvas;
+mod columns;
 mod dot;
+mod frame;
 mod graph;
 mod look;
 mod order;
 mod plan;
 mod program;
+mod rows;
 mod spread;
 mod svg;
 pub mod text;

@@ -1,9 +1,11 @@
 //! The picture as SVG: what is drawn, and in which order.
 
 use crate::canvas::{Anchor, Canvas, Font};
+use crate::frame::Frame;
 use crate::graph::{Channel, Direction, Graph};
 use crate::look::{BENCH, HOLDS, STAYS, TAKEN};
-use crate::plan::{Frame, Link, Plan, Row, MARGIN};
+use crate::plan::{Link, Plan, MARGIN};
+use crate::rows::Row;
 use crate::text::cut;
 use crate::Picture;
 
@@ -34,10 +36,10 @@ pub fn svg(picture: &Picture) -> String {
     for (channel, frame) in graph.channels.iter().zip(&plan.channels) {
         draw_channel(&mut canvas, channel, frame);
     }
-    if let Some(frame) = &plan.bench {
+    if let Some(bench) = &plan.bench {
         canvas.group("bench", "bench", "the bench, which holds every port", |canvas| {
-            canvas.frame(frame, 4, &BENCH);
-            canvas.words(frame.below_middle(5), &NAME, Anchor::Middle, "bench");
+            canvas.frame(&bench.frame, 4, &BENCH);
+            canvas.words(bench.frame.below_middle(5), &NAME, Anchor::Middle, "bench");
         });
     }
     draw_key(&mut canvas, &plan);
@@ -46,7 +48,7 @@ pub fn svg(picture: &Picture) -> String {
 
 /// The lines to the bench and to channels that are only held, and above them the offers.
 fn draw_links(canvas: &mut Canvas, graph: &Graph, plan: &Plan) {
-    for (place, ends) in &plan.ports {
+    for (place, ends) in plan.bench.iter().flat_map(|bench| &bench.ports) {
         let number = graph.channels[*place].number;
         let about = format!("the bench holds port {number}");
         canvas
@@ -90,17 +92,9 @@ fn draw_thread(canvas: &mut Canvas, graph: &Graph, plan: &Plan, place: usize) {
         canvas.words((left, frame.middle() + 15), &SMALL, Anchor::Start, &thread.place());
         for (row, leading) in plan.rows[place].iter().enumerate() {
             let point = (frame.right() - 10, plan.row_middle(place, row) + 4);
-            canvas.words(point, &SMALL, Anchor::End, &words_of(leading));
+            canvas.words(point, &SMALL, Anchor::End, &leading.words());
         }
     });
-}
-
-fn words_of(row: &Row) -> String {
-    match row {
-        Row::Offer(offer) => format!("branch {} {}s", offer.branch, offer.direction.word()),
-        Row::Holds(_) => String::from("holds"),
-        Row::NoOffer => String::from("offers nothing"),
-    }
 }
 
 fn draw_channel(canvas: &mut Canvas, channel: &Channel, frame: &Frame) {
