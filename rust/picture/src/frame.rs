@@ -50,7 +50,7 @@ impl Stack {
     }
 
     /// How far from the middle one of them stands.
-    pub fn from_middle(self, place: usize) -> i32 {
+    pub fn off_middle(self, place: usize) -> i32 {
         self.step * (2 * place as i32 + 1 - self.count as i32) / 2
     }
 }

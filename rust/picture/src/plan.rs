@@ -79,7 +79,7 @@ impl Plan {
 
     /// Where the middle of a row of a thread is.
     pub fn row_middle(&self, thread: usize, row: usize) -> i32 {
-        self.threads[thread].middle() + stack_of(&self.rows[thread]).from_middle(row)
+        self.threads[thread].middle() + stack_of(&self.rows[thread]).off_middle(row)
     }
 
     pub fn is_offer(&self, link: &Link) -> bool {
@@ -115,7 +115,7 @@ fn columns(graph: &Graph, rows: &[Vec<Row>], links: &[Link]) -> Columns {
     let channels = 0..graph.channels.len();
     let channels: Vec<i32> = channels.map(|channel| ends(count(channel)).height(ONE_LINE)).collect();
     let lines = links.iter().map(|link| {
-        let down = threads[link.thread] / 2 + stack_of(&rows[link.thread]).from_middle(link.row);
+        let down = threads[link.thread] / 2 + stack_of(&rows[link.thread]).off_middle(link.row);
         [(link.thread, down), (link.channel, channels[link.channel] / 2)]
     });
     let lines = lines.collect();
@@ -126,7 +126,7 @@ fn columns(graph: &Graph, rows: &[Vec<Row>], links: &[Link]) -> Columns {
 fn place_links(links: &mut [Link], rows: &[Vec<Row>], threads: &[Frame], channels: &[Frame]) {
     for link in links.iter_mut() {
         let frame = &threads[link.thread];
-        let height = frame.middle() + stack_of(&rows[link.thread]).from_middle(link.row);
+        let height = frame.middle() + stack_of(&rows[link.thread]).off_middle(link.row);
         link.ends[0] = (frame.right(), height);
     }
     for (channel, frame) in channels.iter().enumerate() {
@@ -134,7 +134,7 @@ fn place_links(links: &mut [Link], rows: &[Vec<Row>], threads: &[Frame], channel
         own.sort_by_key(|link| link.ends[0].1);
         let ends = ends(own.len());
         for (place, link) in own.into_iter().enumerate() {
-            link.ends[1] = (frame.left, frame.middle() + ends.from_middle(place));
+            link.ends[1] = (frame.left, frame.middle() + ends.off_middle(place));
         }
     }
 }
@@ -152,7 +152,7 @@ fn bench(graph: &Graph, channels: &[Frame]) -> Option<BenchPlan> {
     let middle = ports.iter().map(|(_, point)| point.1).sum::<i32>() / ports.len() as i32;
     let height = stack.height(TWO_LINES);
     let frame = Frame { left: right + 90, top: middle - height / 2, width: 84, height };
-    let end = |place: usize| (frame.left, frame.middle() + stack.from_middle(place));
+    let end = |place: usize| (frame.left, frame.middle() + stack.off_middle(place));
     let ports = ports.iter().enumerate().map(|(place, (port, point))| (*port, [*point, end(place)]));
     Some(BenchPlan { frame, ports: ports.collect() })
 }
