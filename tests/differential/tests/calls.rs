@@ -172,6 +172,9 @@ fn files_written_by_hand() {
             for _ in 0..random.below(20) {
                 sequence.call(Call::Run { n: random.below(4_000) as u16 });
             }
+            if random.below(3) == 0 {
+                sequence.call(Call::Collect);
+            }
             sequence.play(random, 100);
         });
     }
@@ -180,9 +183,9 @@ fn files_written_by_hand() {
     traffic.expect("reason", [LACKED_CHANNEL_ROW], 100);
     traffic.expect("another like the partner", [1], 50);
     traffic.expect("threads taken, at least", [1, 2, 8], 40);
-    traffic.expect("threads taken, at least", [64], 4);
+    traffic.expect("threads taken, at least", [64], 8);
     traffic.expect("threads in rows of taken ones, at least", [1, 2, 8], 40);
-    traffic.expect("channels in rows of freed ones, at least", [1, 2, 8], 20);
+    traffic.expect("channels in rows of freed ones, at least", [1, 2, 8], 12);
 }
 
 /// The state of a file after so many steps.

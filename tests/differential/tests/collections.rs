@@ -7,6 +7,7 @@ use generate::{
     View, Words, FREE, LIVELY, STILL,
 };
 use interface::{Call, Collected, FRONT_WORDS, STATE_BYTES, THREADS, THREAD_WORDS};
+use pithread::raw;
 
 /// Calls of a walk, after each of which there is a collection.
 const WALK: usize = 20;
@@ -40,7 +41,7 @@ impl Bench<'_> {
     /// Collects after each call of a walk, but goes on as if nothing had been collected.
     fn walk(&mut self, rule: Rule, met: &mut Met) {
         let mut state = vec![0x5a; STATE_BYTES];
-        assert_eq!(archive::start(&self.table, &mut state).refusal, 0);
+        assert_eq!(raw::start(&self.table, &mut state).refusal, 0);
         for _ in 0..WALK {
             let most = self.random.pick(&[3, 20, 200]);
             let run = Call::Run { n: self.random.below(most) as u16 };
@@ -77,7 +78,7 @@ impl Bench<'_> {
             1 => changed_state(self.random, &self.layout, &state),
             _ => return state,
         };
-        match archive::run(&self.table, &mut other.clone(), 0).refusal {
+        match raw::run(&self.table, &mut other.clone(), 0).refusal {
             0 => other,
             _ => state,
         }
@@ -86,7 +87,7 @@ impl Bench<'_> {
     /// Collects, looks at what is left, and plays lists from before.
     fn collect(&mut self, state: &[u8], met: &mut Met) {
         let mut after = state.to_vec();
-        let collected = archive::collect(&self.table, &mut after);
+        let collected = raw::collect(&self.table, &mut after);
         let taken = gone(state, &after);
         assert_eq!(collected, Collected { refusal: 0, threads: taken.len() as i32 }, "{}", self.about);
         assert!(after == without(&self.layout, state, &taken), "{}: not all the rest stays", self.about);
