@@ -1,5 +1,5 @@
 -- The columns that the reader compares are the printed form; so what it accepts is a text, and what it refuses is none. Assumes nothing.
-use Prim.Native.Nat.{ℕ, _+_, _-_, _*_, _/_, _%_, _<_, _≤_}
+use Prim.Native.Nat.{ℕ, suc, _+_, _-_, _*_, _/_, _%_, _<_, _≤_}
 use native.Mathlib.Omega.{arith}
 use native.Mathlib.Decide.{decLt}
 use native.Mathlib.Nat.{div-eq-of-lt}
@@ -7,7 +7,8 @@ use mathlib.Core.Path.{_≡_, refl, sym, _∙_, ap}
 use mathlib.Core.Bool.{Bool, true, false, cond}
 use mathlib.Core.List.{List, [], _∷_}
 use lib.Dec.{ltb, eqb}
-use lib.ListN.{length, getD}
+use lib.ListN.{length, getD, set}
+use lib.Seq.{sets}
 use borrow.Author.Tests.{lt-ltb, le-ltb, ltb-true, ltb-false, eqb-true}
 use Rattle.numbers.specs.Search.Laws.{contra}
 use Rattle.text.specs.declared.Reading.{Reading}
@@ -167,3 +168,25 @@ module _ (l : List ℕ) (six-long : length l ≡ 6) where
 
   pub columns-read : (r : Reading) → r ≡ readNumber (six (getD l 0 0) (getD l 1 0) (getD l 2 0) (getD l 3 0) (getD l 4 0) (getD l 5 0)) → r ≡ readNumber l
   columns-read r e = e ∙ ap readNumber (sym (six-is l six-long))
+
+-- ---- a field that is laid into a buffer
+
+-- six stores, one after the other
+pub columns-laid : (l : List ℕ) (at a b c d e f : ℕ) (n : Bool) (m : ℕ) → a ≡ letterOf n (m / 100000) (m / 10000) → b ≡ letterOf n (m / 10000) (m / 1000) → c ≡ letterOf n (m / 1000) (m / 100)
+    → d ≡ letterOf n (m / 100) (m / 10) → e ≡ letterOf n (m / 10) 1 → f ≡ 48 + m % 10
+    → set (set (set (set (set (set l at a) (at + 1) b) (at + 2) c) (at + 3) d) (at + 4) e) (at + 5) f ≡ sets l at (columns n m)
+unfolding columns
+columns-laid l at a b c d e f n m p q r s t u =
+    let e1 : at + 1 ≡ suc at = omega arith in
+    let e2 : at + 2 ≡ suc (suc at) = omega arith in
+    let e3 : at + 3 ≡ suc (suc (suc at)) = omega arith in
+    let e4 : at + 4 ≡ suc (suc (suc (suc at))) = omega arith in
+    let e5 : at + 5 ≡ suc (suc (suc (suc (suc at)))) = omega arith in
+    rw (e1, e2, e3, e4, e5, p, q, r, s, t, u)
+
+module _ (l l₁ : List ℕ) (at v : ℕ) where
+  pub text-laid : v ≤ 32767 → l₁ ≡ sets l at (columns false v) → l₁ ≡ sets l at (text v)
+  text-laid h e = e ∙ rw (text-pos v h)
+
+  pub minus-laid : 32767 < v → l₁ ≡ sets l at (columns true (65536 - v)) → l₁ ≡ sets l at (text v)
+  minus-laid h e = e ∙ rw (text-neg v h)

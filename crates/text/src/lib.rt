@@ -1,8 +1,9 @@
-// The fields of a procedure file: where they stand, and the numbers that they print.
+// The fields of a procedure file: where they stand, the numbers that they print, and how they are printed.
 ghost use mathlib.Core.Path.{_≡_};
 ghost use Prim.Native.Nat.{_+_, _*_, _<_, _≤_};
 ghost use lib.ListN.{length};
-ghost use Rattle.text.specs.Text.{fieldOf, figureOf, sizeFrom, hasMinus, same, readNumber};
+ghost use lib.Seq.{sets};
+ghost use Rattle.text.specs.Text.{text, fieldOf, figureOf, sizeFrom, hasMinus, same, readNumber};
 ghost use Rattle.text.specs.Columns.{six, letterOf, columns, blankOf};
 
 // What a field holds.
@@ -157,4 +158,29 @@ pub fn read_field(field: &[u8]) -> Reading
         }
     }
     read_columns(field[0], field[1], field[2], field[3], field[4], last)
+}
+
+// The six columns of a size below 100000 and its sign, laid into a buffer from a place on.
+fn put_columns(buffer: &mut [u8], at: usize, negative: bool, size: u32)
+    requires { ⌜ at + 6 ≤ length (now buffer) ⌝ }
+    ensures { λ _. ⌜ now (buffer .exit) ≡ sets (now (buffer .entry)) at (columns negative size) ⌝ }
+{
+    buffer[at] = letter(negative, size / 100000, size / 10000);
+    buffer[at + 1] = letter(negative, size / 10000, size / 1000);
+    buffer[at + 2] = letter(negative, size / 1000, size / 100);
+    buffer[at + 3] = letter(negative, size / 100, size / 10);
+    buffer[at + 4] = letter(negative, size / 10, 1);
+    buffer[at + 5] = (48 + size % 10) as u8;
+}
+
+// The field of the number with the pattern v, laid into a buffer from a place on.
+pub fn put_field(buffer: &mut [u8], at: usize, v: u16)
+    requires { ⌜ at + 6 ≤ length (now buffer) ⌝ }
+    ensures { λ _. ⌜ now (buffer .exit) ≡ sets (now (buffer .entry)) at (text v) ⌝ }
+{
+    if v <= 32767 {
+        put_columns(buffer, at, false, v as u32);
+        return;
+    }
+    put_columns(buffer, at, true, 65536 - v as u32);
 }
