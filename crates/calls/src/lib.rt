@@ -25,7 +25,7 @@ const MAX_THREADS: u32 = 64;
 const BENCH: u32 = 64;
 
 // What a step from a node is answered with, by its move.
-fn step_answer(node: u32, m: Move) -> Stepped
+pub fn step_answer(node: u32, m: Move) -> Stepped
     ensures { λ r. ⌜ r ≡ stepAnswer node m ⌝ }
 {
     match m {

@@ -323,7 +323,7 @@ fn take_unmarked(
 }
 
 // A collection on the words of a state. Answers how many threads it took.
-fn collect_in(table: &[u8], index: &[u32], state: &mut [u32; state::WORDS]) -> u32
+pub fn collect_in(table: &[u8], index: &[u32], state: &mut [u32; state::WORDS]) -> u32
     requires { ⌜ Indexed (tableOf (now table)) (now index) ⌝ }
     requires { ⌜ settled (tableOf (now table)) (stateOf (now state)) ≡ stateOf (now state) ⌝ }
     ensures { λ r. ⌜ r ≡ takenCount (tableOf (now (table .entry))) (stateOf (now (state .entry))) ⌝ }

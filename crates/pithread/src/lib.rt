@@ -1,21 +1,15 @@
 // The calls that C makes. Numbers and byte buffers go in, numbers come back.
 ghost use mathlib.Core.Path.{_≡_};
 ghost use Prim.Native.Nat.{_≤_};
-ghost use Rattle.loader.specs.Verdict.{groundNumber};
 ghost use Rattle.loader.specs.Load.{refusalNumber, lineNumber};
 ghost use Prim.Native.Nat.{_<_};
 ghost use mir.Syntax.{w32};
 ghost use mir.Val.{ofZ};
-ghost use Rattle.engine.specs.Numbers as Numbers;
 ghost use Rattle.pithread.specs.Interface.{LoadResult, loadResult, StateResult, startFields, startNumbers, startResult, stepNumbers, stepFields, stepResult, giveNumbers, giveFields, giveResult, takeNumbers, takeFields, takeResult, runNumbers, runFields, runResult, collectNumbers, collectFields, collectResult};
 use collector::Collected;
-use loader::Ground;
 use loader::Loaded;
-use rules::Deed;
 use rules::Given;
 use rules::Ran;
-use rules::Reason;
-use rules::Refusal;
 use rules::Started;
 use rules::Stepped;
 use rules::Taken;
@@ -27,31 +21,13 @@ pub struct LoadAnswer {
     pub line: i32,
 }
 
-fn ground_number(ground: Ground) -> u32
-    ensures { λ r. ⌜ r ≡ groundNumber ground ⌝ }
-    ensures { λ r. ⌜ r ≤ 8 ⌝ }
-{
-    match ground {
-        Ground::Lines => 1,
-        Ground::Field => 2,
-        Ground::Header => 3,
-        Ground::Total => 3,
-        Ground::Kind => 3,
-        Ground::Sums => 3,
-        Ground::Range => 4,
-        Ground::Types => 5,
-        Ground::Unwritten => 6,
-        Ground::Unreachable => 7,
-    }
-}
-
 fn refusal_number(answer: Loaded) -> u32
     ensures { λ r. ⌜ r ≡ refusalNumber answer ⌝ }
     ensures { λ r. ⌜ r ≤ 8 ⌝ }
 {
     match answer {
         Loaded::Done => 0,
-        Loaded::FileRefused(ground, _) => ground_number(ground),
+        Loaded::FileRefused(ground, _) => answers::ground_number(ground),
         Loaded::WrongLength => 8,
     }
 }
@@ -124,78 +100,6 @@ pub struct CollectAnswer {
 // The pattern of -1.
 const MINUS_ONE: u32 = 4294967295;
 
-fn refusal_of(refusal: Refusal) -> u32
-    ensures { λ r. ⌜ r ≡ Numbers.refusalNumber refusal ⌝ }
-{
-    match refusal {
-        Refusal::Length => 8,
-        Refusal::Table => 9,
-        Refusal::State => 10,
-        Refusal::Thread => 11,
-        Refusal::Port => 12,
-        Refusal::ThreadRow => 13,
-        Refusal::ChannelRow => 14,
-    }
-}
-
-fn act_number(deed: Deed) -> u32
-    ensures { λ r. ⌜ r ≡ Numbers.actNumber deed ⌝ }
-{
-    match deed {
-        Deed::Ended => 0,
-        Deed::Called => 1,
-        Deed::Waited => 2,
-        Deed::Took(_) => 3,
-        Deed::TookWith(_, _) => 3,
-    }
-}
-
-fn branch_number(deed: Deed) -> u32
-    ensures { λ r. ⌜ r ≡ Numbers.branchNumber deed ⌝ }
-{
-    match deed {
-        Deed::Ended => 0,
-        Deed::Called => 0,
-        Deed::Waited => 0,
-        Deed::Took(i) => i,
-        Deed::TookWith(i, _) => i,
-    }
-}
-
-fn partner_number(deed: Deed) -> u32
-    ensures { λ r. ⌜ r ≡ Numbers.partnerNumber deed ⌝ }
-{
-    match deed {
-        Deed::Ended => MINUS_ONE,
-        Deed::Called => MINUS_ONE,
-        Deed::Waited => MINUS_ONE,
-        Deed::Took(_) => MINUS_ONE,
-        Deed::TookWith(_, u) => u,
-    }
-}
-
-fn reason_number(reason: Reason) -> u32
-    ensures { λ r. ⌜ r ≡ Numbers.reasonNumber reason ⌝ }
-{
-    match reason {
-        Reason::AllDone => 0,
-        Reason::NoneReady => 1,
-        Reason::LackedThread(_) => 2,
-        Reason::LackedChannel(_) => 3,
-    }
-}
-
-fn held_up_number(reason: Reason) -> u32
-    ensures { λ r. ⌜ r ≡ Numbers.heldUpNumber reason ⌝ }
-{
-    match reason {
-        Reason::AllDone => MINUS_ONE,
-        Reason::NoneReady => MINUS_ONE,
-        Reason::LackedThread(t) => t,
-        Reason::LackedChannel(t) => t,
-    }
-}
-
 // The numbers of an answer, from their patterns.
 fn start_fields(refusal: u32) -> StartAnswer
     ensures { λ r. ⌜ r ≡ startFields refusal ⌝ }
@@ -261,7 +165,7 @@ fn start_numbers(answer: Started) -> StartAnswer
 {
     match answer {
         Started::Done => start_fields(0),
-        Started::Refused(ground) => start_fields(refusal_of(ground)),
+        Started::Refused(ground) => start_fields(answers::refusal_of(ground)),
     }
 }
 
@@ -273,12 +177,12 @@ fn step_numbers(answer: Stepped) -> StepAnswer
             step_fields(
                 0,
                 node,
-                act_number(deed),
-                branch_number(deed),
-                partner_number(deed),
+                answers::act_number(deed),
+                answers::branch_number(deed),
+                answers::partner_number(deed),
             )
         }
-        Stepped::Refused(ground) => step_fields(refusal_of(ground), 0, 0, 0, 0),
+        Stepped::Refused(ground) => step_fields(answers::refusal_of(ground), 0, 0, 0, 0),
     }
 }
 
@@ -288,7 +192,7 @@ fn give_numbers(answer: Given) -> GiveAnswer
     match answer {
         Given::Met(thread) => give_fields(0, thread),
         Given::Nobody => give_fields(0, MINUS_ONE),
-        Given::Refused(ground) => give_fields(refusal_of(ground), 0),
+        Given::Refused(ground) => give_fields(answers::refusal_of(ground), 0),
     }
 }
 
@@ -298,7 +202,7 @@ fn take_numbers(answer: Taken) -> TakeAnswer
     match answer {
         Taken::Met(thread, number) => take_fields(0, thread, number),
         Taken::Nobody => take_fields(0, MINUS_ONE, 0),
-        Taken::Refused(ground) => take_fields(refusal_of(ground), 0, 0),
+        Taken::Refused(ground) => take_fields(answers::refusal_of(ground), 0, 0),
     }
 }
 
@@ -307,9 +211,14 @@ fn run_numbers(answer: Ran) -> RunAnswer
 {
     match answer {
         Ran::Done(steps, reason) => {
-            run_fields(0, steps, reason_number(reason), held_up_number(reason))
+            run_fields(
+                0,
+                steps,
+                answers::reason_number(reason),
+                answers::held_up_number(reason),
+            )
         }
-        Ran::Refused(ground) => run_fields(refusal_of(ground), 0, 0, 0),
+        Ran::Refused(ground) => run_fields(answers::refusal_of(ground), 0, 0, 0),
     }
 }
 
@@ -318,7 +227,7 @@ fn collect_numbers(answer: Collected) -> CollectAnswer
 {
     match answer {
         Collected::Done(threads) => collect_fields(0, threads),
-        Collected::Refused(ground) => collect_fields(refusal_of(ground), 0),
+        Collected::Refused(ground) => collect_fields(answers::refusal_of(ground), 0),
     }
 }
 

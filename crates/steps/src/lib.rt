@@ -351,7 +351,7 @@ pub fn step_ready(
 }
 
 // What a move of thread t comes to in a run.
-fn turn_by(t: u32, m: Move) -> Turn
+pub fn turn_by(t: u32, m: Move) -> Turn
     ensures { λ r. ⌜ r ≡ turnBy t m ⌝ }
 {
     match m {

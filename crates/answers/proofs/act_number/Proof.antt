@@ -1,8 +1,8 @@
-use Rattle.pithread.specs.Interface.Calls.{act-arm}
+use Rattle.answers.proofs.Arms.{act-arm}
 use Rattle.engine.specs.Numbers.{actNumber}
 use borrow.Author.Needs.{needs}
-use Rattle.pithread.proofs.act_number.Statement.{statement}
-use Rattle.pithread.proofs.act_number.Tie as tie
+use Rattle.answers.proofs.act_number.Statement.{statement}
+use Rattle.answers.proofs.act_number.Tie as tie
 
 pub act-number-spec : {M : Type 1} → statement M
 unfolding actNumber

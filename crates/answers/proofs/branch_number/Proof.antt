@@ -1,8 +1,8 @@
-use Rattle.pithread.specs.Interface.Calls.{branch-arm}
+use Rattle.answers.proofs.Arms.{branch-arm}
 use Rattle.engine.specs.Numbers.{branchNumber}
 use borrow.Author.Needs.{needs}
-use Rattle.pithread.proofs.branch_number.Statement.{statement}
-use Rattle.pithread.proofs.branch_number.Tie as tie
+use Rattle.answers.proofs.branch_number.Statement.{statement}
+use Rattle.answers.proofs.branch_number.Tie as tie
 
 pub branch-number-spec : {M : Type 1} → statement M
 unfolding branchNumber

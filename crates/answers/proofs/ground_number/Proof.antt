@@ -1,8 +1,8 @@
-use Rattle.pithread.specs.Interface.Laws.{ground-arm}
+use Rattle.answers.proofs.Arms.{ground-arm}
 use Rattle.loader.specs.Verdict.{groundNumber}
 use borrow.Author.Needs.{needs}
-use Rattle.pithread.proofs.ground_number.Statement.{statement}
-use Rattle.pithread.proofs.ground_number.Tie as tie
+use Rattle.answers.proofs.ground_number.Statement.{statement}
+use Rattle.answers.proofs.ground_number.Tie as tie
 
 pub ground-number-spec : {M : Type 1} → statement M
 unfolding groundNumber

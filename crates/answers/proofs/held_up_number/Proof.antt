@@ -1,8 +1,8 @@
-use Rattle.pithread.specs.Interface.Calls.{held-up-arm}
+use Rattle.answers.proofs.Arms.{held-up-arm}
 use Rattle.engine.specs.Numbers.{heldUpNumber}
 use borrow.Author.Needs.{needs}
-use Rattle.pithread.proofs.held_up_number.Statement.{statement}
-use Rattle.pithread.proofs.held_up_number.Tie as tie
+use Rattle.answers.proofs.held_up_number.Statement.{statement}
+use Rattle.answers.proofs.held_up_number.Tie as tie
 
 pub held-up-number-spec : {M : Type 1} → statement M
 unfolding heldUpNumber

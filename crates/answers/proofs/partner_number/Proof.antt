@@ -1,8 +1,8 @@
-use Rattle.pithread.specs.Interface.Calls.{partner-arm}
+use Rattle.answers.proofs.Arms.{partner-arm}
 use Rattle.engine.specs.Numbers.{partnerNumber}
 use borrow.Author.Needs.{needs}
-use Rattle.pithread.proofs.partner_number.Statement.{statement}
-use Rattle.pithread.proofs.partner_number.Tie as tie
+use Rattle.answers.proofs.partner_number.Statement.{statement}
+use Rattle.answers.proofs.partner_number.Tie as tie
 
 pub partner-number-spec : {M : Type 1} → statement M
 unfolding partnerNumber

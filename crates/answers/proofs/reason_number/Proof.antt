@@ -1,8 +1,8 @@
-use Rattle.pithread.specs.Interface.Calls.{reason-arm}
+use Rattle.answers.proofs.Arms.{reason-arm}
 use Rattle.engine.specs.Numbers.{reasonNumber}
 use borrow.Author.Needs.{needs}
-use Rattle.pithread.proofs.reason_number.Statement.{statement}
-use Rattle.pithread.proofs.reason_number.Tie as tie
+use Rattle.answers.proofs.reason_number.Statement.{statement}
+use Rattle.answers.proofs.reason_number.Tie as tie
 
 pub reason-number-spec : {M : Type 1} → statement M
 unfolding reasonNumber

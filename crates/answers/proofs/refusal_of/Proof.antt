@@ -1,8 +1,8 @@
-use Rattle.pithread.specs.Interface.Calls.{refusal-number-arm}
+use Rattle.answers.proofs.Arms.{refusal-number-arm}
 use Rattle.engine.specs.Numbers.{refusalNumber}
 use borrow.Author.Needs.{needs}
-use Rattle.pithread.proofs.refusal_of.Statement.{statement}
-use Rattle.pithread.proofs.refusal_of.Tie as tie
+use Rattle.answers.proofs.refusal_of.Statement.{statement}
+use Rattle.answers.proofs.refusal_of.Tie as tie
 
 pub refusal-of-spec : {M : Type 1} → statement M
 unfolding refusalNumber

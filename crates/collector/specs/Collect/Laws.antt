@@ -79,7 +79,7 @@ module _ (tb : Table) (s : State) where
   taken-used : (t : ℕ) → taken tb s t ≡ true → inUse (thread s t) ≡ true
   taken-used t e = taken-iff t .0 e .0
 
-  taken-shows : (t : ℕ) → t < maxThreads → taken tb s t ≡ inUse (thread s t) && not (inUse (thread (collected tb s) t))
+  pub taken-shows : (t : ℕ) → t < maxThreads → taken tb s t ≡ inUse (thread s t) && not (inUse (thread (collected tb s) t))
   taken-shows t l =
       caseB (taken tb s t)
       (λ e. rw (taken-freed t l e, e, taken-used t e))

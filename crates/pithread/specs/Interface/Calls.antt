@@ -37,27 +37,6 @@ use Rattle.pithread.specs.declared.CollectAnswer.{CollectAnswer}
 pub signed-back : (x : ℕ) (v : ℤ) → v ≡ toZ w32 x → Fits w32 x → toZ w32 (ofZ w32 v) ≡ toZ w32 x
 signed-back x v e f = rw (e, ofZ-toZ f)
 
--- numbers in the arms of a match
-pub refusal-number-arm : (r : ℕ) (g h : Refusal) → g ≡ h → r ≡ Numbers.refusalNumber h → r ≡ Numbers.refusalNumber g
-refusal-number-arm r g h e f = rw e f
-
-module _ (r : ℕ) (d k : Deed) (e : d ≡ k) where
-  pub act-arm : r ≡ Numbers.actNumber k → r ≡ Numbers.actNumber d
-  act-arm f = rw e f
-
-  pub branch-arm : r ≡ Numbers.branchNumber k → r ≡ Numbers.branchNumber d
-  branch-arm f = rw e f
-
-  pub partner-arm : r ≡ Numbers.partnerNumber k → r ≡ Numbers.partnerNumber d
-  partner-arm f = rw e f
-
-module _ (r : ℕ) (d k : Reason) (e : d ≡ k) where
-  pub reason-arm : r ≡ Numbers.reasonNumber k → r ≡ Numbers.reasonNumber d
-  reason-arm f = rw e f
-
-  pub held-up-arm : r ≡ Numbers.heldUpNumber k → r ≡ Numbers.heldUpNumber d
-  held-up-arm f = rw e f
-
 -- the numbers of an answer, g being its ground where it is refused and n the ground's number
 module _ (g : Refusal) (n : ℕ) (e : n ≡ Numbers.refusalNumber g) where
   pub start-refused : (r : StartAnswer) (a : Started) → r ≡ startFields n → a ≡ Started.Refused g → r ≡ startNumbers a

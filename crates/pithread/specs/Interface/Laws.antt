@@ -10,9 +10,8 @@ use lib.IntN.{pos}
 use mir.Syntax.{w32}
 use mir.Val.{SFits, toZ}
 use mir.Facts.{toZ-pos}
-use Rattle.loader.specs.Verdict.{verdict, groundNumber}
+use Rattle.loader.specs.Verdict.{verdict}
 use Rattle.loader.specs.Load.{Outcome, outcome, loaded, afterVerdict, refusalNumber, lineNumber, tableLength, tableBytes}
-use Rattle.loader.specs.declared.Ground.{Ground}
 use Rattle.loader.specs.declared.Verdict.{Verdict}
 use Rattle.loader.specs.declared.Verdict.the-variants.{Sound, Fault}
 use Rattle.loader.specs.declared.Loaded.{Loaded}
@@ -47,9 +46,6 @@ module _ (file t t′ : List ℕ) (a : Loaded) (e : outcome a t′ ≡ loaded fi
         rw (x, y) (ap numbered e)
 
 -- answers in the arms of a `match`
-pub ground-arm : (r : ℕ) (g h : Ground) → g ≡ h → r ≡ groundNumber h → r ≡ groundNumber g
-ground-arm r g h e f = rw e f
-
 module _ (r : ℕ) (a b : Loaded) (e : a ≡ b) where
   pub refusal-arm : r ≡ refusalNumber b → r ≡ refusalNumber a
   refusal-arm f = rw e f

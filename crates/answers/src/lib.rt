@@ -1,0 +1,106 @@
+// The numbers of document 01 for the answers of loading and of the engine's calls. A number is its 32-bit pattern.
+ghost use mathlib.Core.Path.{_≡_};
+ghost use Prim.Native.Nat.{_≤_};
+ghost use Rattle.loader.specs.Verdict.{groundNumber};
+ghost use Rattle.engine.specs.Numbers.{refusalNumber, actNumber, branchNumber, partnerNumber, reasonNumber, heldUpNumber};
+use loader::Ground;
+use rules::Deed;
+use rules::Reason;
+use rules::Refusal;
+
+// The pattern of -1.
+const MINUS_ONE: u32 = 4294967295;
+
+// Grounds 1 to 7.
+pub fn ground_number(ground: Ground) -> u32
+    ensures { λ r. ⌜ r ≡ groundNumber ground ⌝ }
+    ensures { λ r. ⌜ r ≤ 8 ⌝ }
+{
+    match ground {
+        Ground::Lines => 1,
+        Ground::Field => 2,
+        Ground::Header => 3,
+        Ground::Total => 3,
+        Ground::Kind => 3,
+        Ground::Sums => 3,
+        Ground::Range => 4,
+        Ground::Types => 5,
+        Ground::Unwritten => 6,
+        Ground::Unreachable => 7,
+    }
+}
+
+// Grounds 8 to 14.
+pub fn refusal_of(refusal: Refusal) -> u32
+    ensures { λ r. ⌜ r ≡ refusalNumber refusal ⌝ }
+{
+    match refusal {
+        Refusal::Length => 8,
+        Refusal::Table => 9,
+        Refusal::State => 10,
+        Refusal::Thread => 11,
+        Refusal::Port => 12,
+        Refusal::ThreadRow => 13,
+        Refusal::ChannelRow => 14,
+    }
+}
+
+// Of a step: the act, the branch, and the partner or child.
+pub fn act_number(deed: Deed) -> u32
+    ensures { λ r. ⌜ r ≡ actNumber deed ⌝ }
+{
+    match deed {
+        Deed::Ended => 0,
+        Deed::Called => 1,
+        Deed::Waited => 2,
+        Deed::Took(_) => 3,
+        Deed::TookWith(_, _) => 3,
+    }
+}
+
+pub fn branch_number(deed: Deed) -> u32
+    ensures { λ r. ⌜ r ≡ branchNumber deed ⌝ }
+{
+    match deed {
+        Deed::Ended => 0,
+        Deed::Called => 0,
+        Deed::Waited => 0,
+        Deed::Took(i) => i,
+        Deed::TookWith(i, _) => i,
+    }
+}
+
+pub fn partner_number(deed: Deed) -> u32
+    ensures { λ r. ⌜ r ≡ partnerNumber deed ⌝ }
+{
+    match deed {
+        Deed::Ended => MINUS_ONE,
+        Deed::Called => MINUS_ONE,
+        Deed::Waited => MINUS_ONE,
+        Deed::Took(_) => MINUS_ONE,
+        Deed::TookWith(_, u) => u,
+    }
+}
+
+// Of a run: the reason, and the thread held up.
+pub fn reason_number(reason: Reason) -> u32
+    ensures { λ r. ⌜ r ≡ reasonNumber reason ⌝ }
+{
+    match reason {
+        Reason::AllDone => 0,
+        Reason::NoneReady => 1,
+        Reason::LackedThread(_) => 2,
+        Reason::LackedChannel(_) => 3,
+    }
+}
+
+pub fn held_up_number(reason: Reason) -> u32
+    ensures { λ r. ⌜ r ≡ heldUpNumber reason ⌝ }
+{
+    match reason {
+        Reason::AllDone => MINUS_ONE,
+        Reason::NoneReady => MINUS_ONE,
+        Reason::LackedThread(t) => t,
+        Reason::LackedChannel(t) => t,
+    }
+}

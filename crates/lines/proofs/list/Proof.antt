@@ -1,0 +1,20 @@
+use Rattle.lines.specs.Laying.Whole.{length-never, done-accepted, run-fits, run-front, run-rest, refusal-fits, refusal-front, refusal-rest}
+use borrow.Author.Needs.{needs}
+use Rattle.lines.proofs.list.Statement.{statement}
+use Rattle.lines.proofs.list.Tie as tie
+
+pub list-spec : {M : Type 1} → statement M
+list-spec =
+    tie.close
+    (tie.spec
+    (λ c. search needs)
+    (λ c κs. search needs)
+    (λ c. search needs)
+    (λ c κs. search needs)
+    (λ c. search needs)
+    (λ c. search needs)
+    (λ c κs. (search done-accepted, search needs))
+    (λ c. search needs)
+    (λ c. (search refusal-fits, (search refusal-front, search refusal-rest)))
+    (λ c. (search run-fits, (search run-front, search run-rest)))
+    (λ c. absurd (search length-never)))
