@@ -1,6 +1,6 @@
 #!/usr/bin/env bash
 # The interface as a C program meets it: the header, the tests in load.c and cases.c, the stack that the
-# calls take, the example program, and ./run.
+# calls take, and the example program.
 set -euo pipefail
 root=$(cd "$(dirname "$0")/../.." && pwd)
 source "$root/tests/counted.sh"
@@ -33,7 +33,6 @@ prints() {
     "$@" >"$scratch/printed" && diff "$file" "$scratch/printed"
 }
 
-head -c 72 examples/doubler.txt >"$scratch/short.txt"
 sed '5s/     1/     9/' examples/doubler.txt >"$scratch/range.txt"
 
 check "header in C99" header_alone gcc -std=c99 -x c
@@ -58,10 +57,4 @@ check "bench_hour.c under valgrind" prints examples/bench_hour.out \
     under_valgrind target/c/bench_hour examples/units.txt
 check "bench_hour.c on a slot of no type" says 1 "load: refused, ground 4, line 5:" \
     target/c/bench_hour "$scratch/range.txt"
-
-check "./run on a right file" says 0 "accepted: 1 types, 2 definitions, 7 slots, 6 nodes, 4 branches, 2 ports" \
-    ./run examples/doubler.txt
-check "./run on 72 bytes" says 1 "refused: ground 1:" ./run "$scratch/short.txt"
-check "./run on a slot of no type" says 1 "refused: ground 4, line 5:" ./run "$scratch/range.txt"
-check "./run without such a file" says 2 "" ./run "$scratch/none.txt"
 close_checks

@@ -286,7 +286,7 @@ fn list_table(table: &[u8], out: &mut [u8]) -> usize
 
 // The listing of a file, at the front of a buffer. Answers how many characters it has; what stands behind them in the buffer stays.
 pub fn list(file: &[u8], out: &mut [u8; LONGEST]) -> usize
-    ensures { λ r. ⌜ r ≤ longest ⌝ }
+    ensures { λ r. ⌜ r ≡ length (listing (now (file .entry))) ⌝ }
     ensures { λ r. ⌜ take r (now (out .exit)) ≡ listing (now (file .entry)) ⌝ }
     ensures { λ r. ⌜ drop r (now (out .exit)) ≡ drop r (now (out .entry)) ⌝ }
 {

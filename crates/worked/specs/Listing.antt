@@ -1,71 +1,51 @@
--- Document 01's listing, worked from its table by the definitions alone: the steps with their threads, nodes, acts, branches and partners, and why the
--- run ends. Assumes nothing.
-use Prim.Native.Nat.{ℕ, zero, suc}
+-- Document 01's listing, worked from its file by the definitions alone. Assumes nothing.
+use Prim.Native.Nat.{ℕ}
 use mathlib.Core.Path.{_≡_, refl}
+use mathlib.Core.Bool.{true}
 use mathlib.Core.List.{List, [], _∷_}
-use Rattle.numbers.specs.Count.{bit, count}
-use Rattle.numbers.specs.Search.{some, computing}
-use Rattle.numbers.specs.Signed.{lower, sum, difference, widened}
+use Rattle.numbers.specs.Bytes.{joined}
+use Rattle.text.specs.Text.{figuresBy, figures, numeral, rightJustified, text, fileText}
 use Rattle.table.specs.Table.{Table}
-use Rattle.table.specs.Layout.{blocks, lines, branchCount, size, start, endsPast, owner}
-use Rattle.state.specs.State.{State, minusOne, thread, standsAt, withMark, withThread, withChannel, withChannels}
-use Rattle.rules.specs.Program.{typeAt, channelSlot, blank, branchAt, nextOf, childOf, actOf, guardHolds, assigned, opposite, same}
-use Rattle.rules.specs.Holding.{hasAt, holds, holders, waiters, countOf, channelRow, recount, settled}
-use Rattle.rules.specs.Start.{entered, portRow, started}
-use Rattle.rules.specs.Offers.{meets?, offersIn, offersAt, offeringBranch, offers, answers, answering, partnerOf}
-use Rattle.rules.specs.Moves.{firstFrom, around, oneUp, isFreeThread, isFreeChannel, freeThread, freeChannel, meeting, creation, spawning, goesAhead, actMove, branchMove, ahead, choice, move, resumed, waitingRow, stored, met, gone, sideOf, typed, goneBy, createdBy, metBy, valueBy, typeBy, spawnedBy, written, perform}
-use Rattle.rules.specs.Calls.{stepAnswer, isReadyThread, nextReady, pastTurn, turnBy, turnEnd, takeTurn, oneMore, onward, courseOf}
-use Rattle.rules.specs.declared.Stepped.{Stepped}
-use Rattle.rules.specs.declared.Stepped.the-variants as Stepped
-use Rattle.rules.specs.declared.Turn.{Turn}
-use Rattle.rules.specs.declared.Turn.the-variants.{Went, Stopped}
-use Rattle.loading.specs.Examples.{inputRows, header, definition, setting}
+use Rattle.rules.specs.Calls.{stepAnswer}
 use Rattle.engine.specs.Numbers.{actNumber, branchNumber, partnerNumber, reasonNumber, heldUpNumber}
+use Rattle.loading.specs.Examples.{inputRows, header, definition, setting}
+use Rattle.loading.specs.Printed.{filledUp}
+use Rattle.collector_laws.specs.Computing.{collecting}
+use Rattle.cases.specs.Files.{inOrder, rows-load, judging}
+use Rattle.lines.specs.Listing.{characters, column, line, heading, stepLine, channelsInUse, turnLine, stepLines, closingLine, takenLine, takenLines, runLines, listingBy, listing}
 
--- opens all that a run computes with
-unfoldable pub machine : Unit {0}
-unfolding computing some bit count lower sum difference widened blocks lines branchCount size start endsPast owner withMark withThread withChannel withChannels typeAt channelSlot blank branchAt nextOf childOf actOf guardHolds assigned opposite same hasAt holds holders waiters countOf channelRow recount settled entered portRow started meets? offersIn offersAt offeringBranch offers answers answering partnerOf firstFrom around oneUp isFreeThread isFreeChannel freeThread freeChannel meeting creation spawning goesAhead actMove branchMove ahead choice move resumed waitingRow stored met gone sideOf typed goneBy createdBy metBy valueBy typeBy spawnedBy written perform stepAnswer isReadyThread nextReady pastTurn turnBy turnEnd takeTurn oneMore onward courseOf actNumber branchNumber partnerNumber reasonNumber heldUpNumber
-machine = tt
-
--- ---- a listing: for each step its thread, node, act, branch and partner or child
-
--- a step that is refused has no line
-unfoldable pub line : ℕ → Stepped → List (List ℕ) → List (List ℕ)
-line t (Stepped.Done n d) rest = (t ∷ n ∷ actNumber d ∷ branchNumber d ∷ partnerNumber d ∷ []) ∷ rest
-line t (Stepped.Refused r) rest = rest
-
-unfoldable pub following : Turn → List (List ℕ) → List (List ℕ)
-following Went rest = rest
-following (Stopped r) rest = []
-
-module _ (tb : Table) where
-  unfoldable pub listing : ℕ → State → List (List ℕ)
-  listing zero s = []
-  listing (suc n) s =
-      following (takeTurn tb s .turn)
-      (line (nextReady s) (stepAnswer (standsAt (thread s (nextReady s))) (move tb s (nextReady s))) (listing n (takeTurn tb s .state)))
-
--- ---- the example
+-- opens all that a listing computes with
+unfoldable pub listingsCompute : Unit {0}
+unfolding collecting joined figuresBy figures numeral rightJustified text stepAnswer actNumber branchNumber partnerNumber reasonNumber heldUpNumber characters column line heading stepLine channelsInUse turnLine stepLines closingLine takenLine takenLines runLines
+listingsCompute = tt
 
 -- the rows of the file that `loading/specs/Examples.antt` loads
 abbrev pub example : Table
 example = inputRows header definition setting
 
-pub example-listing : listing example 1000 (started example) ≡
-    (0 ∷ 0 ∷ 3 ∷ 0 ∷ minusOne ∷ [])
-    ∷ (0 ∷ 1 ∷ 3 ∷ 0 ∷ 1 ∷ [])
-    ∷ (1 ∷ 4 ∷ 2 ∷ 0 ∷ minusOne ∷ [])
-    ∷ (0 ∷ 2 ∷ 3 ∷ 0 ∷ minusOne ∷ [])
-    ∷ (0 ∷ 3 ∷ 3 ∷ 0 ∷ 1 ∷ [])
-    ∷ (1 ∷ 5 ∷ 0 ∷ 0 ∷ minusOne ∷ [])
-    ∷ (0 ∷ 5 ∷ 0 ∷ 0 ∷ minusOne ∷ [])
-    ∷ []
-unfolding machine line following listing
-example-listing = refl
+-- its listing
+abbrev pub printed : List ℕ
+printed = joined (
+    characters "  STEPTHREAD  NODE   ACTBRANCH  WITH\n"
+    ∷ characters "     1     0     0     3     0    -1\n"
+    ∷ characters "     2     0     1     3     0     1\n"
+    ∷ characters "     3     1     4     2     0    -1\n"
+    ∷ characters "     4     0     2     3     0    -1\n"
+    ∷ characters "     5     0     3     3     0     1\n"
+    ∷ characters "     6     1     5     0     0    -1\n"
+    ∷ characters "     7     0     5     0     0    -1\n"
+    ∷ characters "     7     1    -1     0     0\n"
+    ∷ [])
 
--- seven steps; no thread is ready any more, and none was held up
-pub example-ends : (courseOf example 1000 (started example) .steps ≡ 7)
-    × (reasonNumber (courseOf example 1000 (started example) .reason) ≡ 1)
-    × (heldUpNumber (courseOf example 1000 (started example) .reason) ≡ minusOne)
-unfolding machine
-example-ends = (refl, refl, refl)
+example-in-order : inOrder example ≡ true
+unfolding judging
+example-in-order = refl
+
+example-run : runLines (filledUp example) ≡ printed
+unfolding listingsCompute
+example-run = refl
+
+-- the file's listing is that, character by character
+pub example-listing : listing (fileText example) ≡ printed
+unfolding listing listingBy
+example-listing = let l = rows-load example example-in-order in rw (l .0, l .1) example-run

@@ -1,4 +1,4 @@
-use Rattle.lines.specs.Laying.Whole.{length-never, done-accepted, run-fits, run-front, run-rest, refusal-fits, refusal-front, refusal-rest}
+use Rattle.lines.specs.Laying.Whole.{length-never, done-accepted, run-counts, run-front, run-rest, refusal-counts, refusal-front, refusal-rest}
 use borrow.Author.Needs.{needs}
 use Rattle.lines.proofs.list.Statement.{statement}
 use Rattle.lines.proofs.list.Tie as tie
@@ -15,6 +15,6 @@ list-spec =
     (λ c. search needs)
     (λ c κs. (search done-accepted, search needs))
     (λ c. search needs)
-    (λ c. (search refusal-fits, (search refusal-front, search refusal-rest)))
-    (λ c. (search run-fits, (search run-front, search run-rest)))
+    (λ c. (search refusal-counts, (search refusal-front, search refusal-rest)))
+    (λ c. (search run-counts, (search run-front, search run-rest)))
     (λ c. absurd (search length-never)))

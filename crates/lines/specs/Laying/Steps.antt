@@ -83,7 +83,7 @@ module _ (tb : Table) (s : State) where
   unfolding shown
   turn-left l p k r = refl
 
-  end-turn : (t : ℕ) (w : Turn) → turnEnd tb s t w .turn ≡ w
+  pub end-turn : (t : ℕ) (w : Turn) → turnEnd tb s t w .turn ≡ w
   unfolding turnEnd
   end-turn t Went = refl
   end-turn t (Stopped r) = refl
@@ -136,7 +136,7 @@ module _ (tb : Table) (s : State) where
   unfolding linesTo joined
   none-long = rw (tabulate-none (λ i. turnLine tb (suc i) (courseOf tb i s .state)))
 
-  come-state : (i : ℕ) (s₁ : State) → Come tb s i s₁ → courseOf tb i s .state ≡ s₁
+  pub come-state : (i : ℕ) (s₁ : State) → Come tb s i s₁ → courseOf tb i s .state ≡ s₁
   unfolding Come
   come-state i s₁ f = ap (λ (k : Course). k .state) (course-all tb i s i s₁ (f i (omega arith)) refl)
 

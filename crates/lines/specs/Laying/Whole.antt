@@ -70,7 +70,7 @@ unfolding onward oneMore
 onward-few n f h Went s = omega (arith, h s)
 onward-few n f h (Stopped r) s = omega arith
 
-course-few : (tb : Table) (n : ℕ) (s : State) → courseOf tb n s .steps ≤ n
+pub course-few : (tb : Table) (n : ℕ) (s : State) → courseOf tb n s .steps ≤ n
 unfolding courseOf
 course-few tb zero s = omega arith
 course-few tb (suc n) s = onward-few n (courseOf tb n) (course-few tb n) (takeTurn tb s .turn) (takeTurn tb s .state)
@@ -155,14 +155,17 @@ listing-short file = go (verdict file)
 -- ---- the buffer o before, and o₁ with the listing laid at its front, r characters
 
 module _ (file o o₁ : List ℕ) (r : ℕ) (long : length o ≡ longest) (vs : List ℕ) (e : vs ≡ listing file) (f : r ≡ length vs) (g : o₁ ≡ sets o 0 vs) where
-  fits : r ≤ longest
-  fits = rw (f, e) (listing-short file)
+  counts : r ≡ length (listing file)
+  counts = f ∙ ap length e
+
+  fits : length vs ≤ length o
+  fits = omega (arith, listing-short file, counts)
 
   front : take r o₁ ≡ listing file
-  front = rw (f, g) (take-sets o vs (omega (arith, fits)) ∙ e)
+  front = rw (f, g) (take-sets o vs fits ∙ e)
 
   rest : drop r o₁ ≡ drop r o
-  rest = rw (f, g) (drop-sets o vs (omega (arith, fits)))
+  rest = rw (f, g) (drop-sets o vs fits)
 
 -- ---- a file
 
@@ -212,8 +215,8 @@ module _ (file b : List ℕ) where
     -- o: the buffer before, o₁: with the listing laid at its front, r: the length of the listing
     module _ (o o₁ : List ℕ) (r : ℕ) (long : length o ≡ longest) where
       module _ (h : a ≡ Done) (f : r ≡ length (runLines (tableOf b₁))) (g : o₁ ≡ sets o 0 (runLines (tableOf b₁))) where
-        pub run-fits : r ≤ longest
-        run-fits = fits file o o₁ r long _ (done-lists h) f g
+        pub run-counts : r ≡ length (listing file)
+        run-counts = counts file o o₁ r long _ (done-lists h) f g
 
         pub run-front : take r o₁ ≡ listing file
         run-front = front file o o₁ r long _ (done-lists h) f g
@@ -222,8 +225,8 @@ module _ (file b : List ℕ) where
         run-rest = rest file o o₁ r long _ (done-lists h) f g
 
       module _ (x : Ground) (l : ℕ) (h : a ≡ FileRefused x l) (f : r ≡ length (line (groundNumber x ∷ l ∷ []))) (g : o₁ ≡ sets o 0 (line (groundNumber x ∷ l ∷ []))) where
-        pub refusal-fits : r ≤ longest
-        refusal-fits = fits file o o₁ r long _ (refused-lists x l h) f g
+        pub refusal-counts : r ≡ length (listing file)
+        refusal-counts = counts file o o₁ r long _ (refused-lists x l h) f g
 
         pub refusal-front : take r o₁ ≡ listing file
         refusal-front = front file o o₁ r long _ (refused-lists x l h) f g
