@@ -242,15 +242,11 @@ fn list_end(
 {
     let before = *state;
     let count = collector::collect_in(table, index, state);
-    let reason = run.reason;
-    let held_up = answers::held_up_number(reason);
-    let row = [
-        run.steps,
-        answers::reason_number(reason),
-        held_up,
-        count,
-        channels_in_use(state),
-    ];
+    let why = run.reason;
+    let reason = answers::reason_number(why);
+    let held_up = answers::held_up_number(why);
+    let used = channels_in_use(state);
+    let row = [run.steps, reason, held_up, count, used];
     let end = put_line(out, STEP + run.steps as usize * STEP, &row);
     list_gone(out, end, &before, state)
 }

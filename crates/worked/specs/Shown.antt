@@ -283,15 +283,23 @@ module _ (file : List ℕ) (e : verdict file ≡ Verdict.Sound) where
   pub closing-shown :
       AllShown (run .steps ∷ reasonNumber (run .reason) ∷ heldUpNumber (run .reason) ∷ takenCount tb (run .state) ∷ channelsInUse (collected tb (run .state)) ∷ [])
   unfolding AllShown takenCount channelsInUse
-  closing-shown =
-      (low (run .steps) (omega (arith, course-few tb maxSteps (started tb))),
-      (low (reasonNumber (run .reason)) (reason-low (run .reason)),
-      (held-shown tb maxSteps (started tb),
-      (low (takenCount tb (run .state)) (omega (arith, bits-few (taken tb (run .state)) maxThreads)),
-      (low (channelsInUse (collected tb (run .state))) (omega (arith, bits-few (λ c. not (isFreeChannel (collected tb (run .state)) c)) maxChannels)), tt)))))
+  closing-shown = (
+    low (run .steps) (omega (arith, course-few tb maxSteps (started tb))),
+    (
+      low (reasonNumber (run .reason)) (reason-low (run .reason)),
+      (
+        held-shown tb maxSteps (started tb),
+        (
+          low (takenCount tb (run .state)) (omega (arith, bits-few (taken tb (run .state)) maxThreads)),
+          (low (channelsInUse (collected tb (run .state))) (omega (arith, bits-few (λ c. not (isFreeChannel (collected tb (run .state)) c)) maxChannels)), tt),
+        ),
+      ),
+    ),
+  )
 
   pub taken-shown : (t : ℕ) → t < maxThreads → taken tb (run .state) t ≡ true → AllShown (t ∷ standsAt (thread (run .state) t) ∷ [])
   unfolding AllShown
-  taken-shown t l u =
-      (low t (omega arith),
-      (low (standsAt (thread (run .state) t)) (node-low tb grants few-branches (run .state) (sound-after maxSteps) t l (taken-iff tb (run .state) t .0 u .0)), tt))
+  taken-shown t l u = (
+    low t (omega arith),
+    (low (standsAt (thread (run .state) t)) (node-low tb grants few-branches (run .state) (sound-after maxSteps) t l (taken-iff tb (run .state) t .0 u .0)), tt),
+  )
