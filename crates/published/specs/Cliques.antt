@@ -17,6 +17,7 @@ use Rattle.published.specs.Syntax.{Process, end, waiting}
 use Rattle.published.specs.Agents.{_∈_, Commitment, channelOf, Thread, thread, Channels, Agent, agent, nth, knows, globalrc, Commits}
 use Rattle.published.specs.Rules.{Rearranged, none-left, same-first, twice, Reduces, stuck, exchange}
 use Rattle.published.specs.Enabling.{Enabled, active, awoken, Disabled, enabled-in}
+use Rattle.published.specs.Bindings.{or-elim, or-second}
 use Rattle.published.specs.Lists.{in-nth, nth-in, same-order, to-front, turned-back, unknown, none-knows}
 
 -- ---- the places of a product of two parts
@@ -88,14 +89,6 @@ module _ (def : ℕ → Process) (More : Agent → Agent → Type 0) (Δ : Chann
     proposition-4 = stuck A B part-waits part-unknown
 
 -- ---- the enabled threads, computed by rounds of marks
-
-or-elim : (a b : Bool) → (a || b) ≡ true → (a ≡ true) ⊎ (b ≡ true)
-or-elim true b e = inl refl
-or-elim false b e = inr e
-
-or-second : (a b : Bool) → b ≡ true → (a || b) ≡ true
-or-second true b e = refl
-or-second false b e = e
 
 unfoldable pub anyOf : (Commitment → Bool) → List Commitment → Bool
 anyOf p [] = false

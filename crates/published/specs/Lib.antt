@@ -2,6 +2,7 @@ pub mod Syntax
 pub mod Agents
 pub mod Rules
 pub mod Enabling
+pub mod Bindings
 pub mod Lists
 pub mod Polarity
 pub mod Chain

@@ -1,0 +1,6 @@
+pub mod Standing
+pub mod Readable
+pub mod Unrolled
+pub mod Environments
+pub mod Products
+pub mod Reclaims
