@@ -4,3 +4,5 @@ pub mod Unrolled
 pub mod Environments
 pub mod Products
 pub mod Reclaims
+pub mod Commitments
+pub mod Passing

@@ -1,0 +1,214 @@
+-- How a ready thread at a choice passes over the branches that do not go ahead: by (next) where the guard is false, by (out) and (in) where nobody answers; and
+-- where no branch goes ahead, by (out), (in) and skip to the last. Assumes nothing but what the table grants.
+use Prim.Native.Nat.{ℕ, zero, suc, _+_, _<_, _≤_}
+use native.Mathlib.Omega.{arith}
+use mathlib.Core.Path.{_≡_, refl, sym, _∙_, ap}
+use mathlib.Core.Logic.{inl, inr, ⊎-elim, _≢_}
+use mathlib.Core.Bool.{true, false, cond}
+use mathlib.Core.List.{List, [], _∷_, _++_, append-nil, append-assoc}
+use mathlib.Core.Option.{some}
+use lib.Dec.{ltb, eqb}
+use lib.ListN.{length, getD, set, length-set}
+use lib.Seq.{getD-set-same, getD-set-other}
+use borrow.Author.Tests.{eqb-true, eqb-false}
+use Rattle.numbers.specs.Search.Laws.{caseB, contra}
+use Rattle.table.specs.Table.{Table}
+use Rattle.table.specs.Layout.{branchCount, definitionOf, slotType}
+use Rattle.state.specs.State.{State, maxThreads, maxChannels, thread, standsAt, slotOf, inUse, isReady, typeIn}
+use Rattle.rules.specs.Program.{branchAt, nextOf, childOf, fieldA, fieldB, actOf, guardHolds, opposite}
+use Rattle.rules.specs.Start.{freeRow}
+use Rattle.rules.specs.Offers.{offers, partnerOf}
+use Rattle.rules.specs.Moves.{freeThread, freeChannel, meeting, creation, spawning, goesAhead, actMove, branchMove, ahead}
+use Rattle.rules.specs.declared.Direction.{Direction}
+use Rattle.rules.specs.declared.Direction.the-variants.{Out, In}
+use Rattle.rules.specs.declared.Act.{Act}
+use Rattle.rules.specs.declared.Act.the-variants.{Tau, Meeting, New, Spawn, Assignment}
+use Rattle.rules.specs.declared.Partner.{Partner}
+use Rattle.rules.specs.declared.Partner.the-variants.{Nobody, At}
+use Rattle.granted.specs.Granted.{Granted}
+use Rattle.engine_laws.specs.Reading.Laws.{ready-used, holds-elim}
+use Rattle.engine_laws.specs.Sound.{RowSound, Orderly}
+use Rattle.engine_laws.specs.Chosen.{channelBy, nobody-answers}
+use Rattle.engine_laws.specs.Meetings.{meets-by}
+use Rattle.engine_laws.specs.Channels.{on-held}
+use Rattle.published.specs.Syntax.{Process, choice, Sum, branch, andWait, waits}
+use Rattle.published.specs.Agents as Agents
+use Rattle.published.specs.Agents.{_∈_, Env, look, Commitment, gives, takes, Thread, Channels, Agent, agent}
+use Rattle.published.specs.Rules.{Reduces, next, out, inn, more, Reaches, stays, goes, Ours, skip}
+use Rattle.published_laws.specs.Readable.{Readable}
+use Rattle.published_laws.specs.Standing.{guardOf, prefixOf, sumBefore, processAt, bodyOf, envOf, committed, commitmentsFrom, threadOf, threadsOf}
+use Rattle.published_laws.specs.Unrolled.{wait-behind, one-more-wait}
+use Rattle.published_laws.specs.Environments.{channel-value, look-filled, guard-same}
+use Rattle.published_laws.specs.Products.{Bench, row-of}
+use Rattle.published_laws.specs.Commitments.{pledge, pledge-offers}
+
+-- ---- a branch that does not go ahead
+
+module _ (tb : Table) (s : State) (t : ℕ) where
+  -- no other thread offers d on channel c
+  abbrev pub Unanswered : Direction → ℕ → Type 0
+  Unanswered d c = (u : ℕ) → u < maxThreads → u ≢ t → offers tb (thread s u) d c ≡ false
+
+  -- its guard is false, or it is a meeting that nobody answers
+  pub data Passed (i : ℕ) : Type 0 where
+    closed : guardHolds tb (branchAt tb (standsAt (thread s t)) i) (thread s t) ≡ false → Passed i
+    unmet : (d : Direction) → guardHolds tb (branchAt tb (standsAt (thread s t)) i) (thread s t) ≡ true
+        → actOf tb (branchAt tb (standsAt (thread s t)) i) ≡ Meeting d → Unanswered (opposite d) (channelBy tb s t i) → Passed i
+
+  meeting-waits : (i : ℕ) (p : Partner) → goesAhead (meeting i p) ≡ false → p ≡ Nobody
+  unfolding meeting goesAhead
+  meeting-waits i Nobody e = refl
+  meeting-waits i (At u j) e = contra refl e
+
+  act-waits : (i : ℕ) (a : Act) → goesAhead (actMove tb s t i a) ≡ false
+      → (d : Direction) × (a ≡ Meeting d) × (partnerOf tb s t (opposite d) (channelBy tb s t i) ≡ Nobody)
+  unfolding actMove goesAhead creation spawning
+  act-waits i Tau e = contra refl e
+  act-waits i (Meeting d) e = (d, refl, meeting-waits i (partnerOf tb s t (opposite d) (channelBy tb s t i)) e)
+  act-waits i New e = caseB (ltb (freeChannel s) maxChannels) (λ y. contra refl (rw y at e)) (λ y. contra refl (rw y at e))
+  act-waits i Spawn e = caseB (ltb (freeThread s) maxThreads) (λ y. contra refl (rw y at e)) (λ y. contra refl (rw y at e))
+  act-waits i Assignment e = contra refl e
+
+  pub passed : (i : ℕ) → ahead tb s t i ≡ false → Passed i
+  unfolding ahead branchMove
+  passed i e =
+      let r = branchAt tb (standsAt (thread s t)) i in
+      caseB (guardHolds tb r (thread s t))
+      (λ y. let (d, q, p) = act-waits i (actOf tb r) (rw y at e) in unmet d y q (nobody-answers tb s t (opposite d) (channelBy tb s t i) p))
+      (λ y. closed y)
+
+module _ (tb : Table) (g : Granted tb) (rd : Readable tb) (s : State) (o : Orderly tb s) (t : ℕ) (l : t < maxThreads) (ready : isReady (thread s t) ≡ true)
+    (b : Thread) (bn : Bench tb b) where
+  -- the bench and the threads but t
+  unfoldable pub others : List Thread
+  others = b ∷ threadsOf tb (set (s .threads) t freeRow)
+
+  used : inUse (thread s t) ≡ true
+  used = ready-used (thread s t) ready
+
+  sound : RowSound tb (typeIn s) (thread s t)
+  sound = o .row t l
+
+  -- a commitment of one of them is an offer
+  rows-silent : (d : Direction) (c : ℕ) → c < maxChannels → Unanswered tb s t d c → (x : Thread) → x ∈ threadsOf tb (set (s .threads) t freeRow)
+      → (v : ℕ) (S : Process) → pledge d c v S ∈ x .commitments → ⊥
+  rows-silent d c m f x i v S k =
+      let rows = s .threads in
+      let (u, b, y, q) = row-of tb x (set rows t freeRow) i in
+      let k′ : pledge d c v S ∈ threadOf tb (getD (set rows t freeRow) u []) .commitments = rw q at k in
+      let in-rows : u < maxThreads = omega (arith, length-set rows t freeRow, o .shaped .all-threads) in
+      caseB (eqb u t)
+      (λ z. let e : u ≡ t = eqb-true u t z in
+      let w : getD (set rows t freeRow) u [] ≡ freeRow = rw e (getD-set-same rows t freeRow [] (rw (o .shaped .all-threads) l)) in
+      contra (rw w at y) refl)
+      (λ z. let e : u ≢ t = eqb-false u t z in
+      let w : getD (set rows t freeRow) u [] ≡ thread s u = getD-set-other rows t u freeRow [] e in
+      contra (pledge-offers tb (thread s u) d c v S (rw w at k′) m) (f u in-rows e))
+
+  others-silent : (d : Direction) (c : ℕ) → c < maxChannels → Unanswered tb s t d c → (x : Thread) → x ∈ others → (v : ℕ) (S : Process) → pledge d c v S ∈ x .commitments → ⊥
+  unfolding others
+  others-silent d c m f x (inl q) v S k = absurd (let h : pledge d c v S ∈ [] = rw (q, bn .uncommitted) at k in h)
+  others-silent d c m f x (inr i) v S k = rows-silent d c m f x i v S k
+
+  -- branch i with the sum q behind it
+  unfoldable pub tip : ℕ → Sum → Sum
+  tip i q =
+      branch (guardOf tb (branchAt tb (standsAt (thread s t)) i))
+      (prefixOf tb (processAt tb (childOf tb (standsAt (thread s t)) (branchAt tb (standsAt (thread s t)) i))) (branchAt tb (standsAt (thread s t)) i)
+      (actOf tb (branchAt tb (standsAt (thread s t)) i)))
+      (processAt tb (nextOf tb (standsAt (thread s t)) (branchAt tb (standsAt (thread s t)) i))) q
+
+  -- the thread with commitments Γ, in the midst of its choice
+  abbrev pub midway : List Commitment → Sum → Thread
+  midway Γ q = Agents.thread Γ (envOf tb (thread s t)) (choice q)
+
+  guard-is : (i : ℕ) → i < branchCount tb (standsAt (thread s t))
+      → Agents.holds (envOf tb (thread s t)) (guardOf tb (branchAt tb (standsAt (thread s t)) i)) ≡ guardHolds tb (branchAt tb (standsAt (thread s t)) i) (thread s t)
+  guard-is i m = guard-same tb g rd (typeIn s) (thread s t) sound used i m
+
+  -- ---- the channel of a meeting
+
+  module _ (i : ℕ) (m : i < branchCount tb (standsAt (thread s t))) (d : Direction) (e : actOf tb (branchAt tb (standsAt (thread s t)) i) ≡ Meeting d) where
+    pub channel-in : channelBy tb s t i < maxChannels
+    channel-in = holds-elim tb (thread s t) (channelBy tb s t i) (on-held tb g (typeIn s) (thread s t) sound used i m d e) .channel-in
+
+    pub channel-is : look (envOf tb (thread s t)) (fieldA tb (branchAt tb (standsAt (thread s t)) i)) ≡ some (Agents.channel (channelBy tb s t i))
+    channel-is =
+        let a = fieldA tb (branchAt tb (standsAt (thread s t)) i) in
+        let x = meets-by tb g (typeIn s) (thread s t) sound used i m d e in
+        look-filled tb g rd (typeIn s) (thread s t) sound used a (x .on-slot)
+        ∙ channel-value (slotType tb (definitionOf tb (standsAt (thread s t))) a) (channelBy tb s t i) (x .on-channel) channel-in
+
+  -- ---- beside threads that are all among the others
+  module _ (B : List Thread) (among : (x : Thread) → x ∈ B → x ∈ others) (Δ : Channels) where
+    -- (out) or (in)
+    commit : (i : ℕ) → i < branchCount tb (standsAt (thread s t)) → (d : Direction) → guardHolds tb (branchAt tb (standsAt (thread s t)) i) (thread s t) ≡ true
+        → actOf tb (branchAt tb (standsAt (thread s t)) i) ≡ Meeting d → Unanswered tb s t (opposite d) (channelBy tb s t i) → (Γ : List Commitment) (q : Sum)
+        → Reduces (bodyOf tb) Ours (agent Δ (midway Γ (tip i q) ∷ B))
+        (agent Δ (midway (Γ ++ committed tb (thread s t) (branchAt tb (standsAt (thread s t)) i) (actOf tb (branchAt tb (standsAt (thread s t)) i))) (andWait q) ∷ B))
+    unfolding tip prefixOf committed opposite pledge
+    commit i m Out y e f Γ q =
+        let c = channel-in i m Out e in
+        rw e (out (channelBy tb s t i) (guard-is i m ∙ y) (channel-is i m Out e) (λ x k z S h. others-silent In (channelBy tb s t i) c f x (among x k) z S h))
+    commit i m In y e f Γ q =
+        let c = channel-in i m In e in
+        rw e (inn (channelBy tb s t i) (guard-is i m ∙ y) (channel-is i m In e) (λ x k z S h. others-silent Out (channelBy tb s t i) c f x (among x k) z S h))
+
+    -- ---- as far as a branch that goes ahead
+
+    -- a first reduction that leaves a thread in the first place, and others after it, to the agent T
+    abbrev pub Leads : Agent → List Commitment → Sum → Type 0
+    Leads T Γ q = (D : Channels) × (h : Thread) × (C : List Thread)
+        × Reduces (bodyOf tb) Ours (agent Δ (midway Γ q ∷ B)) (agent D (h ∷ C)) × Reaches (bodyOf tb) Ours (agent D (h ∷ C)) T
+
+    pub lead : (T : Agent) (k : ℕ) → k < branchCount tb (standsAt (thread s t)) → ((j : ℕ) → j < k → Passed tb s t j)
+        → ((Γ : List Commitment) (q : Sum) → Leads T Γ (tip k q))
+        → (m j i : ℕ) → j < m → k ≡ i + j → (Γ : List Commitment) (q : Sum) → Leads T Γ (sumBefore tb (processAt tb) q (standsAt (thread s t)) i m)
+    unfolding sumBefore tip
+    lead T k b p act zero j i z e Γ q = absurd (omega arith)
+    lead T k b p act (suc m) zero i z e Γ q =
+        let w : k ≡ i = omega arith in rw w at (act Γ (sumBefore tb (processAt tb) q (standsAt (thread s t)) (suc i) m))
+    lead T k b p act (suc m) (suc j) i z e Γ q =
+        pass i (p i (omega arith)) (omega arith) Γ q m (λ Γ′ q′. lead T k b p act m j (suc i) (omega arith) (omega arith) Γ′ q′)
+      where
+        pass : (i : ℕ) → Passed tb s t i → i < branchCount tb (standsAt (thread s t)) → (Γ : List Commitment) (q : Sum) (m : ℕ)
+            → ((Γ : List Commitment) (q : Sum) → Leads T Γ (sumBefore tb (processAt tb) q (standsAt (thread s t)) (suc i) m))
+            → Leads T Γ (tip i (sumBefore tb (processAt tb) q (standsAt (thread s t)) (suc i) m))
+        pass i (closed y) n Γ q m h = let (D, x, C, r, w) = h Γ q in (D, x, C, next (guard-is i n ∙ y) r, w)
+        pass i (unmet d y e f) n Γ q m h =
+            let Q = sumBefore tb (processAt tb) q (standsAt (thread s t)) (suc i) m in
+            let Γ′ = Γ ++ committed tb (thread s t) (branchAt tb (standsAt (thread s t)) i) (actOf tb (branchAt tb (standsAt (thread s t)) i)) in
+            let (D, x, C, r, w) = h Γ′ (andWait q) in
+            let v = wait-behind tb (processAt tb) q (standsAt (thread s t)) (suc i) m in
+            let r′ : Reduces (bodyOf tb) Ours (agent Δ (midway Γ′ (andWait Q) ∷ B)) (agent D (x ∷ C)) = rw v r in
+            (Δ, midway Γ′ (andWait Q), B, commit i n d y e f Γ Q, goes r′ w)
+
+    -- ---- where none goes ahead
+
+    -- what branch i leaves
+    unfoldable pub left-by : ℕ → List Commitment
+    left-by i =
+        cond (guardHolds tb (branchAt tb (standsAt (thread s t)) i) (thread s t))
+        (committed tb (thread s t) (branchAt tb (standsAt (thread s t)) i) (actOf tb (branchAt tb (standsAt (thread s t)) i))) []
+
+    pub pass-one : (i : ℕ) → i < branchCount tb (standsAt (thread s t)) → Passed tb s t i → (Γ : List Commitment) (q : Sum)
+        → Reduces (bodyOf tb) Ours (agent Δ (midway Γ (tip i q) ∷ B)) (agent Δ (midway (Γ ++ left-by i) (andWait q) ∷ B))
+    unfolding left-by tip
+    pass-one i m (closed y) Γ q = rw (y, append-nil Γ) (more (skip (guard-is i m ∙ y)))
+    pass-one i m (unmet d y e f) Γ q = rw y (commit i m d y e f Γ q)
+
+    pub pass-all : (m i : ℕ) → i + m ≡ branchCount tb (standsAt (thread s t)) → ((j : ℕ) → j < branchCount tb (standsAt (thread s t)) → Passed tb s t j) → (Γ : List Commitment)
+        → Reaches (bodyOf tb) Ours (agent Δ (midway Γ (sumBefore tb (processAt tb) (waits i) (standsAt (thread s t)) i m) ∷ B))
+        (agent Δ (midway (Γ ++ commitmentsFrom tb (thread s t) i m) (waits (i + m)) ∷ B))
+    unfolding sumBefore commitmentsFrom left-by tip
+    pass-all zero i e p Γ = let z : i + 0 ≡ i = omega arith in rw (append-nil Γ, z) stays
+    pass-all (suc m) i e p Γ =
+        let n = standsAt (thread s t) in
+        let v = wait-behind tb (processAt tb) (waits i) n (suc i) m in
+        let z : i + suc m ≡ suc i + m = omega arith in
+        let h = pass-all m (suc i) (omega arith) p (Γ ++ left-by i) in
+        let Q = sumBefore tb (processAt tb) (waits i) n (suc i) m in
+        let h′ : Reaches (bodyOf tb) Ours (agent Δ (midway (Γ ++ left-by i) (andWait Q) ∷ B))
+        (agent Δ (midway (Γ ++ (left-by i ++ commitmentsFrom tb (thread s t) (suc i) m)) (waits (i + suc m)) ∷ B)) =
+        rw (v, one-more-wait i, z, ← append-assoc Γ (left-by i) (commitmentsFrom tb (thread s t) (suc i) m)) h in
+        goes (pass-one i (omega arith) (p i (omega arith)) Γ Q) h′
