@@ -6,3 +6,5 @@ pub mod Products
 pub mod Reclaims
 pub mod Commitments
 pub mod Passing
+pub mod Afterwards
+pub mod Alone

@@ -1,0 +1,208 @@
+-- The moves of a thread alone are reductions: an end, a call, a wait, a tau or an assignment, a new channel. Assumes nothing but what the table grants.
+use Prim.Native.Nat.{ℕ, zero, suc, _+_, _<_, _≤_}
+use native.Mathlib.Omega.{arith}
+use mathlib.Core.Path.{_≡_, refl, sym, _∙_, ap, fun-ext}
+use mathlib.Core.Logic.{_⊎_, inl, inr, _≢_}
+use mathlib.Core.Bool.{true, false, cond}
+use mathlib.Core.List.{List, [], _∷_, _++_, map}
+use mathlib.Core.Option.{Option, none, some}
+use lib.Dec.{ltb, eqb}
+use lib.ListN.{length, getD, set, List·getD-map, List·getD-eq-default}
+use borrow.Author.Tests.{ltb-true, ltb-false, lt-ltb, le-ltb, eqb-true, eqb-false, eq-eqb, ne-eqb}
+use Rattle.numbers.specs.Search.{tabulate}
+use Rattle.numbers.specs.Search.Laws.{caseB, contra, getD-tabulate, length-tabulate}
+use Rattle.table.specs.Table.{Table, nodes, parameters, slotCount}
+use Rattle.table.specs.Layout.{start, branchCount, definitionOf, slotType}
+use Rattle.table.specs.declared.Part.the-variants.{Nodes}
+use Rattle.state.specs.State.{State, maxThreads, maxChannels, rowSlots, minusOne, thread, standsAt, slotOf, inUse, isReady, isWaiting, typeIn, withMark, withThread, withChannel}
+use Rattle.rules.specs.Program.{typeAt, kindOf, callee, argument, branchAt, nextOf, childOf, fieldA, actOf, guardHolds}
+use Rattle.rules.specs.Start.{freeRow, entered}
+use Rattle.rules.specs.Moves.{waitingRow, typed, goneBy, createdBy, typeBy, written}
+use Rattle.rules.specs.declared.Act.the-variants.{Tau, New, Spawn, Assignment}
+use Rattle.rules.specs.declared.Move.the-variants.{Ends, Calls, Waits, Goes, Creates}
+use Rattle.granted.specs.Granted.{Granted}
+use Rattle.engine_laws.specs.Reading.Laws.{ready-used, waiting-used}
+use Rattle.engine_laws.specs.Sound.{RowSound, Orderly}
+use Rattle.engine_laws.specs.Rows.{waiting-waits, waiting-node, waiting-slot, waiting-guard}
+use Rattle.engine_laws.specs.Onward.{branching, goneBy-ready, createdBy-ready}
+use Rattle.engine_laws.specs.Replaced.{typed-same, typed-other}
+use Rattle.engine_laws.specs.Chosen.{Open, Creating}
+use Rattle.published.specs.Syntax.{Process, end, choice, invoke, Sum, nothing, andWait, waits}
+use Rattle.published.specs.Agents as Agents
+use Rattle.published.specs.Agents.{_∈_, Value, Env, look, bind, Commitment, Thread, Channels, adding, Agent, agent}
+use Rattle.published.specs.Rules.{Rearranged, same-first, swapped, twice, Reduces, step, new, call, inert, exchange, more, Reaches, stays, goes, one, Ours, assigns, zeros}
+use Rattle.published.specs.Lists.{same-order, turned-back}
+use Rattle.published_laws.specs.Readable.{Readable}
+use Rattle.published_laws.specs.Standing.{guardOf, prefixOf, sumBefore, nodeProcess, processAt, bodyOf, envOf, commitmentsFrom, waitingThread, readyThread, threadOf, threadsOf, channelsOf, agentOf}
+use Rattle.published_laws.specs.Unrolled.{process-at, wait-behind}
+use Rattle.published_laws.specs.Environments.{env-same, guard-same}
+use Rattle.published_laws.specs.Products.{Bench, ready-thread, waiting-thread, stored-first, row-first}
+use Rattle.published_laws.specs.Commitments.{commitments-same}
+use Rattle.published_laws.specs.Passing.{Passed, others, tip, midway, Leads, lead, left-by, pass-one, pass-all}
+use Rattle.published_laws.specs.Afterwards.{tau-thread, assigned-thread, created-thread}
+
+-- reductions between products in another order
+pub exchanged : (def : ℕ → Process) (More : Agent → Agent → Type 0) {A A′ B : List Thread} {Δ : Channels} {C T : Agent} → Rearranged A A′
+    → Reduces def More (agent Δ A′) C → Reaches def More C T → Rearranged (T .threads) B → Reaches def More (agent Δ A) (agent (T .channels) B)
+exchanged def More p r stays q = one def More (exchange p r q)
+exchanged def More p r (goes x w) q = goes (exchange p r (same-order _)) (exchanged def More (same-order _) x w q)
+
+module _ (tb : Table) (g : Granted tb) (rd : Readable tb) (s : State) (o : Orderly tb s) (t : ℕ) (l : t < maxThreads) (ready : isReady (thread s t) ≡ true)
+    (b : Thread) (bn : Bench tb b) where
+  abbrev rest : List Thread
+  rest = others tb g rd s o t l ready b bn
+
+  used : inUse (thread s t) ≡ true
+  used = ready-used (thread s t) ready
+
+  sound : RowSound tb (typeIn s) (thread s t)
+  sound = o .row t l
+
+  inside : t < length (s .threads)
+  inside = rw (o .shaped .all-threads) l
+
+  node-in : standsAt (thread s t) < nodes tb
+  node-in = sound .node-in used
+
+  -- ---- the thread to the front, before and after
+
+  pub own-first : Rearranged (b ∷ threadsOf tb (s .threads)) (readyThread tb (thread s t) ∷ others tb g rd s o t l ready b bn)
+  unfolding others
+  own-first = rw (← ready-thread tb (thread s t) ready) (twice (same-first (row-first tb (s .threads) t inside used)) swapped)
+
+  pub new-first : (row : List ℕ) → inUse row ≡ true → Rearranged (b ∷ threadsOf tb (set (s .threads) t row)) (threadOf tb row ∷ others tb g rd s o t l ready b bn)
+  unfolding others
+  new-first row u = twice (same-first (stored-first tb (s .threads) t row inside u)) swapped
+
+  -- ---- what the thread is about to do
+
+  pub at-choice : kindOf tb (standsAt (thread s t)) ≡ 1
+      → readyThread tb (thread s t)
+      ≡ midway tb g rd s o t l ready b bn [] (sumBefore tb (processAt tb) nothing (standsAt (thread s t)) 0 (branchCount tb (standsAt (thread s t))))
+  unfolding readyThread nodeProcess
+  at-choice e = rw (process-at tb g rd (standsAt (thread s t)) node-in, eq-eqb (kindOf tb (standsAt (thread s t))) 1 e)
+
+  at-call : kindOf tb (standsAt (thread s t)) ≡ 2
+      → readyThread tb (thread s t)
+      ≡ Agents.thread [] (envOf tb (thread s t)) (invoke (callee tb (standsAt (thread s t)))
+      (tabulate (parameters tb (callee tb (standsAt (thread s t)))) (argument tb (standsAt (thread s t)))))
+  unfolding readyThread nodeProcess
+  at-call e = let k = kindOf tb (standsAt (thread s t)) in
+      rw (process-at tb g rd (standsAt (thread s t)) node-in, ne-eqb k 1 (λ q. omega arith), eq-eqb k 2 e)
+
+  at-end : kindOf tb (standsAt (thread s t)) ≢ 1 → kindOf tb (standsAt (thread s t)) ≢ 2 → readyThread tb (thread s t) ≡ Agents.thread [] (envOf tb (thread s t)) end
+  unfolding readyThread nodeProcess
+  at-end m n = let k = kindOf tb (standsAt (thread s t)) in rw (process-at tb g rd (standsAt (thread s t)) node-in, ne-eqb k 1 m, ne-eqb k 2 n)
+
+  -- ---- (inert)
+
+  pub ends-reduced : kindOf tb (standsAt (thread s t)) ≢ 1 → kindOf tb (standsAt (thread s t)) ≢ 2
+      → Reaches (bodyOf tb) Ours (agentOf tb b s) (agentOf tb b (written tb s t Ends))
+  unfolding agentOf channelsOf written withThread others
+  ends-reduced m n = one (bodyOf tb) Ours (exchange (rw (at-end m n) at own-first) inert (same-order rest))
+
+  -- ---- a wait: (out), (in) and skip
+
+  wait-thread : threadOf tb (waitingRow (thread s t))
+      ≡ midway tb g rd s o t l ready b bn (commitmentsFrom tb (thread s t) 0 (branchCount tb (standsAt (thread s t)))) (waits (branchCount tb (standsAt (thread s t))))
+  unfolding waitingThread
+  wait-thread =
+      let row = thread s t in
+      let node = waiting-node row in
+      let slots = waiting-slot row in
+      waiting-thread tb (waitingRow row) (waiting-waits row)
+      ∙ rw (node, env-same tb row (waitingRow row) (rw node) slots,
+      commitments-same tb row (waitingRow row) node slots (waiting-guard row tb) (branchCount tb (standsAt row)) 0)
+
+  waits-by : (n : ℕ) → branchCount tb (standsAt (thread s t)) ≡ n → 0 < n → kindOf tb (standsAt (thread s t)) ≡ 1
+      → ((j : ℕ) → j < branchCount tb (standsAt (thread s t)) → Passed tb s t j)
+      → Reaches (bodyOf tb) Ours (agentOf tb b s) (agentOf tb b (written tb s t Waits))
+  unfolding agentOf channelsOf written withThread sumBefore tip commitmentsFrom left-by andWait waits
+  waits-by zero e z k p = absurd (omega arith)
+  waits-by (suc n) e z k p =
+      let Δ = channelsOf s in
+      let row = thread s t in
+      let q = sumBefore tb (processAt tb) nothing (standsAt row) 1 n in
+      let Γ = left-by tb g rd s o t l ready b bn rest (λ x i. i) Δ 0 in
+      let first = pass-one tb g rd s o t l ready b bn rest (λ x i. i) Δ 0 (omega arith) (p 0 (omega arith)) [] q in
+      let later = pass-all tb g rd s o t l ready b bn rest (λ x i. i) Δ n 1 (omega arith) p Γ in
+      let one-more : 1 + n ≡ suc n = omega arith in
+      let last : Reaches (bodyOf tb) Ours (agent Δ (midway tb g rd s o t l ready b bn Γ (andWait q) ∷ rest)) (agent Δ (threadOf tb (waitingRow row) ∷ rest)) =
+      rw (wait-behind tb (processAt tb) nothing (standsAt row) 1 n, wait-thread, e) (rw one-more at later) in
+      let start : Rearranged (b ∷ threadsOf tb (s .threads)) (midway tb g rd s o t l ready b bn [] (tip tb g rd s o t l ready b bn 0 q) ∷ rest) =
+      rw (at-choice k, e) at own-first in
+      exchanged (bodyOf tb) Ours start first last (turned-back (new-first (waitingRow row) (waiting-used (waitingRow row) (waiting-waits row))))
+
+  pub waits-reduced : kindOf tb (standsAt (thread s t)) ≡ 1 → ((j : ℕ) → j < branchCount tb (standsAt (thread s t)) → Passed tb s t j)
+      → Reaches (bodyOf tb) Ours (agentOf tb b s) (agentOf tb b (written tb s t Waits))
+  waits-reduced k p = waits-by (branchCount tb (standsAt (thread s t))) refl (rd .some-branch (standsAt (thread s t)) node-in k) k p
+
+  -- ---- the first branch that goes ahead is branch k
+
+  module _ (k : ℕ) (kind : kindOf tb (standsAt (thread s t)) ≡ 1) (m : k < branchCount tb (standsAt (thread s t)))
+      (before : (j : ℕ) → j < k → Passed tb s t j) where
+    -- beside the threads B: from a reduction of it, whatever was committed and whatever branches are behind it
+    pub led : (B : List Thread) (T : Agent) (P : List Thread) → Rearranged (others tb g rd s o t l ready b bn) B
+        → (among : (x : Thread) → x ∈ B → x ∈ others tb g rd s o t l ready b bn)
+        → ((Γ : List Commitment) (q : Sum) → Leads tb g rd s o t l ready b bn B among (channelsOf s) T Γ (tip tb g rd s o t l ready b bn k q))
+        → Rearranged (T .threads) P → Reaches (bodyOf tb) Ours (agent (channelsOf s) (b ∷ threadsOf tb (s .threads))) (agent (T .channels) P)
+    led B T P p among act q =
+        let n = standsAt (thread s t) in
+        let z : k ≡ 0 + k = omega arith in
+        let (D, h, C, r, w) = lead tb g rd s o t l ready b bn B among (channelsOf s) T k m before act (branchCount tb n) k 0 m z [] nothing in
+        let start = rw (at-choice kind) at own-first in
+        exchanged (bodyOf tb) Ours (twice start (same-first p)) r w q
+
+    -- it writes the row of the thread alone
+    single : (row : List ℕ) → inUse row ≡ true → (D : Channels)
+        → ((Γ : List Commitment) (q : Sum) → Reduces (bodyOf tb) Ours (agent (channelsOf s) (midway tb g rd s o t l ready b bn Γ (tip tb g rd s o t l ready b bn k q) ∷ rest))
+        (agent D (threadOf tb row ∷ rest)))
+        → Reaches (bodyOf tb) Ours (agent (channelsOf s) (b ∷ threadsOf tb (s .threads))) (agent D (b ∷ threadsOf tb (set (s .threads) t row)))
+    single row u D f =
+        led rest (agent D (threadOf tb row ∷ rest)) (b ∷ threadsOf tb (set (s .threads) t row)) (same-order rest) (λ x i. i)
+        (λ Γ q. (D, threadOf tb row, rest, f Γ q, stays)) (turned-back (new-first row u))
+
+    guard-true : guardHolds tb (branchAt tb (standsAt (thread s t)) k) (thread s t) ≡ true
+        → Agents.holds (envOf tb (thread s t)) (guardOf tb (branchAt tb (standsAt (thread s t)) k)) ≡ true
+    guard-true e = guard-same tb g rd (typeIn s) (thread s t) sound used k m ∙ e
+
+    -- (step)
+    pub tau-reduced : Open tb s t k Tau → Reaches (bodyOf tb) Ours (agentOf tb b s) (agentOf tb b (written tb s t (Goes k)))
+    unfolding agentOf channelsOf written withThread tip prefixOf
+    tau-reduced x =
+        let row = thread s t in
+        single (goneBy tb row k) (ready-used (goneBy tb row k) (goneBy-ready tb row k)) (channelsOf s)
+        (λ Γ q. rw (tau-thread tb g rd (typeIn s) row sound used k m (x .does), x .does) (step (guard-true (x .passes))))
+
+    -- an assignment, document 01's own
+    pub assignment-reduced : Open tb s t k Assignment → Reaches (bodyOf tb) Ours (agentOf tb b s) (agentOf tb b (written tb s t (Goes k)))
+    unfolding agentOf channelsOf written withThread tip prefixOf
+    assignment-reduced x =
+        let row = thread s t in
+        single (goneBy tb row k) (ready-used (goneBy tb row k) (goneBy-ready tb row k)) (channelsOf s)
+        (λ Γ q. rw (assigned-thread tb g rd (typeIn s) row sound used k m (x .does), x .does) (more (assigns (guard-true (x .passes)))))
+
+    -- (new)
+    module _ (c : ℕ) (x : Creating tb s t k c) where
+      type-there : typeBy tb (thread s t) k ≢ 0
+      unfolding typeBy typeAt
+      type-there = branching tb g (typeIn s) (thread s t) sound used k m .creates (x .takes .does) .1
+
+      channels-with : channelsOf (written tb s t (Creates k c)) ≡ adding (channelsOf s) c
+      unfolding channelsOf adding written withMark typed withThread withChannel
+      channels-with =
+          let y = typeBy tb (thread s t) k in
+          fun-ext (λ e. caseB (eqb e c)
+          (λ z. let q : e ≡ c = eqb-true e c z in
+          rw (q, eq-eqb c c refl, typed-same s (o .shaped) c y (x .channel-in), ne-eqb y 0 type-there))
+          (λ z. rw (z, typed-other s (o .shaped) c y (x .channel-in) e (eqb-false e c z))))
+
+      pub creation-reduced : Reaches (bodyOf tb) Ours (agentOf tb b s) (agentOf tb b (written tb s t (Creates k c)))
+      unfolding agentOf channelsOf written withMark typed withThread withChannel tip prefixOf
+      creation-reduced =
+          let row = thread s t in
+          let free : channelsOf s c ≡ false = rw (x .untyped) in
+          rw channels-with
+          (single (createdBy tb row k c) (ready-used (createdBy tb row k c) (createdBy-ready tb row k c)) (adding (channelsOf s) c)
+          (λ Γ q. rw (created-thread tb g rd (typeIn s) row sound used k m (x .takes .does) c (x .channel-in), x .takes .does)
+          (new c (guard-true (x .takes .passes)) free)))
