@@ -82,7 +82,7 @@ module _ (tb : Table) (g : Granted tb) (rd : Readable tb) (s : State) (o : Order
   unfolding readyThread nodeProcess
   at-choice e = rw (process-at tb g rd (standsAt (thread s t)) node-in, eq-eqb (kindOf tb (standsAt (thread s t))) 1 e)
 
-  at-call : kindOf tb (standsAt (thread s t)) ≡ 2
+  pub at-call : kindOf tb (standsAt (thread s t)) ≡ 2
       → readyThread tb (thread s t)
       ≡ Agents.thread [] (envOf tb (thread s t)) (invoke (callee tb (standsAt (thread s t)))
       (tabulate (parameters tb (callee tb (standsAt (thread s t)))) (argument tb (standsAt (thread s t)))))

@@ -8,3 +8,4 @@ pub mod Commitments
 pub mod Passing
 pub mod Afterwards
 pub mod Alone
+pub mod Calling
