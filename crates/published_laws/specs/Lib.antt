@@ -9,3 +9,5 @@ pub mod Passing
 pub mod Afterwards
 pub mod Alone
 pub mod Calling
+pub mod Together
+pub mod Stepping
