@@ -11,3 +11,7 @@ pub mod Alone
 pub mod Calling
 pub mod Together
 pub mod Stepping
+pub mod Outside
+pub mod Places
+pub mod Enabling
+pub mod Collecting

@@ -6,14 +6,13 @@ use mathlib.Core.Logic.{_≢_}
 use mathlib.Core.Bool.{Bool, true, false, not, _&&_, _||_}
 use mathlib.Core.List.{List, [], _∷_}
 use lib.Dec.{ltb, leb, eqb}
-use lib.ListN.{getD, List·getD-eq-default}
+use lib.ListN.{length, getD, List·getD-eq-default}
 use borrow.Author.Tests.{ltb-true, ltb-false, lt-ltb, eqb-true, eqb-false, eq-eqb, ne-eqb, leb-true, leb-false, le-leb, lt-leb}
 use Rattle.numbers.specs.Search.Laws.{caseB, contra}
 use Rattle.table.specs.Table.{Table}
 use Rattle.state.specs.State.{State, maxChannels, typeIn, channel, withChannels}
 use Rattle.rules.specs.Holding.{waiters, countOf, channelRow, settled}
 use Rattle.counts.specs.Upkeep.{settled-length}
-use Rattle.engine_laws.specs.Shape.{Shaped}
 use Rattle.engine_laws.specs.Settle.{settled-row}
 use Rattle.published.specs.Syntax.{Process}
 use Rattle.published.specs.Agents.{Thread, Channels, adding, Agent, agent, globalrc}
@@ -77,9 +76,9 @@ unfolding channelRow
 row-typed ty zero w = caseB (not (eqb ty 0)) (λ y. rw y) (λ y. rw y)
 row-typed ty (suc n) w = rw (lt-ltb 0 (suc n) (omega arith)) (caseB (not (eqb ty 0)) (λ y. rw y) (λ y. rw y))
 
-module _ (tb : Table) (s : State) (h : Shaped s) where
+module _ (tb : Table) (s : State) (all : length (s .channels) ≡ maxChannels) where
   none-past : (c : ℕ) → maxChannels ≤ c → typeIn s c ≡ 0
-  none-past c l = rw (List·getD-eq-default (s .channels) [] {n = c} (omega (arith, h .all-channels)))
+  none-past c l = rw (List·getD-eq-default (s .channels) [] {n = c} (omega (arith, all)))
 
   settled-past : (c : ℕ) → maxChannels ≤ c → typeIn (settled tb s) c ≡ 0
   settled-past c l = rw (List·getD-eq-default (settled tb s .channels) [] {n = c} (omega (arith, settled-length tb s)))

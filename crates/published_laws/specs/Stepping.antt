@@ -131,4 +131,4 @@ module _ (tb : Table) (g : Granted tb) (rd : Readable tb) (s : State) (ok : Soun
   unfolding perform
   step-reduced z =
       reaches-on (bodyOf tb) Ours (move-reduced z)
-      (reclaims tb (written tb s t (move tb s t)) (written-orderly tb g s (ok .orderly) t l ready (move tb s t) (chosen tb s t) .shaped) (bodyOf tb) Ours b bn)
+      (reclaims tb (written tb s t (move tb s t)) (written-orderly tb g s (ok .orderly) t l ready (move tb s t) (chosen tb s t) .shaped .all-channels) (bodyOf tb) Ours b bn)
