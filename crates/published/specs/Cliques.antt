@@ -15,7 +15,7 @@ use Rattle.numbers.specs.Tests.{parts}
 use Rattle.collector.specs.Rounds.{round-all, round-root, round-closed}
 use Rattle.published.specs.Syntax.{Process, end, waiting}
 use Rattle.published.specs.Agents.{_∈_, Commitment, channelOf, Thread, thread, Channels, Agent, agent, nth, knows, globalrc, Commits}
-use Rattle.published.specs.Rules.{Rearranged, none-left, same-first, twice, Reduces, stuck, exchange}
+use Rattle.published.specs.Rules.{Rearranged, none-left, same-first, twice, Sticks, stuck, Reduces, sticks, exchange}
 use Rattle.published.specs.Enabling.{Enabled, active, awoken, Disabled, enabled-in}
 use Rattle.published.specs.Bindings.{or-elim, or-second}
 use Rattle.published.specs.Lists.{in-nth, nth-in, same-order, to-front, turned-back, unknown, none-knows}
@@ -63,7 +63,7 @@ module _ (A : List Thread) (j : ℕ) (l : j < length A) (d : Disabled A j) where
   disabled-unknown ĉ i k e =
       caseB (knows ĉ (nth A k)) (λ h. absurd (d (awoken l disabled-waits ĉ i k (λ q. d (rw q at e)) e h))) (λ n. n)
 
-module _ (def : ℕ → Process) (More : Agent → Agent → Type 0) (Δ : Channels) where
+module _ (Δ : Channels) where
   -- where the threads of A are disabled and those of B enabled, (stuck) takes all of A (the result is printed with Δ′, though the rule leaves Δ)
   module _ (A B : List Thread) (disabled : (j : ℕ) → j < length A → Disabled (A ++ B) j)
       (enabled : (k : ℕ) → length A ≤ k → k < length (A ++ B) → Enabled (A ++ B) k) where
@@ -85,7 +85,7 @@ module _ (def : ℕ → Process) (More : Agent → Agent → Type 0) (Δ : Chann
         (enabled (length A + k) (omega arith) (omega (arith, length-append A B))) in
         rw (getD-append-add A B k (thread [] [] end) ∙ p) at z)
 
-    pub proposition-4 : Reduces def More (agent Δ (A ++ B)) (agent Δ B)
+    pub proposition-4 : Sticks (agent Δ (A ++ B)) (agent Δ B)
     proposition-4 = stuck A B part-waits part-unknown
 
 -- ---- the enabled threads, computed by rounds of marks
@@ -228,7 +228,7 @@ chosen-in q (t ∷ A) (suc j) l y =
 
 -- ---- Proposition 4 where disabled and enabled threads stand in any order, and Proposition 5
 
-module _ (def : ℕ → Process) (More : Agent → Agent → Type 0) (Δ : Channels) (A : List Thread) where
+module _ (Δ : Channels) (A : List Thread) where
   -- q is a test that says which threads are disabled
   module _ (q : ℕ → Bool) (disabled : (j : ℕ) → j < length A → q j ≡ true → Disabled A j)
       (enabled : (k : ℕ) → k < length A → q k ≡ false → Enabled A k) where
@@ -241,11 +241,11 @@ module _ (def : ℕ → Process) (More : Agent → Agent → Type 0) (Δ : Chann
         none-knows ĉ (chosen (λ j. not (q j)) A) (λ u m. let (k, b, z, f) = in-chosen (λ j. not (q j)) A u m in
         rw f at (disabled-unknown A j l (disabled j l y) ĉ (rw e c) k (enabled k b (not-true (q k) z))))
 
-    pub clique : Reduces def More (agent Δ (chosen q A ++ chosen (λ j. not (q j)) A)) (agent Δ (chosen (λ j. not (q j)) A))
+    pub clique : Sticks (agent Δ (chosen q A ++ chosen (λ j. not (q j)) A)) (agent Δ (chosen (λ j. not (q j)) A))
     clique = stuck (chosen q A) (chosen (λ j. not (q j)) A) chosen-waits chosen-unknown
 
-    pub all-at-once : Reduces def More (agent Δ A) (agent Δ (chosen (λ j. not (q j)) A))
-    all-at-once = exchange (parted q A) clique (same-order (chosen (λ j. not (q j)) A))
+    pub all-at-once : (def : ℕ → Process) (More : Agent → Agent → Type 0) → Reduces def More (agent Δ A) (agent Δ (chosen (λ j. not (q j)) A))
+    all-at-once def More = exchange (parted q A) (sticks clique) (same-order (chosen (λ j. not (q j)) A))
 
   unmarked : ℕ → Bool
   unmarked j = not (getD (marks A) j false)
@@ -266,7 +266,7 @@ module _ (def : ℕ → Process) (More : Agent → Agent → Type 0) (Δ : Chann
   pub proposition-5 : (j : ℕ) → j < length A → Disabled A j
       → (C : List Thread) × (R : List Thread) × Rearranged A (C ++ R) × (nth A j ∈ C)
       × ((t : Thread) → t ∈ C → (k : ℕ) × (k < length A) × (nth A k ≡ t) × Disabled A k)
-      × Reduces def More (agent Δ (C ++ R)) (agent Δ R)
+      × Sticks (agent Δ (C ++ R)) (agent Δ R)
   proposition-5 j l d = (
     chosen unmarked A,
     chosen (λ j. not (unmarked j)) A,

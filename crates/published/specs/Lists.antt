@@ -1,4 +1,4 @@
--- Laws on products of threads: who is in one, who is in one in another order, and who knows a channel. Assumes nothing.
+-- Laws on products of threads: who is in one, who is in one in another order, and who knows a channel; and on series of reductions. Assumes nothing.
 use Prim.Native.Nat.{ℕ, zero, suc, _+_, _<_}
 use native.Mathlib.Omega.{arith}
 use mathlib.Core.Path.{_≡_, refl}
@@ -8,8 +8,9 @@ use mathlib.Core.List.{List, [], _∷_, _++_, append-nil}
 use lib.ListN.{length}
 use Rattle.numbers.specs.Count.{bit, count}
 use Rattle.numbers.specs.Search.Laws.{caseB, contra}
-use Rattle.published.specs.Agents.{_∈_, Thread, nth, knows, globalrc}
-use Rattle.published.specs.Rules.{Rearranged, none-left, same-first, swapped, twice}
+use Rattle.published.specs.Syntax.{Process}
+use Rattle.published.specs.Agents.{_∈_, Thread, Channels, Agent, agent, nth, knows, globalrc}
+use Rattle.published.specs.Rules.{Rearranged, none-left, same-first, swapped, twice, Acts, Reclaims, Reduces, acts, reclaims, exchange, Many, stays, goes, Reaches, Turn}
 
 -- ---- one of a list
 
@@ -81,3 +82,28 @@ pub none-knows : (c : ℕ) (A : List Thread) → ((t : Thread) → t ∈ A → k
 unfolding globalrc count bit
 none-knows c [] h = refl
 none-knows c (u ∷ A) h = let q = none-knows c A (λ t i. h t (inr i)) in rw (h u (inl refl)) (omega arith)
+
+-- ---- series of reductions
+
+module _ (R : Agent → Agent → Type 0) where
+  pub many-on : {A B C : Agent} → Many R A B → Many R B C → Many R A C
+  many-on stays q = q
+  many-on (goes r p) q = goes r (many-on p q)
+
+  pub many-by : (S : Agent → Agent → Type 0) → ((A B : Agent) → R A B → S A B) → {A B : Agent} → Many R A B → Many S A B
+  many-by S f stays = stays
+  many-by S f (goes {A} {B} r p) = goes (f A B r) (many-by S f p)
+
+module _ (def : ℕ → Process) (More : Agent → Agent → Type 0) where
+  -- products in another order at the beginning and at the end
+  exchanged : {A A′ B : List Thread} {Δ : Channels} {C T : Agent} → Rearranged A A′ → Acts def More (agent Δ A′) C → Many (Acts def More) C T → Rearranged (T .threads) B
+      → Reaches def More (agent Δ A) (agent (T .channels) B)
+  exchanged p r stays q = goes (exchange p (acts r) q) stays
+  exchanged p r (goes x w) q = goes (exchange p (acts r) (same-order _)) (exchanged (same-order _) x w q)
+
+  -- a turn is a series of reductions
+  pub turn-reaches : (A : Agent) (t : Thread) (B : Agent) → Turn def More A t B → Reaches def More A B
+  turn-reaches A t B h = exchanged (h .brought) (h .first) (h .later) (h .put-back)
+
+pub reclaims-reach : (def : ℕ → Process) (More : Agent → Agent → Type 0) {A B : Agent} → Many Reclaims A B → Reaches def More A B
+reclaims-reach def More p = many-by Reclaims (Reduces def More) (λ A B r. reclaims r) p

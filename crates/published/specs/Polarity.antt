@@ -8,7 +8,7 @@ use mathlib.Core.List.{List, [], _∷_, _++_}
 use lib.ListN.{length}
 use Rattle.published.specs.Syntax.{Process}
 use Rattle.published.specs.Agents.{_∈_, bind, Commitment, gives, takes, Thread, thread, Agent, nth}
-use Rattle.published.specs.Rules.{Rearranged, none-left, same-first, swapped, twice, Reduces, par, step, new, spawn, next, call, inert, send, out, recv, inn, reclaim, stuck, exchange, more, Reaches, stays, goes, Nothing, Ours, skip, assigns, zeros}
+use Rattle.published.specs.Rules.{Rearranged, none-left, same-first, swapped, twice, Acts, step, new, spawn, next, call, inert, send, out, recv, inn, more, Reclaims, reclaim, Sticks, stuck, Reduces, par, acts, reclaims, sticks, exchange, Reaches, stays, goes, Nothing, Ours, skip, assigns, zeros}
 use Rattle.published.specs.Lists.{in-either, in-rearranged, turned-round, nth-in}
 
 -- no output commitment of the one thread is on a channel of an input commitment of the other
@@ -72,27 +72,35 @@ takes-on Γ Γ′ ĉ x P f (a, b) = (
       (λ i. ⊎-elim (λ q. let e : d ≡ ĉ = cc in f w Q (rw e at m)) (λ z. absurd z) i) (in-either (takes d y R) Γ (takes ĉ x P ∷ []) n)),
 )
 
+reclaims-polar : {A B : Agent} → Reclaims A B → Polar (A .threads) → Polar (B .threads)
+reclaims-polar (reclaim ĉ f e) h = h
+
+sticks-polar : {A B : Agent} → Sticks A B → Polar (A .threads) → Polar (B .threads)
+sticks-polar (stuck A B w u) h = polar-rest A B h
+
 -- ---- every rule keeps it, where the further rules do
 
 module _ (def : ℕ → Process) (More : Agent → Agent → Type 0)
     (kept : (A B : Agent) → More A B → Polar (A .threads) → Polar (B .threads)) where
+  acts-polar : {A B : Agent} → Acts def More A B → Polar (A .threads) → Polar (B .threads)
+  acts-polar (step {B = B} g) h = bare B (h .1)
+  acts-polar (new {B = B} ĉ g f) h = bare B (h .1)
+  acts-polar (spawn {δ = δ} {Q = Q} {B = B} g) h = bare (thread [] δ Q ∷ B) (bare B (h .1))
+  acts-polar (next g r) h = acts-polar r h
+  acts-polar (call {B = B} ws e) h = bare B (h .1)
+  acts-polar inert h = h .1
+  acts-polar (send {δ′ = δ} {R = R} {B = B} ĉ x w g c i v) h = bare (thread [] (bind δ x w) R ∷ B) (bare B (h .1 .1))
+  acts-polar (out {Γ = Γ} {v = v} {P = P} ĉ g c f) h = ((λ u i. gives-on Γ (u .commitments) ĉ v P (f u i) (h .0 u i)), h .1)
+  acts-polar (recv {δ′ = δ} {R = R} {B = B} ĉ x w g c i v) h = bare (thread [] δ R ∷ B) (bare B (h .1 .1))
+  acts-polar (inn {Γ = Γ} {x = x} {P = P} ĉ g c f) h = ((λ u i. takes-on Γ (u .commitments) ĉ x P (f u i) (h .0 u i)), h .1)
+  acts-polar (more {A} {B} m) h = kept A B m h
+
   pub polar-kept : {A B : Agent} → Reduces def More A B → Polar (A .threads) → Polar (B .threads)
-  polar-kept (par A A′ B r) h =
-      polar-rearranged (turned-round A′ B) (polar-kept r (polar-rearranged (turned-round B A) h))
-  polar-kept (step {B = B} g) h = bare B (h .1)
-  polar-kept (new {B = B} ĉ g f) h = bare B (h .1)
-  polar-kept (spawn {δ = δ} {Q = Q} {B = B} g) h = bare (thread [] δ Q ∷ B) (bare B (h .1))
-  polar-kept (next g r) h = polar-kept r h
-  polar-kept (call {B = B} ws e) h = bare B (h .1)
-  polar-kept inert h = h .1
-  polar-kept (send {δ′ = δ} {R = R} {B = B} ĉ x w g c i v) h = bare (thread [] (bind δ x w) R ∷ B) (bare B (h .1 .1))
-  polar-kept (out {Γ = Γ} {v = v} {P = P} ĉ g c f) h = ((λ u i. gives-on Γ (u .commitments) ĉ v P (f u i) (h .0 u i)), h .1)
-  polar-kept (recv {δ′ = δ} {R = R} {B = B} ĉ x w g c i v) h = bare (thread [] δ R ∷ B) (bare B (h .1 .1))
-  polar-kept (inn {Γ = Γ} {x = x} {P = P} ĉ g c f) h = ((λ u i. takes-on Γ (u .commitments) ĉ x P (f u i) (h .0 u i)), h .1)
-  polar-kept (reclaim ĉ f e) h = h
-  polar-kept (stuck A B w u) h = polar-rest A B h
+  polar-kept (par A A′ B r) h = polar-rearranged (turned-round A′ B) (polar-kept r (polar-rearranged (turned-round B A) h))
+  polar-kept (acts r) h = acts-polar r h
+  polar-kept (reclaims r) h = reclaims-polar r h
+  polar-kept (sticks r) h = sticks-polar r h
   polar-kept (exchange p r q) h = polar-rearranged q (polar-kept r (polar-rearranged p h))
-  polar-kept (more {A} {B} m) h = kept A B m h
 
   polar-reached : {A B : Agent} → Reaches def More A B → Polar (A .threads) → Polar (B .threads)
   polar-reached stays h = h

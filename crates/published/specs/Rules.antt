@@ -4,6 +4,7 @@
 --  - (inert) is printed for a thread alone, where nothing could bring it to a thread among others; here others may stand beside it, as in every other rule.
 --  - (new): the identity is a new one, so it is not in Δ.
 --  - What a rule evaluates has a value; (call): x₁ to xₙ are the first n variables.
+--  - In the premise of (next), as in all rules but (par), the redex is the leftmost thread (002, section 3.1).
 --  - A product has no order. (par) turns a product around, and two threads that meet need not be neighbours then; `exchange` says that the order does not count.
 use Prim.Native.Nat.{ℕ}
 use mathlib.Core.Path.{_≡_}
@@ -21,94 +22,104 @@ pub data Rearranged : List Thread → List Thread → Type 0 where
   swapped : {t u : Thread} {A : List Thread} → Rearranged (t ∷ u ∷ A) (u ∷ t ∷ A)
   twice : {A B C : List Thread} → Rearranged A B → Rearranged B C → Rearranged A C
 
--- def gives the process of each definition; More is a set of further rules, which is empty where only 002's count
+-- ---- Tables 2 and 3 but for (par): the redex is the first thread. def gives the process of each definition; More is a set of further rules of this kind,
+-- which is empty where only 002's count
 module _ (def : ℕ → Process) (More : Agent → Agent → Type 0) where
-  pub data Reduces : Agent → Agent → Type 0 where
-    -- ---- Table 2
-    par : {Δ Δ′ : Channels} (A A′ B : List Thread)
-        → Reduces (agent Δ (A ++ B)) (agent Δ′ (A′ ++ B))
-        → Reduces (agent Δ (B ++ A)) (agent Δ′ (B ++ A′))
+  pub data Acts : Agent → Agent → Type 0 where
     step : {Δ : Channels} {Γ : List Commitment} {δ : Env} {g : Guard} {P : Process} {Q : Sum} {B : List Thread}
         → holds δ g ≡ true
-        → Reduces (agent Δ (thread Γ δ (choice (branch g tau P Q)) ∷ B)) (agent Δ (thread [] δ P ∷ B))
+        → Acts (agent Δ (thread Γ δ (choice (branch g tau P Q)) ∷ B)) (agent Δ (thread [] δ P ∷ B))
     new : {Δ : Channels} {Γ : List Commitment} {δ : Env} {g : Guard} {c : ℕ} {P : Process} {Q : Sum} {B : List Thread} (ĉ : ℕ)
         → holds δ g ≡ true
         → Δ ĉ ≡ false
-        → Reduces (agent Δ (thread Γ δ (choice (branch g (newChannel c) P Q)) ∷ B)) (agent (adding Δ ĉ) (thread [] (bind δ c (channel ĉ)) P ∷ B))
+        → Acts (agent Δ (thread Γ δ (choice (branch g (newChannel c) P Q)) ∷ B)) (agent (adding Δ ĉ) (thread [] (bind δ c (channel ĉ)) P ∷ B))
     spawn : {Δ : Channels} {Γ : List Commitment} {δ : Env} {g : Guard} {P Q : Process} {R : Sum} {B : List Thread}
         → holds δ g ≡ true
-        → Reduces (agent Δ (thread Γ δ (choice (branch g (newThread P) Q R)) ∷ B)) (agent Δ (thread [] δ P ∷ thread [] δ Q ∷ B))
+        → Acts (agent Δ (thread Γ δ (choice (branch g (newThread P) Q R)) ∷ B)) (agent Δ (thread [] δ P ∷ thread [] δ Q ∷ B))
     next : {Δ Δ′ : Channels} {Γ Γ′ : List Commitment} {δ δ′ : Env} {g : Guard} {α : Prefix} {P R : Process} {Q : Sum} {B B′ : List Thread}
         → holds δ g ≡ false
-        → Reduces (agent Δ (thread Γ δ (choice Q) ∷ B)) (agent Δ′ (thread Γ′ δ′ R ∷ B′))
-        → Reduces (agent Δ (thread Γ δ (choice (branch g α P Q)) ∷ B)) (agent Δ′ (thread Γ′ δ′ R ∷ B′))
+        → Acts (agent Δ (thread Γ δ (choice Q) ∷ B)) (agent Δ′ (thread Γ′ δ′ R ∷ B′))
+        → Acts (agent Δ (thread Γ δ (choice (branch g α P Q)) ∷ B)) (agent Δ′ (thread Γ′ δ′ R ∷ B′))
     call : {Δ : Channels} {Γ : List Commitment} {δ : Env} {D : ℕ} {vs : List ℕ} {B : List Thread} (ws : List Value)
         → map (look δ) vs ≡ map some ws
-        → Reduces (agent Δ (thread Γ δ (invoke D vs) ∷ B)) (agent Δ (thread [] (map some ws) (def D) ∷ B))
+        → Acts (agent Δ (thread Γ δ (invoke D vs) ∷ B)) (agent Δ (thread [] (map some ws) (def D) ∷ B))
     inert : {Δ : Channels} {Γ : List Commitment} {δ : Env} {B : List Thread}
-        → Reduces (agent Δ (thread Γ δ end ∷ B)) (agent Δ B)
-
-    -- ---- Table 3
+        → Acts (agent Δ (thread Γ δ end ∷ B)) (agent Δ B)
     send : {Δ : Channels} {Γ Γ′ : List Commitment} {δ δ′ : Env} {g : Guard} {c v : ℕ} {P R S : Process} {Q : Sum} {B : List Thread} (ĉ x : ℕ) (w : Value)
         → holds δ g ≡ true
         → look δ c ≡ some (channel ĉ)
         → takes ĉ x R ∈ Γ′
         → look δ v ≡ some w
-        → Reduces (agent Δ (thread Γ δ (choice (branch g (output c v) P Q)) ∷ thread Γ′ δ′ S ∷ B))
+        → Acts (agent Δ (thread Γ δ (choice (branch g (output c v) P Q)) ∷ thread Γ′ δ′ S ∷ B))
         (agent Δ (thread [] δ P ∷ thread [] (bind δ′ x w) R ∷ B))
     out : {Δ : Channels} {Γ : List Commitment} {δ : Env} {g : Guard} {c v : ℕ} {P : Process} {Q : Sum} {B : List Thread} (ĉ : ℕ)
         → holds δ g ≡ true
         → look δ c ≡ some (channel ĉ)
         → ((t : Thread) → t ∈ B → (x : ℕ) (S : Process) → takes ĉ x S ∈ t .commitments → ⊥)
-        → Reduces (agent Δ (thread Γ δ (choice (branch g (output c v) P Q)) ∷ B)) (agent Δ (thread (Γ ++ (gives ĉ v P ∷ [])) δ (choice (andWait Q)) ∷ B))
+        → Acts (agent Δ (thread Γ δ (choice (branch g (output c v) P Q)) ∷ B)) (agent Δ (thread (Γ ++ (gives ĉ v P ∷ [])) δ (choice (andWait Q)) ∷ B))
     recv : {Δ : Channels} {Γ Γ′ : List Commitment} {δ δ′ : Env} {g : Guard} {c x : ℕ} {P R S : Process} {Q : Sum} {B : List Thread} (ĉ v : ℕ) (w : Value)
         → holds δ g ≡ true
         → look δ c ≡ some (channel ĉ)
         → gives ĉ v R ∈ Γ′
         → look δ′ v ≡ some w
-        → Reduces (agent Δ (thread Γ δ (choice (branch g (input c x) P Q)) ∷ thread Γ′ δ′ S ∷ B))
+        → Acts (agent Δ (thread Γ δ (choice (branch g (input c x) P Q)) ∷ thread Γ′ δ′ S ∷ B))
         (agent Δ (thread [] (bind δ x w) P ∷ thread [] δ′ R ∷ B))
     inn : {Δ : Channels} {Γ : List Commitment} {δ : Env} {g : Guard} {c x : ℕ} {P : Process} {Q : Sum} {B : List Thread} (ĉ : ℕ)
         → holds δ g ≡ true
         → look δ c ≡ some (channel ĉ)
         → ((t : Thread) → t ∈ B → (v : ℕ) (S : Process) → gives ĉ v S ∈ t .commitments → ⊥)
-        → Reduces (agent Δ (thread Γ δ (choice (branch g (input c x) P Q)) ∷ B)) (agent Δ (thread (Γ ++ (takes ĉ x P ∷ [])) δ (choice (andWait Q)) ∷ B))
+        → Acts (agent Δ (thread Γ δ (choice (branch g (input c x) P Q)) ∷ B)) (agent Δ (thread (Γ ++ (takes ĉ x P ∷ [])) δ (choice (andWait Q)) ∷ B))
+    more : {A B : Agent} → More A B → Acts A B
 
-    -- ---- Table 5
-    reclaim : {Δ : Channels} {A : List Thread} (ĉ : ℕ)
-        → Δ ĉ ≡ false
-        → globalrc ĉ A ≡ 0
-        → Reduces (agent (adding Δ ĉ) A) (agent Δ A)
-    stuck : {Δ : Channels} (A B : List Thread)
-        → ((t : Thread) → t ∈ A → waiting (t .process) ≡ true)
-        → ((t : Thread) → t ∈ A → (ĉ : ℕ) → Commits (t .commitments) ĉ → globalrc ĉ B ≡ 0)
-        → Reduces (agent Δ (A ++ B)) (agent Δ B)
+-- ---- Table 5
 
-    -- ---- not printed: products have no order, and further rules
+pub data Reclaims : Agent → Agent → Type 0 where
+  reclaim : {Δ : Channels} {A : List Thread} (ĉ : ℕ)
+      → Δ ĉ ≡ false
+      → globalrc ĉ A ≡ 0
+      → Reclaims (agent (adding Δ ĉ) A) (agent Δ A)
+
+pub data Sticks : Agent → Agent → Type 0 where
+  stuck : {Δ : Channels} (A B : List Thread)
+      → ((t : Thread) → t ∈ A → waiting (t .process) ≡ true)
+      → ((t : Thread) → t ∈ A → (ĉ : ℕ) → Commits (t .commitments) ĉ → globalrc ĉ B ≡ 0)
+      → Sticks (agent Δ (A ++ B)) (agent Δ B)
+
+-- ---- all reductions: (par) of Table 2, the rules above, and that the order of threads does not count
+module _ (def : ℕ → Process) (More : Agent → Agent → Type 0) where
+  pub data Reduces : Agent → Agent → Type 0 where
+    par : {Δ Δ′ : Channels} (A A′ B : List Thread)
+        → Reduces (agent Δ (A ++ B)) (agent Δ′ (A′ ++ B))
+        → Reduces (agent Δ (B ++ A)) (agent Δ′ (B ++ A′))
+    acts : {A B : Agent} → Acts def More A B → Reduces A B
+    reclaims : {A B : Agent} → Reclaims A B → Reduces A B
+    sticks : {A B : Agent} → Sticks A B → Reduces A B
     exchange : {Δ Δ′ : Channels} {A A′ B B′ : List Thread} → Rearranged A A′
         → Reduces (agent Δ A′) (agent Δ′ B′)
         → Rearranged B′ B → Reduces (agent Δ A) (agent Δ′ B)
-    more : {A B : Agent} → More A B → Reduces A B
-
-  -- any number of reductions, one after the other
-  pub data Reaches : Agent → Agent → Type 0 where
-    stays : {A : Agent} → Reaches A A
-    goes : {A B C : Agent} → Reduces A B → Reaches B C → Reaches A C
-
-  pub reaches-on : {A B C : Agent} → Reaches A B → Reaches B C → Reaches A C
-  reaches-on stays q = q
-  reaches-on (goes r p) q = goes r (reaches-on p q)
-
-  pub one : {A B : Agent} → Reduces A B → Reaches A B
-  one r = goes r stays
 
 -- no further rules
 unfoldable pub Nothing : Agent → Agent → Type 0
 Nothing A B = ⊥
 
--- what is published, and nothing else
-abbrev pub Published : (ℕ → Process) → Agent → Agent → Type 0
-Published def A B = Reduces def Nothing A B
+-- any number of them, one after the other
+pub data Many (R : Agent → Agent → Type 0) : Agent → Agent → Type 0 where
+  stays : {A : Agent} → Many R A A
+  goes : {A B C : Agent} → R A B → Many R B C → Many R A C
+
+abbrev pub Reaches : (ℕ → Process) → (Agent → Agent → Type 0) → Agent → Agent → Type 0
+Reaches def More = Many (Reduces def More)
+
+-- a turn of thread t, which takes the agent A to the agent B: t is brought to the first place, and each of the reductions, at least one, has the first thread
+-- as its redex. Besides t and the threads that it meets and makes, no thread takes part
+pub record Turn (def : ℕ → Process) (More : Agent → Agent → Type 0) (A : Agent) (t : Thread) (B : Agent) : Type 0 where
+  pub others : List Thread
+  pub brought : Rearranged (A .threads) (t ∷ others)
+  pub then : Agent
+  pub first : Acts def More (agent (A .channels) (t ∷ others)) then
+  pub product : List Thread
+  pub later : Many (Acts def More) then (agent (B .channels) product)
+  pub put-back : Rearranged product (B .threads)
 
 -- ---- document 01's own rules. They act on one thread alone
 --  - skip: a branch with a false guard is passed over, and a wait left in its place as by (out) and (in). By 002 alone a branch with a false guard goes
