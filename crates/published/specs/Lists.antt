@@ -10,7 +10,7 @@ use Rattle.numbers.specs.Count.{bit, count}
 use Rattle.numbers.specs.Search.Laws.{caseB, contra}
 use Rattle.published.specs.Syntax.{Process}
 use Rattle.published.specs.Agents.{_∈_, Thread, Channels, Agent, agent, nth, knows, globalrc}
-use Rattle.published.specs.Rules.{Rearranged, none-left, same-first, swapped, twice, Acts, Reclaims, Reduces, acts, reclaims, exchange, Many, stays, goes, Reaches, Turn}
+use Rattle.published.specs.Rules.{Rearranged, none-left, same-first, swapped, twice, Acts, Reclaims, Reduces, acts, reclaims, exchange, Many, stays, goes, Reaches, Turn, Stepped}
 
 -- ---- one of a list
 
@@ -107,3 +107,6 @@ module _ (def : ℕ → Process) (More : Agent → Agent → Type 0) where
 
 pub reclaims-reach : (def : ℕ → Process) (More : Agent → Agent → Type 0) {A B : Agent} → Many Reclaims A B → Reaches def More A B
 reclaims-reach def More p = many-by Reclaims (Reduces def More) (λ A B r. reclaims r) p
+
+pub stepped-reaches : (def : ℕ → Process) (More : Agent → Agent → Type 0) (A : Agent) (t : Thread) (B : Agent) → Stepped def More A t B → Reaches def More A B
+stepped-reaches def More A t B h = many-on (Reduces def More) (turn-reaches def More A t (h .between) (h .turn)) (reclaims-reach def More (h .reclaimed))

@@ -121,6 +121,12 @@ pub record Turn (def : ℕ → Process) (More : Agent → Agent → Type 0) (A :
   pub later : Many (Acts def More) then (agent (B .channels) product)
   pub put-back : Rearranged product (B .threads)
 
+-- a turn, and then any number of uses of (reclaim)
+pub record Stepped (def : ℕ → Process) (More : Agent → Agent → Type 0) (A : Agent) (t : Thread) (B : Agent) : Type 0 where
+  pub between : Agent
+  pub turn : Turn def More A t between
+  pub reclaimed : Many Reclaims between B
+
 -- ---- document 01's own rules. They act on one thread alone
 --  - skip: a branch with a false guard is passed over, and a wait left in its place as by (out) and (in). By 002 alone a branch with a false guard goes
 --    only together with a reduction of the branches behind it (next). So a thread whose last guards are false, or all of them, never comes to Σ wait and

@@ -30,7 +30,7 @@ use Rattle.engine_laws.specs.Chosen.{Open, Creating}
 use Rattle.published.specs.Syntax.{Process, end, choice, invoke, Sum, nothing, andWait, waits}
 use Rattle.published.specs.Agents as Agents
 use Rattle.published.specs.Agents.{_∈_, Value, Env, look, bind, Commitment, Thread, Channels, adding, Agent, agent}
-use Rattle.published.specs.Rules.{Rearranged, same-first, swapped, twice, Reduces, step, new, call, inert, exchange, more, Reaches, stays, goes, one, Ours, assigns, zeros}
+use Rattle.published.specs.Rules.{Rearranged, same-first, swapped, twice, Acts, step, new, inert, more, Many, stays, Turn, Ours, assigns}
 use Rattle.published.specs.Lists.{same-order, turned-back}
 use Rattle.published_laws.specs.Readable.{Readable}
 use Rattle.published_laws.specs.Standing.{guardOf, prefixOf, sumBefore, nodeProcess, processAt, bodyOf, envOf, commitmentsFrom, waitingThread, readyThread, threadOf, threadsOf, channelsOf, agentOf}
@@ -41,11 +41,10 @@ use Rattle.published_laws.specs.Commitments.{commitments-same}
 use Rattle.published_laws.specs.Passing.{Passed, others, tip, midway, Leads, lead, left-by, pass-one, pass-all}
 use Rattle.published_laws.specs.Afterwards.{tau-thread, assigned-thread, created-thread}
 
--- reductions between products in another order
-pub exchanged : (def : ℕ → Process) (More : Agent → Agent → Type 0) {A A′ B : List Thread} {Δ : Channels} {C T : Agent} → Rearranged A A′
-    → Reduces def More (agent Δ A′) C → Reaches def More C T → Rearranged (T .threads) B → Reaches def More (agent Δ A) (agent (T .channels) B)
-exchanged def More p r stays q = one def More (exchange p r q)
-exchanged def More p r (goes x w) q = goes (exchange p r (same-order _)) (exchanged def More (same-order _) x w q)
+-- a turn, by its reductions
+pub turn-by : (def : ℕ → Process) (More : Agent → Agent → Type 0) {A B P : List Thread} {t : Thread} {Δ : Channels} {C T : Agent} → Rearranged A (t ∷ B)
+    → Acts def More (agent Δ (t ∷ B)) C → Many (Acts def More) C T → Rearranged (T .threads) P → Turn def More (agent Δ A) t (agent (T .channels) P)
+turn-by def More {B = B} {C = C} {T = T} p r w q = record { others = B; brought = p; then = C; first = r; product = T .threads; later = w; put-back = q }
 
 module _ (tb : Table) (g : Granted tb) (rd : Readable tb) (s : State) (o : Orderly tb s) (t : ℕ) (l : t < maxThreads) (ready : isReady (thread s t) ≡ true)
     (b : Thread) (bn : Bench tb b) where
@@ -96,10 +95,12 @@ module _ (tb : Table) (g : Granted tb) (rd : Readable tb) (s : State) (o : Order
 
   -- ---- (inert)
 
-  pub ends-reduced : kindOf tb (standsAt (thread s t)) ≢ 1 → kindOf tb (standsAt (thread s t)) ≢ 2
-      → Reaches (bodyOf tb) Ours (agentOf tb b s) (agentOf tb b (written tb s t Ends))
+  pub ends-reduced : (More : Agent → Agent → Type 0) → kindOf tb (standsAt (thread s t)) ≢ 1 → kindOf tb (standsAt (thread s t)) ≢ 2
+      → Turn (bodyOf tb) More (agentOf tb b s) (readyThread tb (thread s t)) (agentOf tb b (written tb s t Ends))
   unfolding agentOf channelsOf written withThread others
-  ends-reduced m n = one (bodyOf tb) Ours (exchange (rw (at-end m n) at own-first) inert (same-order rest))
+  ends-reduced More m n =
+      let start = rw (at-end m n) at own-first in
+      rw (at-end m n) (turn-by (bodyOf tb) More {T = agent (channelsOf s) rest} start inert stays (same-order rest))
 
   -- ---- a wait: (out), (in) and skip
 
@@ -116,7 +117,7 @@ module _ (tb : Table) (g : Granted tb) (rd : Readable tb) (s : State) (o : Order
 
   waits-by : (n : ℕ) → branchCount tb (standsAt (thread s t)) ≡ n → 0 < n → kindOf tb (standsAt (thread s t)) ≡ 1
       → ((j : ℕ) → j < branchCount tb (standsAt (thread s t)) → Passed tb s t j)
-      → Reaches (bodyOf tb) Ours (agentOf tb b s) (agentOf tb b (written tb s t Waits))
+      → Turn (bodyOf tb) Ours (agentOf tb b s) (readyThread tb (thread s t)) (agentOf tb b (written tb s t Waits))
   unfolding agentOf channelsOf written withThread sumBefore tip commitmentsFrom left-by andWait waits
   waits-by zero e z k p = absurd (omega arith)
   waits-by (suc n) e z k p =
@@ -127,37 +128,39 @@ module _ (tb : Table) (g : Granted tb) (rd : Readable tb) (s : State) (o : Order
       let first = pass-one tb g rd s o t l ready b bn rest (λ x i. i) Δ 0 (omega arith) (p 0 (omega arith)) [] q in
       let later = pass-all tb g rd s o t l ready b bn rest (λ x i. i) Δ n 1 (omega arith) p Γ in
       let one-more : 1 + n ≡ suc n = omega arith in
-      let last : Reaches (bodyOf tb) Ours (agent Δ (midway tb g rd s o t l ready b bn Γ (andWait q) ∷ rest)) (agent Δ (threadOf tb (waitingRow row) ∷ rest)) =
+      let last : Many (Acts (bodyOf tb) Ours) (agent Δ (midway tb g rd s o t l ready b bn Γ (andWait q) ∷ rest)) (agent Δ (threadOf tb (waitingRow row) ∷ rest)) =
       rw (wait-behind tb (processAt tb) nothing (standsAt row) 1 n, wait-thread, e) (rw one-more at later) in
       let start : Rearranged (b ∷ threadsOf tb (s .threads)) (midway tb g rd s o t l ready b bn [] (tip tb g rd s o t l ready b bn 0 q) ∷ rest) =
       rw (at-choice k, e) at own-first in
-      exchanged (bodyOf tb) Ours start first last (turned-back (new-first (waitingRow row) (waiting-used (waitingRow row) (waiting-waits row))))
+      rw (at-choice k, e) (turn-by (bodyOf tb) Ours {T = agent Δ (threadOf tb (waitingRow row) ∷ rest)} start first last
+      (turned-back (new-first (waitingRow row) (waiting-used (waitingRow row) (waiting-waits row)))))
 
   pub waits-reduced : kindOf tb (standsAt (thread s t)) ≡ 1 → ((j : ℕ) → j < branchCount tb (standsAt (thread s t)) → Passed tb s t j)
-      → Reaches (bodyOf tb) Ours (agentOf tb b s) (agentOf tb b (written tb s t Waits))
+      → Turn (bodyOf tb) Ours (agentOf tb b s) (readyThread tb (thread s t)) (agentOf tb b (written tb s t Waits))
   waits-reduced k p = waits-by (branchCount tb (standsAt (thread s t))) refl (rd .some-branch (standsAt (thread s t)) node-in k) k p
 
   -- ---- the first branch that goes ahead is branch k
 
-  module _ (k : ℕ) (kind : kindOf tb (standsAt (thread s t)) ≡ 1) (m : k < branchCount tb (standsAt (thread s t)))
+  module _ (More : Agent → Agent → Type 0) (k : ℕ) (kind : kindOf tb (standsAt (thread s t)) ≡ 1) (m : k < branchCount tb (standsAt (thread s t)))
       (before : (j : ℕ) → j < k → Passed tb s t j) where
     -- beside the threads B: from a reduction of it, whatever was committed and whatever branches are behind it
     pub led : (B : List Thread) (T : Agent) (P : List Thread) → Rearranged (others tb g rd s o t l ready b bn) B
         → (among : (x : Thread) → x ∈ B → x ∈ others tb g rd s o t l ready b bn)
-        → ((Γ : List Commitment) (q : Sum) → Leads tb g rd s o t l ready b bn B among (channelsOf s) T Γ (tip tb g rd s o t l ready b bn k q))
-        → Rearranged (T .threads) P → Reaches (bodyOf tb) Ours (agent (channelsOf s) (b ∷ threadsOf tb (s .threads))) (agent (T .channels) P)
+        → ((Γ : List Commitment) (q : Sum) → Leads tb g rd s o t l ready b bn More B among (channelsOf s) T Γ (tip tb g rd s o t l ready b bn k q))
+        → Rearranged (T .threads) P
+        → Turn (bodyOf tb) More (agent (channelsOf s) (b ∷ threadsOf tb (s .threads))) (readyThread tb (thread s t)) (agent (T .channels) P)
     led B T P p among act q =
         let n = standsAt (thread s t) in
         let z : k ≡ 0 + k = omega arith in
-        let (D, h, C, r, w) = lead tb g rd s o t l ready b bn B among (channelsOf s) T k m before act (branchCount tb n) k 0 m z [] nothing in
+        let (D, h, C, r, w) = lead tb g rd s o t l ready b bn More B among (channelsOf s) T k m before act (branchCount tb n) k 0 m z [] nothing in
         let start = rw (at-choice kind) at own-first in
-        exchanged (bodyOf tb) Ours (twice start (same-first p)) r w q
+        rw (at-choice kind) (turn-by (bodyOf tb) More (twice start (same-first p)) r w q)
 
     -- it writes the row of the thread alone
     single : (row : List ℕ) → inUse row ≡ true → (D : Channels)
-        → ((Γ : List Commitment) (q : Sum) → Reduces (bodyOf tb) Ours (agent (channelsOf s) (midway tb g rd s o t l ready b bn Γ (tip tb g rd s o t l ready b bn k q) ∷ rest))
+        → ((Γ : List Commitment) (q : Sum) → Acts (bodyOf tb) More (agent (channelsOf s) (midway tb g rd s o t l ready b bn Γ (tip tb g rd s o t l ready b bn k q) ∷ rest))
         (agent D (threadOf tb row ∷ rest)))
-        → Reaches (bodyOf tb) Ours (agent (channelsOf s) (b ∷ threadsOf tb (s .threads))) (agent D (b ∷ threadsOf tb (set (s .threads) t row)))
+        → Turn (bodyOf tb) More (agent (channelsOf s) (b ∷ threadsOf tb (s .threads))) (readyThread tb (thread s t)) (agent D (b ∷ threadsOf tb (set (s .threads) t row)))
     single row u D f =
         led rest (agent D (threadOf tb row ∷ rest)) (b ∷ threadsOf tb (set (s .threads) t row)) (same-order rest) (λ x i. i)
         (λ Γ q. (D, threadOf tb row, rest, f Γ q, stays)) (turned-back (new-first row u))
@@ -167,20 +170,12 @@ module _ (tb : Table) (g : Granted tb) (rd : Readable tb) (s : State) (o : Order
     guard-true e = guard-same tb g rd (typeIn s) (thread s t) sound used k m ∙ e
 
     -- (step)
-    pub tau-reduced : Open tb s t k Tau → Reaches (bodyOf tb) Ours (agentOf tb b s) (agentOf tb b (written tb s t (Goes k)))
+    pub tau-reduced : Open tb s t k Tau → Turn (bodyOf tb) More (agentOf tb b s) (readyThread tb (thread s t)) (agentOf tb b (written tb s t (Goes k)))
     unfolding agentOf channelsOf written withThread tip prefixOf
     tau-reduced x =
         let row = thread s t in
         single (goneBy tb row k) (ready-used (goneBy tb row k) (goneBy-ready tb row k)) (channelsOf s)
         (λ Γ q. rw (tau-thread tb g rd (typeIn s) row sound used k m (x .does), x .does) (step (guard-true (x .passes))))
-
-    -- an assignment, document 01's own
-    pub assignment-reduced : Open tb s t k Assignment → Reaches (bodyOf tb) Ours (agentOf tb b s) (agentOf tb b (written tb s t (Goes k)))
-    unfolding agentOf channelsOf written withThread tip prefixOf
-    assignment-reduced x =
-        let row = thread s t in
-        single (goneBy tb row k) (ready-used (goneBy tb row k) (goneBy-ready tb row k)) (channelsOf s)
-        (λ Γ q. rw (assigned-thread tb g rd (typeIn s) row sound used k m (x .does), x .does) (more (assigns (guard-true (x .passes)))))
 
     -- (new)
     module _ (c : ℕ) (x : Creating tb s t k c) where
@@ -197,7 +192,7 @@ module _ (tb : Table) (g : Granted tb) (rd : Readable tb) (s : State) (o : Order
           rw (q, eq-eqb c c refl, typed-same s (o .shaped) c y (x .channel-in), ne-eqb y 0 type-there))
           (λ z. rw (z, typed-other s (o .shaped) c y (x .channel-in) e (eqb-false e c z))))
 
-      pub creation-reduced : Reaches (bodyOf tb) Ours (agentOf tb b s) (agentOf tb b (written tb s t (Creates k c)))
+      pub creation-reduced : Turn (bodyOf tb) More (agentOf tb b s) (readyThread tb (thread s t)) (agentOf tb b (written tb s t (Creates k c)))
       unfolding agentOf channelsOf written withMark typed withThread withChannel tip prefixOf
       creation-reduced =
           let row = thread s t in
@@ -206,3 +201,12 @@ module _ (tb : Table) (g : Granted tb) (rd : Readable tb) (s : State) (o : Order
           (single (createdBy tb row k c) (ready-used (createdBy tb row k c) (createdBy-ready tb row k c)) (adding (channelsOf s) c)
           (λ Γ q. rw (created-thread tb g rd (typeIn s) row sound used k m (x .takes .does) c (x .channel-in), x .takes .does)
           (new c (guard-true (x .takes .passes)) free)))
+
+  -- an assignment, document 01's own
+  pub assignment-reduced : (k : ℕ) → kindOf tb (standsAt (thread s t)) ≡ 1 → k < branchCount tb (standsAt (thread s t)) → ((j : ℕ) → j < k → Passed tb s t j)
+      → Open tb s t k Assignment → Turn (bodyOf tb) Ours (agentOf tb b s) (readyThread tb (thread s t)) (agentOf tb b (written tb s t (Goes k)))
+  unfolding agentOf channelsOf written withThread tip prefixOf
+  assignment-reduced k kind m before x =
+      let row = thread s t in
+      single Ours k kind m before (goneBy tb row k) (ready-used (goneBy tb row k) (goneBy-ready tb row k)) (channelsOf s)
+      (λ Γ q. rw (assigned-thread tb g rd (typeIn s) row sound used k m (x .does), x .does) (more (assigns (guard-true Ours k kind m before (x .passes)))))

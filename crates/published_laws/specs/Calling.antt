@@ -24,15 +24,15 @@ use Rattle.engine_laws.specs.Reading.Laws.{head-slot, ready-used}
 use Rattle.engine_laws.specs.Sound.{RowSound, Orderly}
 use Rattle.published.specs.Agents as Agents
 use Rattle.published.specs.Agents.{Value, Env, look, Thread, agent}
-use Rattle.published.specs.Rules.{Rearranged, Reduces, call, more, Reaches, stays, goes, Ours, zeros}
+use Rattle.published.specs.Rules.{Rearranged, call, more, stays, goes, Turn, Ours, zeros}
 use Rattle.published.specs.Lists.{turned-back}
 use Rattle.published_laws.specs.Readable.{Readable}
-use Rattle.published_laws.specs.Standing.{processAt, bodyOf, valueAs, slotValue, envOf, threadOf, threadsOf, channelsOf, agentOf}
+use Rattle.published_laws.specs.Standing.{processAt, bodyOf, valueAs, slotValue, envOf, readyThread, threadOf, threadsOf, channelsOf, agentOf}
 use Rattle.published_laws.specs.Environments.{number-value, look-env, look-past, slot-value, filled-value, look-filled}
 use Rattle.published_laws.specs.Products.{Bench}
 use Rattle.published_laws.specs.Passing.{others}
 use Rattle.published_laws.specs.Afterwards.{thread-is}
-use Rattle.published_laws.specs.Alone.{exchanged, own-first, new-first, at-call}
+use Rattle.published_laws.specs.Alone.{turn-by, own-first, new-first, at-call}
 
 length-map : {A B : Type 0} (f : A → B) (l : List A) → length (map f l) ≡ length l
 length-map f [] = refl
@@ -175,12 +175,12 @@ module _ (tb : Table) (g : Granted tb) (rd : Readable tb) (s : State) (o : Order
   after-used = refl
 
   -- (call)
-  pub calls-reduced : Reaches (bodyOf tb) Ours (agentOf tb b s) (agentOf tb b (written tb s t Calls))
+  pub calls-reduced : Turn (bodyOf tb) Ours (agentOf tb b s) (readyThread tb (thread s t)) (agentOf tb b (written tb s t Calls))
   unfolding agentOf channelsOf written withThread
   calls-reduced =
       let rest = others tb g rd s o t l ready b bn in
       let start = rw (at-call tb g rd s o t l ready b bn kind) at (own-first tb g rd s o t l ready b bn) in
       let last : Rearranged (Agents.thread [] (envOf tb after) (bodyOf tb d) ∷ rest) (b ∷ threadsOf tb (set (s .threads) t after)) =
       rw after-thread at (turned-back (new-first tb g rd s o t l ready b bn after after-used)) in
-      exchanged (bodyOf tb) Ours {T = agent (channelsOf s) (Agents.thread [] (envOf tb after) (bodyOf tb d) ∷ rest)}
-      start (call values evaluated) (goes (more (zeros entered-zeros)) stays) last
+      rw (at-call tb g rd s o t l ready b bn kind) (turn-by (bodyOf tb) Ours {T = agent (channelsOf s) (Agents.thread [] (envOf tb after) (bodyOf tb d) ∷ rest)}
+      start (call values evaluated) (goes (more (zeros entered-zeros)) stays) last)

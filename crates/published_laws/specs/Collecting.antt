@@ -26,14 +26,14 @@ use Rattle.collector.specs.Collect.{nobody, taken, remaining, collected}
 use Rattle.collector.specs.Collect.Laws.{taken-iff, stays-enabled}
 use Rattle.published.specs.Syntax.{Process, waiting}
 use Rattle.published.specs.Agents.{_∈_, channelOf, Thread, Agent, agent, knows, globalrc, Commits}
-use Rattle.published.specs.Rules.{Rearranged, none-left, same-first, swapped, twice, Reduces, stuck, exchange, Reaches, goes}
+use Rattle.published.specs.Rules.{Rearranged, none-left, same-first, swapped, twice, Reclaims, Sticks, stuck, sticks, exchange, Many, goes, Reaches}
 use Rattle.published.specs.Enabling.{Enabled, Disabled}
-use Rattle.published.specs.Lists.{same-order, to-front, turned-back, none-knows}
+use Rattle.published.specs.Lists.{same-order, to-front, turned-back, none-knows, reclaims-reach}
 use Rattle.published_laws.specs.Readable.{Readable}
 use Rattle.published_laws.specs.Standing.{threadOf, threadsOf, channelsOf, agentOf}
 use Rattle.published_laws.specs.Environments.{knows-held}
 use Rattle.published_laws.specs.Products.{Bench, thread-env, row-of}
-use Rattle.published_laws.specs.Reclaims.{reclaims}
+use Rattle.published_laws.specs.Reclaims.{counted-anew}
 use Rattle.published_laws.specs.Commitments.{pledge-channel, commits-offers}
 use Rattle.published_laws.specs.Enabling.{placeOf, waiting-waits, enabled-iff}
 
@@ -94,7 +94,7 @@ module _ (tb : Table) (g : Granted tb) (rd : Readable tb) (s : State) (ok : Soun
   in-range : (t : ℕ) → t < length (s .threads) → t < maxThreads
   in-range t l = rw (ok .orderly .shaped .all-threads) at l
 
-  split : Rearranged (b ∷ threadsOf tb (s .threads)) (clique ++ leftThreads)
+  pub split : Rearranged (b ∷ threadsOf tb (s .threads)) (clique ++ leftThreads)
   split =
       let h = taken-first tb (taken tb s) (s .threads) leftRows (length-tabulate maxThreads (remaining tb s) ∙ sym (ok .orderly .shaped .all-threads))
       (λ t l. left-row t (in-range t l)) in
@@ -147,17 +147,21 @@ module _ (tb : Table) (g : Granted tb) (rd : Readable tb) (s : State) (ok : Soun
       let same : c ≡ ĉ = sym (pledge-channel d c v Q) ∙ ap channelOf (sym w) ∙ q in
       none-knows ĉ leftThreads (λ x′ i′. unknown-left t (in-range t l) y d ĉ (rw same at o) x′ i′)
 
-  -- (stuck), with the threads that are taken as its clique
-  pub stuck-once : (def : ℕ → Process) (More : Agent → Agent → Type 0)
-      → Reduces def More (agent (channelsOf s) (clique ++ leftThreads)) (agent (channelsOf s) leftThreads)
-  stuck-once def More = stuck clique leftThreads clique-waits clique-unknown
+  -- (stuck), with the threads that are taken as its clique, ...
+  pub stuck-once : Sticks (agent (channelsOf s) (clique ++ leftThreads)) (agent (channelsOf s) leftThreads)
+  stuck-once = stuck clique leftThreads clique-waits clique-unknown
 
-  -- the whole collection
-  pub collection-reduced : (def : ℕ → Process) (More : Agent → Agent → Type 0) → Reaches def More (agentOf tb b s) (agentOf tb b (collected tb s))
+  -- ... and then (reclaim)
+  pub reclaimed-after : Many Reclaims (agent (channelsOf s) leftThreads) (agentOf tb b (collected tb s))
   unfolding collected agentOf channelsOf
-  collection-reduced def More =
+  reclaimed-after =
       let freed : State = record { marks = s .marks; threads = leftRows; channels = s .channels } in
-      goes (exchange split (stuck-once def More) (same-order leftThreads)) (reclaims tb freed (ok .orderly .shaped .all-channels) def More b bn)
+      counted-anew tb freed (ok .orderly .shaped .all-channels) b bn
+
+  -- the whole collection, by any rules that have these
+  pub collection-reduced : (def : ℕ → Process) (More : Agent → Agent → Type 0) → Reaches def More (agentOf tb b s) (agentOf tb b (collected tb s))
+  unfolding agentOf
+  collection-reduced def More = goes (exchange split (sticks stuck-once) (same-order leftThreads)) (reclaims-reach def More reclaimed-after)
 
   -- the threads that are taken are those that 002 calls disabled
   pub taken-disabled : (t : ℕ) → t < maxThreads → inUse (thread s t) ≡ true

@@ -28,15 +28,16 @@ use Rattle.engine_laws.specs.Chosen.{Answering, partner-answers}
 use Rattle.published.specs.Syntax.{Process, choice, Sum, branch, always, output, input}
 use Rattle.published.specs.Agents as Agents
 use Rattle.published.specs.Agents.{Env, look, bind, Thread, Agent, agent}
-use Rattle.published.specs.Rules.{Rearranged, same-first, Reduces, send, recv, exchange, Reaches, goes}
+use Rattle.published.specs.Rules.{Rearranged, same-first, send, recv, stays, Turn, Stepped}
 use Rattle.published.specs.Lists.{turned-back}
 use Rattle.published_laws.specs.Readable.{Readable}
 use Rattle.published_laws.specs.Standing.{waitingThread, threadOf, threadsOf, envOf, channelsOf, agentOf}
 use Rattle.published_laws.specs.Environments.{number-value, look-filled}
 use Rattle.published_laws.specs.Products.{Bench, waiting-thread, stored-first, row-first}
-use Rattle.published_laws.specs.Reclaims.{reclaims}
+use Rattle.published_laws.specs.Reclaims.{counted-anew}
 use Rattle.published_laws.specs.Commitments.{pledge}
 use Rattle.published_laws.specs.Afterwards.{gave-thread, received-thread}
+use Rattle.published_laws.specs.Alone.{turn-by}
 use Rattle.published_laws.specs.Together.{met-commits}
 
 module _ (tb : Table) (g : Granted tb) (rd : Readable tb) (s : State) (ok : Sound tb s) (p u j : ℕ) (port : p < ports tb) (def : ℕ → Process)
@@ -84,7 +85,7 @@ module _ (tb : Table) (g : Granted tb) (rd : Readable tb) (s : State) (ok : Soun
     gave = Agents.thread [] δ E
 
     sent : (a : Answering tb s bench In p u j)
-        → Reduces def More (agentOf tb giver s) (agentOf tb gave (withThread s u (metBy tb (thread s u) j v)))
+        → Turn def More (agentOf tb giver s) giver (agentOf tb gave (withThread s u (metBy tb (thread s u) j v)))
     unfolding agentOf channelsOf withThread waitingThread pledge Agents.holds
     sent a =
         let b = branchAt tb (standsAt (thread s u)) j in
@@ -93,16 +94,19 @@ module _ (tb : Table) (g : Granted tb) (rd : Readable tb) (s : State) (ok : Soun
         (gave ∷ threadsOf tb (set (s .threads) u (metBy tb (thread s u) j v))) =
         rw (received-thread tb g rd (typeIn s) (thread s u) (sound In a) (used In a) j (a .branch-in) (a .does) v (Agents.number v) fits)
         at (same-first {t = gave} (turned-back (after-first In a v))) in
-        exchange (same-first (met-first In a))
-        (send p (fieldB tb b) (Agents.number v) refl on (met-commits tb s bench u j p In a) has) last
+        turn-by def More (same-first (met-first In a))
+        (send p (fieldB tb b) (Agents.number v) refl on (met-commits tb s bench u j p In a) has) stays last
 
     -- the thread that is found to receive goes on with v
     pub give-reduced : partnerOf tb s bench In p ≡ At u j → Bench tb gave
-        → Reaches def More (agentOf tb (Agents.thread [] δ (choice (branch always (output c x) E q))) s) (agentOf tb (Agents.thread [] δ E) (metByBench tb s u j v))
+        → Stepped def More (agentOf tb (Agents.thread [] δ (choice (branch always (output c x) E q))) s) (Agents.thread [] δ (choice (branch always (output c x) E q)))
+        (agentOf tb (Agents.thread [] δ E) (metByBench tb s u j v))
     unfolding metByBench
-    give-reduced e bn =
-        let a = partner-answers tb s bench In p u j e in
-        goes (sent a) (reclaims tb (withThread s u (metBy tb (thread s u) j v)) (same-channels (metBy tb (thread s u) j v)) def More gave bn)
+    give-reduced e bn = let row = metBy tb (thread s u) j v in record {
+      between = agentOf tb gave (withThread s u row);
+      turn = sent (partner-answers tb s bench In p u j e);
+      reclaimed = counted-anew tb (withThread s u row) (same-channels row) gave bn;
+    }
 
   -- ---- take
 
@@ -114,7 +118,7 @@ module _ (tb : Table) (g : Granted tb) (rd : Readable tb) (s : State) (ok : Soun
     took = Agents.thread [] (bind δ x (Agents.number (valueBy tb (thread s u) j))) E
 
     received : (a : Answering tb s bench Out p u j)
-        → Reduces def More (agentOf tb taker s) (agentOf tb took (withThread s u (metBy tb (thread s u) j 0)))
+        → Turn def More (agentOf tb taker s) taker (agentOf tb took (withThread s u (metBy tb (thread s u) j 0)))
     unfolding agentOf channelsOf withThread waitingThread pledge Agents.holds valueBy
     received a =
         let b = branchAt tb (standsAt (thread s u)) j in
@@ -123,14 +127,16 @@ module _ (tb : Table) (g : Granted tb) (rd : Readable tb) (s : State) (ok : Soun
         ∙ number-value (slotType tb (definitionOf tb (standsAt (thread s u))) (fieldB tb b)) (valueBy tb (thread s u) j) (number-slot Out a) in
         let last = rw (gave-thread tb g rd (typeIn s) (thread s u) (sound Out a) (used Out a) j (a .branch-in) (a .does) 0)
         at (same-first {t = took} (turned-back (after-first Out a 0))) in
-        exchange (same-first (met-first Out a))
-        (recv p (fieldB tb b) (Agents.number (valueBy tb (thread s u) j)) refl on (met-commits tb s bench u j p Out a) has) last
+        turn-by def More (same-first (met-first Out a))
+        (recv p (fieldB tb b) (Agents.number (valueBy tb (thread s u) j)) refl on (met-commits tb s bench u j p Out a) has) stays last
 
     -- the thread that is found to send goes on, and the bench has its number
     pub take-reduced : partnerOf tb s bench Out p ≡ At u j → Bench tb took
-        → Reaches def More (agentOf tb (Agents.thread [] δ (choice (branch always (input c x) E q))) s)
+        → Stepped def More (agentOf tb (Agents.thread [] δ (choice (branch always (input c x) E q))) s) (Agents.thread [] δ (choice (branch always (input c x) E q)))
         (agentOf tb (Agents.thread [] (bind δ x (Agents.number (valueBy tb (thread s u) j))) E) (metByBench tb s u j 0))
     unfolding metByBench
-    take-reduced e bn =
-        let a = partner-answers tb s bench Out p u j e in
-        goes (received a) (reclaims tb (withThread s u (metBy tb (thread s u) j 0)) (same-channels (metBy tb (thread s u) j 0)) def More took bn)
+    take-reduced e bn = let row = metBy tb (thread s u) j 0 in record {
+      between = agentOf tb took (withThread s u row);
+      turn = received (partner-answers tb s bench Out p u j e);
+      reclaimed = counted-anew tb (withThread s u row) (same-channels row) took bn;
+    }

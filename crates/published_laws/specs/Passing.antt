@@ -34,7 +34,7 @@ use Rattle.engine_laws.specs.Channels.{on-held}
 use Rattle.published.specs.Syntax.{Process, choice, Sum, branch, andWait, waits}
 use Rattle.published.specs.Agents as Agents
 use Rattle.published.specs.Agents.{_∈_, Env, look, Commitment, gives, takes, Thread, Channels, Agent, agent}
-use Rattle.published.specs.Rules.{Reduces, next, out, inn, more, Reaches, stays, goes, Ours, skip}
+use Rattle.published.specs.Rules.{Acts, next, out, inn, more, Many, stays, goes, Ours, skip}
 use Rattle.published_laws.specs.Readable.{Readable}
 use Rattle.published_laws.specs.Standing.{guardOf, prefixOf, sumBefore, processAt, bodyOf, envOf, committed, commitmentsFrom, threadOf, threadsOf}
 use Rattle.published_laws.specs.Unrolled.{wait-behind, one-more-wait}
@@ -140,11 +140,11 @@ module _ (tb : Table) (g : Granted tb) (rd : Readable tb) (s : State) (o : Order
         ∙ channel-value (slotType tb (definitionOf tb (standsAt (thread s t))) a) (channelBy tb s t i) (x .on-channel) channel-in
 
   -- ---- beside threads that are all among the others
-  module _ (B : List Thread) (among : (x : Thread) → x ∈ B → x ∈ others) (Δ : Channels) where
+  module _ (More : Agent → Agent → Type 0) (B : List Thread) (among : (x : Thread) → x ∈ B → x ∈ others) (Δ : Channels) where
     -- (out) or (in)
     commit : (i : ℕ) → i < branchCount tb (standsAt (thread s t)) → (d : Direction) → guardHolds tb (branchAt tb (standsAt (thread s t)) i) (thread s t) ≡ true
         → actOf tb (branchAt tb (standsAt (thread s t)) i) ≡ Meeting d → Unanswered tb s t (opposite d) (channelBy tb s t i) → (Γ : List Commitment) (q : Sum)
-        → Reduces (bodyOf tb) Ours (agent Δ (midway Γ (tip i q) ∷ B))
+        → Acts (bodyOf tb) More (agent Δ (midway Γ (tip i q) ∷ B))
         (agent Δ (midway (Γ ++ committed tb (thread s t) (branchAt tb (standsAt (thread s t)) i) (actOf tb (branchAt tb (standsAt (thread s t)) i))) (andWait q) ∷ B))
     unfolding tip prefixOf committed opposite pledge
     commit i m Out y e f Γ q =
@@ -156,10 +156,10 @@ module _ (tb : Table) (g : Granted tb) (rd : Readable tb) (s : State) (o : Order
 
     -- ---- as far as a branch that goes ahead
 
-    -- a first reduction that leaves a thread in the first place, and others after it, to the agent T
+    -- a first reduction that leaves a thread in the first place, and more of them, to the agent T
     abbrev pub Leads : Agent → List Commitment → Sum → Type 0
     Leads T Γ q = (D : Channels) × (h : Thread) × (C : List Thread)
-        × Reduces (bodyOf tb) Ours (agent Δ (midway Γ q ∷ B)) (agent D (h ∷ C)) × Reaches (bodyOf tb) Ours (agent D (h ∷ C)) T
+        × Acts (bodyOf tb) More (agent Δ (midway Γ q ∷ B)) (agent D (h ∷ C)) × Many (Acts (bodyOf tb) More) (agent D (h ∷ C)) T
 
     pub lead : (T : Agent) (k : ℕ) → k < branchCount tb (standsAt (thread s t)) → ((j : ℕ) → j < k → Passed tb s t j)
         → ((Γ : List Commitment) (q : Sum) → Leads T Γ (tip k q))
@@ -180,10 +180,11 @@ module _ (tb : Table) (g : Granted tb) (rd : Readable tb) (s : State) (o : Order
             let Γ′ = Γ ++ committed tb (thread s t) (branchAt tb (standsAt (thread s t)) i) (actOf tb (branchAt tb (standsAt (thread s t)) i)) in
             let (D, x, C, r, w) = h Γ′ (andWait q) in
             let v = wait-behind tb (processAt tb) q (standsAt (thread s t)) (suc i) m in
-            let r′ : Reduces (bodyOf tb) Ours (agent Δ (midway Γ′ (andWait Q) ∷ B)) (agent D (x ∷ C)) = rw v r in
+            let r′ : Acts (bodyOf tb) More (agent Δ (midway Γ′ (andWait Q) ∷ B)) (agent D (x ∷ C)) = rw v r in
             (Δ, midway Γ′ (andWait Q), B, commit i n d y e f Γ Q, goes r′ w)
 
-    -- ---- where none goes ahead
+  -- ---- where none goes ahead
+  module _ (B : List Thread) (among : (x : Thread) → x ∈ B → x ∈ others) (Δ : Channels) where
 
     -- what branch i leaves
     unfoldable pub left-by : ℕ → List Commitment
@@ -192,13 +193,13 @@ module _ (tb : Table) (g : Granted tb) (rd : Readable tb) (s : State) (o : Order
         (committed tb (thread s t) (branchAt tb (standsAt (thread s t)) i) (actOf tb (branchAt tb (standsAt (thread s t)) i))) []
 
     pub pass-one : (i : ℕ) → i < branchCount tb (standsAt (thread s t)) → Passed tb s t i → (Γ : List Commitment) (q : Sum)
-        → Reduces (bodyOf tb) Ours (agent Δ (midway Γ (tip i q) ∷ B)) (agent Δ (midway (Γ ++ left-by i) (andWait q) ∷ B))
+        → Acts (bodyOf tb) Ours (agent Δ (midway Γ (tip i q) ∷ B)) (agent Δ (midway (Γ ++ left-by i) (andWait q) ∷ B))
     unfolding left-by tip
     pass-one i m (closed y) Γ q = rw (y, append-nil Γ) (more (skip (guard-is i m ∙ y)))
-    pass-one i m (unmet d y e f) Γ q = rw y (commit i m d y e f Γ q)
+    pass-one i m (unmet d y e f) Γ q = rw y (commit Ours B among Δ i m d y e f Γ q)
 
     pub pass-all : (m i : ℕ) → i + m ≡ branchCount tb (standsAt (thread s t)) → ((j : ℕ) → j < branchCount tb (standsAt (thread s t)) → Passed tb s t j) → (Γ : List Commitment)
-        → Reaches (bodyOf tb) Ours (agent Δ (midway Γ (sumBefore tb (processAt tb) (waits i) (standsAt (thread s t)) i m) ∷ B))
+        → Many (Acts (bodyOf tb) Ours) (agent Δ (midway Γ (sumBefore tb (processAt tb) (waits i) (standsAt (thread s t)) i m) ∷ B))
         (agent Δ (midway (Γ ++ commitmentsFrom tb (thread s t) i m) (waits (i + m)) ∷ B))
     unfolding sumBefore commitmentsFrom left-by tip
     pass-all zero i e p Γ = let z : i + 0 ≡ i = omega arith in rw (append-nil Γ, z) stays
@@ -208,7 +209,7 @@ module _ (tb : Table) (g : Granted tb) (rd : Readable tb) (s : State) (o : Order
         let z : i + suc m ≡ suc i + m = omega arith in
         let h = pass-all m (suc i) (omega arith) p (Γ ++ left-by i) in
         let Q = sumBefore tb (processAt tb) (waits i) n (suc i) m in
-        let h′ : Reaches (bodyOf tb) Ours (agent Δ (midway (Γ ++ left-by i) (andWait Q) ∷ B))
+        let h′ : Many (Acts (bodyOf tb) Ours) (agent Δ (midway (Γ ++ left-by i) (andWait Q) ∷ B))
         (agent Δ (midway (Γ ++ (left-by i ++ commitmentsFrom tb (thread s t) (suc i) m)) (waits (i + suc m)) ∷ B)) =
         rw (v, one-more-wait i, z, ← append-assoc Γ (left-by i) (commitmentsFrom tb (thread s t) (suc i) m)) h in
         goes (pass-one i (omega arith) (p i (omega arith)) Γ Q) h′

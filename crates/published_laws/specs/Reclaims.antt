@@ -14,9 +14,9 @@ use Rattle.state.specs.State.{State, maxChannels, typeIn, channel, withChannels
 use Rattle.rules.specs.Holding.{waiters, countOf, channelRow, settled}
 use Rattle.counts.specs.Upkeep.{settled-length}
 use Rattle.engine_laws.specs.Settle.{settled-row}
-use Rattle.published.specs.Syntax.{Process}
 use Rattle.published.specs.Agents.{Thread, Channels, adding, Agent, agent, globalrc}
-use Rattle.published.specs.Rules.{Reduces, reclaim, Reaches, stays, goes, reaches-on}
+use Rattle.published.specs.Rules.{Reclaims, reclaim, Many, stays, goes}
+use Rattle.published.specs.Lists.{many-on}
 use Rattle.published_laws.specs.Standing.{threadsOf, channelsOf, agentOf}
 use Rattle.published_laws.specs.Products.{Bench, globalrc-count}
 
@@ -55,8 +55,8 @@ module _ (Δ : Channels) (count : ℕ → ℕ) where
       (λ y. let q : c ≡ k = eqb-true c k y in rw (q, eq-eqb k k refl) e)
       (λ y. rw y (left-other k c (eqb-false c k y))))
 
-  module _ (def : ℕ → Process) (More : Agent → Agent → Type 0) (A : List Thread) (counted : (c : ℕ) → globalrc c A ≡ count c) where
-    reclaim-one : (k : ℕ) → Reaches def More (agent (left k) A) (agent (left (suc k)) A)
+  module _ (A : List Thread) (counted : (c : ℕ) → globalrc c A ≡ count c) where
+    reclaim-one : (k : ℕ) → Many Reclaims (agent (left k) A) (agent (left (suc k)) A)
     reclaim-one k =
         caseB (Δ k)
         (λ y. caseB (ltb 0 (count k))
@@ -65,9 +65,9 @@ module _ (Δ : Channels) (count : ℕ → ℕ) where
         rw e (goes (reclaim k (left-past k ∙ rw (y, z)) (counted k ∙ (let h : count k ≡ 0 = omega (arith, ltb-false 0 (count k) z) in h))) stays)))
         (λ y. let e : left k ≡ left (suc k) = left-same k (left-past k ∙ rw y (sym (left-here k ∙ y))) in rw e stays)
 
-    reclaim-below : (k : ℕ) → Reaches def More (agent (left 0) A) (agent (left k) A)
+    reclaim-below : (k : ℕ) → Many Reclaims (agent (left 0) A) (agent (left k) A)
     reclaim-below zero = stays
-    reclaim-below (suc k) = reaches-on def More (reclaim-below k) (reclaim-one k)
+    reclaim-below (suc k) = many-on Reclaims (reclaim-below k) (reclaim-one k)
 
 -- ---- of a state
 
@@ -92,10 +92,10 @@ module _ (tb : Table) (s : State) (all : length (s .channels) ≡ maxChannels) w
       (λ y. rw (none-past c (ltb-false c maxChannels y), settled-past c (ltb-false c maxChannels y))))
 
   -- from the state before the channels are counted to that afterwards
-  pub reclaims : (def : ℕ → Process) (More : Agent → Agent → Type 0) (b : Thread) → Bench tb b → Reaches def More (agentOf tb b s) (agentOf tb b (settled tb s))
+  pub counted-anew : (b : Thread) → Bench tb b → Many Reclaims (agentOf tb b s) (agentOf tb b (settled tb s))
   unfolding agentOf settled withChannels
-  reclaims def More b bn =
+  counted-anew b bn =
       let n = countOf tb (s .threads) in
       let A = b ∷ threadsOf tb (s .threads) in
-      let p = reclaim-below (channelsOf s) n def More A (globalrc-count tb b bn (s .threads)) maxChannels in
+      let p = reclaim-below (channelsOf s) n A (globalrc-count tb b bn (s .threads)) maxChannels in
       rw (left-all (channelsOf s) n, settled-channels) at p

@@ -28,11 +28,11 @@ use Rattle.engine_laws.specs.Meetings.{meets-by, value-type}
 use Rattle.engine_laws.specs.Chosen.{channelBy, Open, Spawning, Answering}
 use Rattle.published.specs.Syntax.{choice, Sum, waits}
 use Rattle.published.specs.Agents as Agents
-use Rattle.published.specs.Agents.{_∈_, Value, look, bind, Commitment, Thread, agent}
-use Rattle.published.specs.Rules.{Rearranged, same-first, swapped, twice, Reduces, spawn, send, recv, Reaches, stays, Ours}
+use Rattle.published.specs.Agents.{_∈_, Value, look, bind, Commitment, Thread, Agent, agent}
+use Rattle.published.specs.Rules.{Rearranged, same-first, swapped, twice, Acts, spawn, send, recv, stays, Turn}
 use Rattle.published.specs.Lists.{same-order, in-rearranged, turned-back}
 use Rattle.published_laws.specs.Readable.{Readable}
-use Rattle.published_laws.specs.Standing.{guardOf, prefixOf, processAt, bodyOf, valueAs, envOf, commitmentsFrom, waitingThread, threadOf, threadsOf, channelsOf, agentOf}
+use Rattle.published_laws.specs.Standing.{guardOf, prefixOf, processAt, bodyOf, valueAs, envOf, commitmentsFrom, waitingThread, readyThread, threadOf, threadsOf, channelsOf, agentOf}
 use Rattle.published_laws.specs.Environments.{guard-same, filled-value, look-filled}
 use Rattle.published_laws.specs.Products.{Bench, waiting-thread, stored-first, row-first}
 use Rattle.published_laws.specs.Commitments.{pledge, pledged, pledged-in}
@@ -86,7 +86,7 @@ module _ (tb : Table) (g : Granted tb) (rd : Readable tb) (s : State) (o : Order
   inside : (u : ℕ) → u < maxThreads → u < length (s .threads)
   inside u m = rw (o .shaped .all-threads) m
 
-  module _ (k : ℕ) (kind : kindOf tb (standsAt (thread s t)) ≡ 1) (m : k < branchCount tb (standsAt (thread s t)))
+  module _ (More : Agent → Agent → Type 0) (k : ℕ) (kind : kindOf tb (standsAt (thread s t)) ≡ 1) (m : k < branchCount tb (standsAt (thread s t)))
       (before : (j : ℕ) → j < k → Passed tb s t j) where
     guard-true : guardHolds tb (branchAt tb (standsAt (thread s t)) k) (thread s t) ≡ true
         → Agents.holds (envOf tb (thread s t)) (guardOf tb (branchAt tb (standsAt (thread s t)) k)) ≡ true
@@ -120,10 +120,10 @@ module _ (tb : Table) (g : Granted tb) (rd : Readable tb) (s : State) (o : Order
           (ready-used parent (resumed-ready (thread s t) (nextOf tb (standsAt (thread s t)) (branchAt tb (standsAt (thread s t)) k)))) in
           twice (same-first h′) (twice swapped (same-first p))
 
-      pub spawn-reduced : Reaches (bodyOf tb) Ours (agentOf tb b s) (agentOf tb b (written tb s t (Spawns k u)))
+      pub spawn-reduced : Turn (bodyOf tb) More (agentOf tb b s) (readyThread tb (thread s t)) (agentOf tb b (written tb s t (Spawns k u)))
       unfolding agentOf channelsOf written withMark spawnedBy withThread tip prefixOf
       spawn-reduced =
-          led tb g rd s o t l ready b bn k kind m before rest (agent (channelsOf s) (threadOf tb child ∷ (threadOf tb parent ∷ rest)))
+          led tb g rd s o t l ready b bn More k kind m before rest (agent (channelsOf s) (threadOf tb child ∷ (threadOf tb parent ∷ rest)))
           (b ∷ threadsOf tb (set (set (s .threads) t parent) u child)) (same-order rest) (λ y i. i)
           (λ Γ q. (channelsOf s, threadOf tb child, threadOf tb parent ∷ rest,
           rw (next-thread tb g rd (typeIn s) (thread s t) sound used k m, child-thread tb g rd (typeIn s) (thread s t) sound used k m (x .takes .does), x .takes .does)
@@ -172,7 +172,7 @@ module _ (tb : Table) (g : Granted tb) (rd : Readable tb) (s : State) (o : Order
 
       -- the agent before, whatever was committed and whatever branches are behind, and the agent after
       abbrev Meeting-by : List Commitment → Sum → Type 0
-      Meeting-by Γ q = Reduces (bodyOf tb) Ours
+      Meeting-by Γ q = Acts (bodyOf tb) More
           (agent (channelsOf s) (midway tb g rd s o t l ready b bn Γ (tip tb g rd s o t l ready b bn k q) ∷ (waitingThread tb (thread s u) ∷ apart)))
           (agent (channelsOf s) (threadOf tb own ∷ (threadOf tb mate ∷ apart)))
 
@@ -215,10 +215,10 @@ module _ (tb : Table) (g : Granted tb) (rd : Readable tb) (s : State) (o : Order
           let (w, has, gets) = given-value tb g rd (typeIn s) (thread s u) (thread s t) mate-sound sound mate-used used j k (a .branch-in) m does′ does (a .is) in
           recv-by does does′ w has gets Γ q
 
-      pub meeting-reduced : Reaches (bodyOf tb) Ours (agentOf tb b s) (agentOf tb b (written tb s t (Meets k u j)))
+      pub meeting-reduced : Turn (bodyOf tb) More (agentOf tb b s) (readyThread tb (thread s t)) (agentOf tb b (written tb s t (Meets k u j)))
       unfolding agentOf channelsOf written withThread
       meeting-reduced =
-          led tb g rd s o t l ready b bn k kind m before (waitingThread tb (thread s u) ∷ apart) (agent (channelsOf s) (threadOf tb own ∷ (threadOf tb mate ∷ apart)))
+          led tb g rd s o t l ready b bn More k kind m before (waitingThread tb (thread s u) ∷ apart) (agent (channelsOf s) (threadOf tb own ∷ (threadOf tb mate ∷ apart)))
           (b ∷ threadsOf tb (set (set (s .threads) t own) u mate)) mate-second (λ y i. in-rearranged y mate-second i)
           (λ Γ q. (channelsOf s, threadOf tb own, threadOf tb mate ∷ apart, meeting-by d refl Γ q, stays))
           (turned-back both-first)
