@@ -15,3 +15,4 @@ pub mod Outside
 pub mod Places
 pub mod Enabling
 pub mod Collecting
+pub mod Running
