@@ -7,3 +7,5 @@ pub mod Lists
 pub mod Polarity
 pub mod Chain
 pub mod Cliques
+pub mod Choices
+pub mod Printed
