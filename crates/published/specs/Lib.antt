@@ -9,3 +9,4 @@ pub mod Chain
 pub mod Cliques
 pub mod Choices
 pub mod Printed
+pub mod Examples

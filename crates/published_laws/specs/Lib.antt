@@ -16,3 +16,5 @@ pub mod Places
 pub mod Enabling
 pub mod Collecting
 pub mod Running
+pub mod Choosing
+pub mod Benches
