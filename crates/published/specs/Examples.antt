@@ -3,15 +3,15 @@ use Prim.Native.Nat.{ℕ}
 use native.Mathlib.Omega.{arith}
 use mathlib.Core.Path.{_≡_, refl}
 use mathlib.Core.Logic.{inl, inr, ⊎-elim}
-use mathlib.Core.Bool.{true, false}
-use mathlib.Core.List.{List, [], _∷_, _++_}
+use mathlib.Core.Bool.{false}
+use mathlib.Core.List.{List, [], _∷_}
 use mathlib.Core.Option.{some}
 use Rattle.numbers.specs.Search.Laws.{contra}
-use Rattle.published.specs.Syntax.{Guard, always, Process, choice, Sum, nothing, branch, wait, Prefix, output, input, andWait, waiting, someWait}
-use Rattle.published.specs.Agents.{_∈_, Value, channel, number, Env, bind, holds, Commitment, gives, takes, Thread, thread, Channels, Agent, agent, nth}
-use Rattle.published.specs.Rules.{Rearranged, swapped, Acts, out, recv, Reduces, acts, exchange, stays, goes, Reaches, Nothing}
+use Rattle.published.specs.Syntax.{Guard, always, Process, choice, nothing, branch, wait, Prefix, output, input, andWait, waiting, someWait}
+use Rattle.published.specs.Agents.{_∈_, channel, number, Env, bind, holds, Commitment, gives, takes, Thread, thread, Channels, Agent, agent}
+use Rattle.published.specs.Rules.{swapped, Acts, out, recv, Reduces, acts, exchange, stays, goes, Reaches, Nothing}
 use Rattle.published.specs.Enabling.{Enabled, active}
-use Rattle.published.specs.Choices.{ByPrefix, BySum, ByProcess, Of, acts-of}
+use Rattle.published.specs.Choices.{BySum, ByProcess, Of, acts-of}
 
 -- ---- [true] a!v, P + [true] b!w, Q ∥ [true] b?(x), R + [true] a?(y), S, with channels 0 and 1 in the variables 0 and 1 of both
 

@@ -3,11 +3,11 @@ use Prim.Native.Nat.{ℕ, zero, suc, _+_, _<_}
 use native.Mathlib.Omega.{arith}
 use mathlib.Core.Path.{_≡_, refl}
 use mathlib.Core.Logic.{_⊎_, inl, inr, ⊎-elim}
-use mathlib.Core.Bool.{true, false}
+use mathlib.Core.Bool.{false}
 use mathlib.Core.List.{List, [], _∷_, _++_, append-nil}
 use lib.ListN.{length}
 use Rattle.numbers.specs.Count.{bit, count}
-use Rattle.numbers.specs.Search.Laws.{caseB, contra}
+use Rattle.numbers.specs.Search.Laws.{caseB}
 use Rattle.published.specs.Syntax.{Process}
 use Rattle.published.specs.Agents.{_∈_, Thread, Channels, Agent, agent, nth, knows, globalrc}
 use Rattle.published.specs.Rules.{Rearranged, none-left, same-first, swapped, twice, Acts, Reclaims, Reduces, acts, reclaims, exchange, Many, stays, goes, Reaches, Turn, Stepped}

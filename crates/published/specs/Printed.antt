@@ -1,16 +1,15 @@
 -- The collector that 002 prints (Table 8), of agents, and an agent with an enabled thread that it takes. Assumes nothing.
-use Prim.Native.Nat.{ℕ, zero, suc, _<_}
+use Prim.Native.Nat.{ℕ, zero, suc}
 use native.Mathlib.Omega.{arith}
 use mathlib.Core.Path.{_≡_, refl}
-use mathlib.Core.Logic.{inl, inr}
+use mathlib.Core.Logic.{inl}
 use mathlib.Core.Bool.{Bool, true, false, not, _&&_, _||_, cond}
 use mathlib.Core.List.{List, [], _∷_, _++_}
 use mathlib.Core.Option.{Option, none, some}
 use lib.Dec.{eqb}
-use lib.ListN.{length}
 use Rattle.numbers.specs.Count.{bit, count}
-use Rattle.published.specs.Syntax.{Process, end, choice, nothing, wait, waiting, someWait, onlyWaits}
-use Rattle.published.specs.Agents.{channel, Commitment, takes, channelOf, Thread, thread, Agent, agent, nth, refers, mentions, knows, globalrc}
+use Rattle.published.specs.Syntax.{end, choice, nothing, wait, waiting, someWait, onlyWaits}
+use Rattle.published.specs.Agents.{channel, Commitment, takes, channelOf, Thread, thread, nth, refers, mentions, knows, globalrc}
 use Rattle.published.specs.Enabling.{Enabled, active, awoken}
 
 -- ---- Table 8, with places for threads. A candidate is chosen, here the first; where some channel of its commitments is known to a thread that does not wait

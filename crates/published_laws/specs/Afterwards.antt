@@ -1,14 +1,12 @@
 -- The thread of a row that a move writes: what the rule of 002 says of it. Assumes nothing but what the table grants.
 use Prim.Native.Nat.{ℕ, _<_}
-use native.Mathlib.Omega.{arith}
-use mathlib.Core.Path.{_≡_, refl, sym, _∙_, ap}
+use mathlib.Core.Path.{_≡_, sym, _∙_}
 use mathlib.Core.Bool.{true}
-use mathlib.Core.Logic.{_≢_}
 use mathlib.Core.List.{List, []}
 use mathlib.Core.Option.{some}
 use Rattle.table.specs.Table.{Table, slotCount}
 use Rattle.table.specs.Layout.{branchCount, definitionOf, slotType}
-use Rattle.state.specs.State.{maxChannels, rowSlots, standsAt, slotOf, inUse, isReady}
+use Rattle.state.specs.State.{maxChannels, standsAt, slotOf, inUse, isReady}
 use Rattle.rules.specs.Program.{branchAt, nextOf, childOf, fieldA, fieldB, actOf, assigned}
 use Rattle.rules.specs.Moves.{resumed, stored, met, gone, sideOf, goneBy, createdBy, metBy}
 use Rattle.rules.specs.declared.Direction.the-variants.{Out, In}

@@ -1,25 +1,22 @@
 -- The moves of a thread alone are reductions: an end, a call, a wait, a tau or an assignment, a new channel. Assumes nothing but what the table grants.
-use Prim.Native.Nat.{ℕ, zero, suc, _+_, _<_, _≤_}
+use Prim.Native.Nat.{ℕ, zero, suc, _+_, _<_}
 use native.Mathlib.Omega.{arith}
-use mathlib.Core.Path.{_≡_, refl, sym, _∙_, ap, fun-ext}
-use mathlib.Core.Logic.{_⊎_, inl, inr, _≢_}
-use mathlib.Core.Bool.{true, false, cond}
-use mathlib.Core.List.{List, [], _∷_, _++_, map}
-use mathlib.Core.Option.{Option, none, some}
-use lib.Dec.{ltb, eqb}
-use lib.ListN.{length, getD, set, List·getD-map, List·getD-eq-default}
-use borrow.Author.Tests.{ltb-true, ltb-false, lt-ltb, le-ltb, eqb-true, eqb-false, eq-eqb, ne-eqb}
+use mathlib.Core.Path.{_≡_, refl, _∙_, fun-ext}
+use mathlib.Core.Logic.{_≢_}
+use mathlib.Core.Bool.{true, false}
+use mathlib.Core.List.{List, [], _∷_}
+use lib.Dec.{eqb}
+use lib.ListN.{length, set}
+use borrow.Author.Tests.{eqb-true, eqb-false, eq-eqb, ne-eqb}
 use Rattle.numbers.specs.Search.{tabulate}
-use Rattle.numbers.specs.Search.Laws.{caseB, contra, getD-tabulate, length-tabulate}
-use Rattle.table.specs.Table.{Table, nodes, parameters, slotCount}
-use Rattle.table.specs.Layout.{start, branchCount, definitionOf, slotType}
-use Rattle.table.specs.declared.Part.the-variants.{Nodes}
-use Rattle.state.specs.State.{State, maxThreads, maxChannels, rowSlots, minusOne, thread, standsAt, slotOf, inUse, isReady, isWaiting, typeIn, withMark, withThread, withChannel}
-use Rattle.rules.specs.Program.{typeAt, kindOf, callee, argument, branchAt, nextOf, childOf, fieldA, actOf, guardHolds}
-use Rattle.rules.specs.Start.{freeRow, entered}
+use Rattle.numbers.specs.Search.Laws.{caseB}
+use Rattle.table.specs.Table.{Table, nodes, parameters}
+use Rattle.table.specs.Layout.{start, branchCount}
+use Rattle.state.specs.State.{State, maxThreads, thread, standsAt, inUse, isReady, typeIn, withMark, withThread, withChannel}
+use Rattle.rules.specs.Program.{typeAt, kindOf, callee, argument, branchAt, guardHolds}
 use Rattle.rules.specs.Moves.{waitingRow, typed, goneBy, createdBy, typeBy, written}
-use Rattle.rules.specs.declared.Act.the-variants.{Tau, New, Spawn, Assignment}
-use Rattle.rules.specs.declared.Move.the-variants.{Ends, Calls, Waits, Goes, Creates}
+use Rattle.rules.specs.declared.Act.the-variants.{Tau, Assignment}
+use Rattle.rules.specs.declared.Move.the-variants.{Ends, Waits, Goes, Creates}
 use Rattle.granted.specs.Granted.{Granted}
 use Rattle.engine_laws.specs.Reading.Laws.{ready-used, waiting-used}
 use Rattle.engine_laws.specs.Sound.{RowSound, Orderly}
@@ -27,9 +24,9 @@ use Rattle.engine_laws.specs.Rows.{waiting-waits, waiting-node, waiting-slot, w
 use Rattle.engine_laws.specs.Onward.{branching, goneBy-ready, createdBy-ready}
 use Rattle.engine_laws.specs.Replaced.{typed-same, typed-other}
 use Rattle.engine_laws.specs.Chosen.{Open, Creating}
-use Rattle.published.specs.Syntax.{Process, end, choice, invoke, Sum, nothing, andWait, waits}
+use Rattle.published.specs.Syntax.{Process, end, invoke, Sum, nothing, andWait, waits}
 use Rattle.published.specs.Agents as Agents
-use Rattle.published.specs.Agents.{_∈_, Value, Env, look, bind, Commitment, Thread, Channels, adding, Agent, agent}
+use Rattle.published.specs.Agents.{_∈_, Commitment, Thread, Channels, adding, Agent, agent}
 use Rattle.published.specs.Rules.{Rearranged, same-first, swapped, twice, Acts, step, new, inert, more, Many, stays, Turn, Ours, assigns}
 use Rattle.published.specs.Lists.{same-order, turned-back}
 use Rattle.published_laws.specs.Readable.{Readable}

@@ -1,19 +1,19 @@
 -- A bench for every table: it knows the ports, by the variables that have their numbers, and has one variable more for a number. Assumes nothing.
-use Prim.Native.Nat.{ℕ, _+_, _<_, _≤_}
+use Prim.Native.Nat.{ℕ, _<_}
 use native.Mathlib.Omega.{arith}
 use mathlib.Core.Path.{_≡_, refl, sym, _∙_, ap}
-use mathlib.Core.Bool.{true, false, _||_}
-use mathlib.Core.List.{List, [], _∷_, _++_}
+use mathlib.Core.Bool.{true, false}
+use mathlib.Core.List.{[], _∷_, _++_}
 use mathlib.Core.Option.{Option, none, some}
-use lib.Dec.{ltb, eqb}
+use lib.Dec.{ltb}
 use lib.ListN.{length, List·getD-append, List·getD-eq-default}
 use lib.Seq.{getD-append-seam}
-use borrow.Author.Tests.{ltb-true, ltb-false, lt-ltb, le-ltb}
+use borrow.Author.Tests.{ltb-true, ltb-false}
 use Rattle.numbers.specs.Search.{tabulate}
 use Rattle.numbers.specs.Search.Laws.{caseB, same-truth, getD-tabulate, length-tabulate}
 use Rattle.table.specs.Table.{Table, ports}
 use Rattle.published.specs.Syntax.{Process, waiting}
-use Rattle.published.specs.Agents.{Value, channel, number, Env, look, bind, refers, mentions, Thread, thread, knows}
+use Rattle.published.specs.Agents.{Value, channel, Env, look, bind, refers, mentions, thread, knows}
 use Rattle.published.specs.Bindings.{knows-iff}
 use Rattle.published_laws.specs.Products.{Bench}
 

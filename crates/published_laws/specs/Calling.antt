@@ -1,17 +1,17 @@
 -- A call is (call), and zeros for the numbers that the definition has besides its parameters. Assumes nothing but what the table grants.
-use Prim.Native.Nat.{ℕ, zero, suc, _<_, _≤_}
+use Prim.Native.Nat.{ℕ, suc, _<_, _≤_}
 use native.Mathlib.Omega.{arith}
 use mathlib.Core.Path.{_≡_, refl, sym, _∙_, ap}
 use mathlib.Core.Logic.{_⊎_, inl, inr, ⊎-elim, _≢_}
-use mathlib.Core.Bool.{true, false, cond}
+use mathlib.Core.Bool.{true, cond}
 use mathlib.Core.List.{List, [], _∷_, map}
-use mathlib.Core.Option.{Option, none, some, Option·getD}
+use mathlib.Core.Option.{none, some, Option·getD}
 use lib.Dec.{ltb, eqb}
-use lib.ListN.{length, getD, set, List·getD-map, List·getD-eq-default}
-use borrow.Author.Tests.{ltb-true, ltb-false, lt-ltb, le-ltb, eqb-true, eqb-false, eq-eqb, ne-eqb}
+use lib.ListN.{length, set, List·getD-map, List·getD-eq-default}
+use borrow.Author.Tests.{ltb-true, ltb-false, lt-ltb, le-ltb, eqb-true, eqb-false, ne-eqb}
 use Rattle.numbers.specs.Search.{tabulate}
 use Rattle.numbers.specs.Search.Laws.{caseB, getD-tabulate, length-tabulate, tabulate-cong, is-tabulate}
-use Rattle.table.specs.Table.{Table, nodes, parameters, slotCount}
+use Rattle.table.specs.Table.{Table, parameters, slotCount}
 use Rattle.table.specs.Layout.{start, definitionOf, slotType}
 use Rattle.table.specs.declared.Part.the-variants.{Nodes}
 use Rattle.state.specs.State.{State, maxThreads, rowSlots, minusOne, thread, standsAt, slotOf, inUse, isReady, typeIn, withThread}
@@ -27,7 +27,7 @@ use Rattle.published.specs.Agents.{Value, Env, look, Thread, agent}
 use Rattle.published.specs.Rules.{Rearranged, call, more, stays, goes, Turn, Ours, zeros}
 use Rattle.published.specs.Lists.{turned-back}
 use Rattle.published_laws.specs.Readable.{Readable}
-use Rattle.published_laws.specs.Standing.{processAt, bodyOf, valueAs, slotValue, envOf, readyThread, threadOf, threadsOf, channelsOf, agentOf}
+use Rattle.published_laws.specs.Standing.{bodyOf, valueAs, slotValue, envOf, readyThread, threadOf, threadsOf, channelsOf, agentOf}
 use Rattle.published_laws.specs.Environments.{number-value, look-env, look-past, slot-value, filled-value, look-filled}
 use Rattle.published_laws.specs.Products.{Bench}
 use Rattle.published_laws.specs.Passing.{others}

@@ -1,18 +1,17 @@
 -- Which of the partners that 002 allows the engine takes: the first commitment of the other direction on the channel, by rising thread and then by rising branch.
 -- Assumes nothing.
 use Prim.Native.Nat.{ℕ, _<_}
-use native.Mathlib.Omega.{arith}
-use mathlib.Core.Path.{_≡_, refl, sym, _∙_}
+use mathlib.Core.Path.{_≡_}
 use mathlib.Core.Logic.{_≢_}
-use mathlib.Core.Bool.{true, false}
-use lib.Dec.{ltb, eqb}
-use borrow.Author.Tests.{ltb-true, ne-eqb}
+use mathlib.Core.Bool.{false}
+use lib.Dec.{ltb}
+use borrow.Author.Tests.{ne-eqb}
 use Rattle.numbers.specs.Search.Laws.{caseB, contra, first-below}
 use Rattle.table.specs.Table.{Table}
 use Rattle.table.specs.Layout.{branchCount}
 use Rattle.state.specs.State.{State, maxThreads, maxChannels, thread, standsAt}
 use Rattle.rules.specs.Program.{branchAt, nextOf, fieldB}
-use Rattle.rules.specs.Offers.{offersAt, offeringBranch, offers, answers, answering, partnerOf}
+use Rattle.rules.specs.Offers.{offersAt, offeringBranch, answers, answering, partnerOf}
 use Rattle.rules.specs.declared.Direction.{Direction}
 use Rattle.rules.specs.declared.Partner.the-variants.{Nobody, At}
 use Rattle.granted.specs.Codes.{clash}

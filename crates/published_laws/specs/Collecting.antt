@@ -1,19 +1,18 @@
 -- A collection is one use of (stuck), with the threads that it takes as the clique, and then uses of (reclaim). No rule of document 01's own is needed. Assumes
 -- nothing but what the table grants.
-use Prim.Native.Nat.{ℕ, zero, suc, _<_}
+use Prim.Native.Nat.{ℕ, suc, _<_}
 use native.Mathlib.Omega.{arith}
 use mathlib.Core.Path.{_≡_, refl, sym, _∙_, ap}
-use mathlib.Core.Logic.{inl, inr, ⊎-elim, _≢_, _↔_}
+use mathlib.Core.Logic.{inl, inr, ⊎-elim, _↔_}
 use mathlib.Core.Bool.{Bool, true, false, _&&_, cond}
 use mathlib.Core.List.{List, [], _∷_, _++_}
-use lib.Dec.{ltb}
 use lib.ListN.{length, getD}
-use borrow.Author.Tests.{ltb-true, lt-ltb}
+use borrow.Author.Tests.{ltb-true}
 use Rattle.numbers.specs.Search.{tabulate}
 use Rattle.numbers.specs.Search.Laws.{caseB, contra, getD-tabulate, length-tabulate}
 use Rattle.table.specs.Table.{Table, ports}
 use Rattle.state.specs.State.{State, maxThreads, maxChannels, thread, inUse, isWaiting, typeIn}
-use Rattle.rules.specs.Holding.{holds, settled}
+use Rattle.rules.specs.Holding.{holds}
 use Rattle.rules.specs.Start.{freeRow}
 use Rattle.rules.specs.Offers.{offers}
 use Rattle.rules.specs.declared.Direction.{Direction}
@@ -26,7 +25,7 @@ use Rattle.collector.specs.Collect.{nobody, taken, remaining, collected}
 use Rattle.collector.specs.Collect.Laws.{taken-iff, stays-enabled}
 use Rattle.published.specs.Syntax.{Process, waiting}
 use Rattle.published.specs.Agents.{_∈_, channelOf, Thread, Agent, agent, knows, globalrc, Commits}
-use Rattle.published.specs.Rules.{Rearranged, none-left, same-first, swapped, twice, Reclaims, Sticks, stuck, sticks, exchange, Many, goes, Reaches}
+use Rattle.published.specs.Rules.{Rearranged, none-left, same-first, twice, Reclaims, Sticks, stuck, sticks, exchange, Many, goes, Reaches}
 use Rattle.published.specs.Enabling.{Enabled, Disabled}
 use Rattle.published.specs.Lists.{same-order, to-front, turned-back, none-knows, reclaims-reach}
 use Rattle.published_laws.specs.Readable.{Readable}

@@ -1,13 +1,13 @@
 -- The commitments of a waiting thread are its offers. Assumes nothing.
 use Prim.Native.Nat.{ℕ, zero, suc, _+_, _<_, _≤_}
 use native.Mathlib.Omega.{arith}
-use mathlib.Core.Path.{_≡_, refl, ap}
-use mathlib.Core.Logic.{_⊎_, inl, inr, ⊎-elim}
-use mathlib.Core.Bool.{true, false, cond}
-use mathlib.Core.List.{List, [], _∷_, _++_}
+use mathlib.Core.Path.{_≡_, refl}
+use mathlib.Core.Logic.{inl, inr, ⊎-elim}
+use mathlib.Core.Bool.{true, cond}
+use mathlib.Core.List.{List, [], _∷_}
 use lib.Dec.{eqb}
 use borrow.Author.Tests.{eqb-true, eqb-false}
-use Rattle.numbers.specs.Search.Laws.{caseB, contra}
+use Rattle.numbers.specs.Search.Laws.{caseB}
 use Rattle.table.specs.Table.{Table}
 use Rattle.table.specs.Layout.{branchCount}
 use Rattle.state.specs.State.{maxChannels, standsAt, slotOf, isWaiting}
@@ -19,7 +19,7 @@ use Rattle.rules.specs.declared.Act.{Act}
 use Rattle.rules.specs.declared.Act.the-variants.{Tau, Meeting, New, Spawn, Assignment}
 use Rattle.engine_laws.specs.Reading.Laws.{offers-intro}
 use Rattle.published.specs.Syntax.{Process}
-use Rattle.published.specs.Agents.{_∈_, Commitment, gives, takes, channelOf, Thread}
+use Rattle.published.specs.Agents.{_∈_, Commitment, gives, takes, channelOf}
 use Rattle.published.specs.Lists.{in-left, in-right, in-either}
 use Rattle.published_laws.specs.Standing.{processAt, committed, commitmentsFrom, waitingThread, readyThread, threadOf}
 

@@ -6,31 +6,31 @@ use mathlib.Core.Logic.{_≢_, _↔_, ⊎-elim}
 use mathlib.Core.Bool.{true, false}
 use mathlib.Core.List.{List, [], _∷_}
 use lib.Dec.{ltb, eqb}
-use lib.ListN.{length, getD, List·getD-eq-default}
-use borrow.Author.Tests.{ltb-true, ltb-false, lt-ltb, eqb-true, eqb-false, eq-eqb, ne-eqb}
+use lib.ListN.{length, List·getD-eq-default}
+use borrow.Author.Tests.{ltb-true, ltb-false, lt-ltb, eqb-true}
 use Rattle.numbers.specs.Search.Laws.{caseB, contra}
 use Rattle.table.specs.Table.{Table, nodes, ports}
 use Rattle.table.specs.Layout.{branchCount}
-use Rattle.state.specs.State.{State, maxThreads, maxChannels, thread, standsAt, inUse, isReady, isWaiting, typeIn}
+use Rattle.state.specs.State.{State, maxThreads, thread, standsAt, inUse, isReady, isWaiting, typeIn}
 use Rattle.rules.specs.Program.{kindOf, branchAt}
 use Rattle.rules.specs.Holding.{holds}
 use Rattle.rules.specs.Offers.{offers}
 use Rattle.rules.specs.declared.Direction.{Direction}
 use Rattle.granted.specs.Granted.{Granted}
-use Rattle.engine_laws.specs.Reading.Laws.{ready-used, waiting-used, ready-not-waiting, holds-elim, offers-elim}
+use Rattle.engine_laws.specs.Reading.Laws.{ready-used, waiting-used, holds-elim, offers-elim}
 use Rattle.engine_laws.specs.Sound.{RowSound, Sound}
 use Rattle.collector.specs.Enabled as Collector
 use Rattle.collector.specs.Enabled.{from-start, is-ready, by-bench, by-thread}
 use Rattle.collector.specs.Collect.{nobody}
 use Rattle.published.specs.Syntax.{Process, Sum, nothing, waiting, someWait, onlyWaits, waits}
-use Rattle.published.specs.Agents.{_∈_, Commitment, channelOf, Thread, nth, knows, Commits}
+use Rattle.published.specs.Agents.{channelOf, Thread, nth, knows, Commits}
 use Rattle.published.specs.Enabling.{Enabled, active, awoken, enabled-in}
 use Rattle.published_laws.specs.Readable.{Readable}
-use Rattle.published_laws.specs.Standing.{sumBefore, nodeProcess, processAt, commitmentsFrom, waitingThread, readyThread, threadOf, threadsOf}
+use Rattle.published_laws.specs.Standing.{sumBefore, nodeProcess, processAt, waitingThread, readyThread, threadOf, threadsOf}
 use Rattle.published_laws.specs.Unrolled.{process-at}
 use Rattle.published_laws.specs.Environments.{knows-held}
 use Rattle.published_laws.specs.Products.{Bench, ready-thread, waiting-thread, thread-env}
-use Rattle.published_laws.specs.Commitments.{pledge, pledge-channel, pledged, pledged-in, commits-offers}
+use Rattle.published_laws.specs.Commitments.{pledge-channel, pledged, pledged-in, commits-offers}
 use Rattle.published_laws.specs.Places.{rank, rank-in, rank-nth, rank-apart, rank-found}
 
 -- ---- who waits

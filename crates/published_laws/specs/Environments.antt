@@ -2,11 +2,11 @@
 -- nothing but what the table grants.
 use Prim.Native.Nat.{ℕ, _<_, _≤_}
 use native.Mathlib.Omega.{arith}
-use mathlib.Core.Path.{_≡_, refl, sym, _∙_, ap}
+use mathlib.Core.Path.{_≡_, sym, _∙_, ap}
 use mathlib.Core.Logic.{_≢_}
-use mathlib.Core.Bool.{true, false, cond}
-use mathlib.Core.List.{List, []}
-use mathlib.Core.Option.{Option, none, some}
+use mathlib.Core.Bool.{true, false}
+use mathlib.Core.List.{List}
+use mathlib.Core.Option.{none, some}
 use lib.Dec.{ltb, eqb}
 use lib.ListN.{length, List·getD-eq-default}
 use borrow.Author.Tests.{ltb-true, ltb-false, lt-ltb, eqb-true, eqb-false, eq-eqb, ne-eqb}
@@ -21,13 +21,11 @@ use Rattle.rules.specs.Program.{branchAt, fieldB, fieldC, actOf, guardHolds, as
 use Rattle.rules.specs.Holding.{holds}
 use Rattle.rules.specs.declared.Act.the-variants.{Assignment}
 use Rattle.granted.specs.Granted.{Granted}
-use Rattle.engine_laws.specs.Reading.{Holding}
 use Rattle.engine_laws.specs.Reading.Laws.{holds-elim, holds-intro}
 use Rattle.engine_laws.specs.Sound.{SlotSound, spare, number, unfilled, filled, RowSound}
 use Rattle.engine_laws.specs.Onward.{own-slot}
-use Rattle.published.specs.Syntax.{Guard}
 use Rattle.published.specs.Agents as Agents
-use Rattle.published.specs.Agents.{Value, Env, look, bind, numeric, numberOf, valueOf, Thread, knows}
+use Rattle.published.specs.Agents.{Value, look, bind, numeric, numberOf, valueOf, Thread, knows}
 use Rattle.published.specs.Bindings.{look-bound, look-other, length-bound, knows-iff}
 use Rattle.published_laws.specs.Readable.{NumberSlot, Readable}
 use Rattle.published_laws.specs.Standing.{guardOf, expressionOf, valueAs, slotValue, envOf}

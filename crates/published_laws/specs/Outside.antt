@@ -2,7 +2,7 @@
 -- nothing but what the table grants.
 use Prim.Native.Nat.{ℕ, _<_}
 use native.Mathlib.Omega.{arith}
-use mathlib.Core.Path.{_≡_, refl, sym, _∙_, ap}
+use mathlib.Core.Path.{_≡_, refl, _∙_, ap}
 use mathlib.Core.Bool.{true}
 use mathlib.Core.List.{List, [], _∷_}
 use mathlib.Core.Option.{some}
@@ -10,14 +10,13 @@ use lib.ListN.{length, set}
 use Rattle.table.specs.Table.{Table, ports, carried}
 use Rattle.table.specs.Layout.{definitionOf, slotType}
 use Rattle.state.specs.State.{State, maxThreads, maxChannels, thread, standsAt, inUse, typeIn, withThread}
-use Rattle.rules.specs.Program.{branchAt, fieldB, actOf}
+use Rattle.rules.specs.Program.{branchAt, fieldB}
 use Rattle.rules.specs.Start.{freeRow}
 use Rattle.rules.specs.Offers.{partnerOf}
 use Rattle.rules.specs.Moves.{metBy, valueBy, metByBench}
 use Rattle.rules.specs.Calls.{bench}
 use Rattle.rules.specs.declared.Direction.{Direction}
 use Rattle.rules.specs.declared.Direction.the-variants.{Out, In}
-use Rattle.rules.specs.declared.Act.the-variants.{Meeting}
 use Rattle.rules.specs.declared.Partner.the-variants.{At}
 use Rattle.granted.specs.Granted.{Granted}
 use Rattle.engine_laws.specs.Reading.Laws.{ready-used, waiting-used}
@@ -27,7 +26,7 @@ use Rattle.engine_laws.specs.Meetings.{meets-by, value-type}
 use Rattle.engine_laws.specs.Chosen.{Answering, partner-answers}
 use Rattle.published.specs.Syntax.{Process, choice, Sum, branch, always, output, input}
 use Rattle.published.specs.Agents as Agents
-use Rattle.published.specs.Agents.{Env, look, bind, Thread, Agent, agent}
+use Rattle.published.specs.Agents.{Env, look, bind, Thread, Agent}
 use Rattle.published.specs.Rules.{Rearranged, same-first, send, recv, stays, Turn, Stepped}
 use Rattle.published.specs.Lists.{turned-back}
 use Rattle.published_laws.specs.Readable.{Readable}

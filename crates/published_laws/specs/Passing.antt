@@ -1,21 +1,21 @@
 -- How a ready thread at a choice passes over the branches that do not go ahead: by (next) where the guard is false, by (out) and (in) where nobody answers; and
 -- where no branch goes ahead, by (out), (in) and skip to the last. Assumes nothing but what the table grants.
-use Prim.Native.Nat.{ℕ, zero, suc, _+_, _<_, _≤_}
+use Prim.Native.Nat.{ℕ, zero, suc, _+_, _<_}
 use native.Mathlib.Omega.{arith}
-use mathlib.Core.Path.{_≡_, refl, sym, _∙_, ap}
-use mathlib.Core.Logic.{inl, inr, ⊎-elim, _≢_}
+use mathlib.Core.Path.{_≡_, refl, _∙_}
+use mathlib.Core.Logic.{inl, inr, _≢_}
 use mathlib.Core.Bool.{true, false, cond}
 use mathlib.Core.List.{List, [], _∷_, _++_, append-nil, append-assoc}
 use mathlib.Core.Option.{some}
 use lib.Dec.{ltb, eqb}
-use lib.ListN.{length, getD, set, length-set}
+use lib.ListN.{getD, set, length-set}
 use lib.Seq.{getD-set-same, getD-set-other}
 use borrow.Author.Tests.{eqb-true, eqb-false}
 use Rattle.numbers.specs.Search.Laws.{caseB, contra}
 use Rattle.table.specs.Table.{Table}
 use Rattle.table.specs.Layout.{branchCount, definitionOf, slotType}
-use Rattle.state.specs.State.{State, maxThreads, maxChannels, thread, standsAt, slotOf, inUse, isReady, typeIn}
-use Rattle.rules.specs.Program.{branchAt, nextOf, childOf, fieldA, fieldB, actOf, guardHolds, opposite}
+use Rattle.state.specs.State.{State, maxThreads, maxChannels, thread, standsAt, inUse, isReady, typeIn}
+use Rattle.rules.specs.Program.{branchAt, nextOf, childOf, fieldA, actOf, guardHolds, opposite}
 use Rattle.rules.specs.Start.{freeRow}
 use Rattle.rules.specs.Offers.{offers, partnerOf}
 use Rattle.rules.specs.Moves.{freeThread, freeChannel, meeting, creation, spawning, goesAhead, actMove, branchMove, ahead}
@@ -33,7 +33,7 @@ use Rattle.engine_laws.specs.Meetings.{meets-by}
 use Rattle.engine_laws.specs.Channels.{on-held}
 use Rattle.published.specs.Syntax.{Process, choice, Sum, branch, andWait, waits}
 use Rattle.published.specs.Agents as Agents
-use Rattle.published.specs.Agents.{_∈_, Env, look, Commitment, gives, takes, Thread, Channels, Agent, agent}
+use Rattle.published.specs.Agents.{_∈_, look, Commitment, Thread, Channels, Agent, agent}
 use Rattle.published.specs.Rules.{Acts, next, out, inn, more, Many, stays, goes, Ours, skip}
 use Rattle.published_laws.specs.Readable.{Readable}
 use Rattle.published_laws.specs.Standing.{guardOf, prefixOf, sumBefore, processAt, bodyOf, envOf, committed, commitmentsFrom, threadOf, threadsOf}

@@ -2,9 +2,9 @@
 -- nothing.
 use Prim.Native.Nat.{ℕ, zero, suc, _+_, _<_}
 use native.Mathlib.Omega.{arith}
-use mathlib.Core.Path.{_≡_, refl, sym, _∙_, ap}
-use mathlib.Core.Logic.{inl, inr, ⊎-elim}
-use mathlib.Core.Bool.{true, false, _&&_}
+use mathlib.Core.Path.{_≡_, refl, ap}
+use mathlib.Core.Logic.{⊎-elim}
+use mathlib.Core.Bool.{true, false}
 use mathlib.Core.List.{List, [], _∷_}
 use lib.Dec.{ltb}
 use lib.ListN.{length, getD, set}
@@ -12,15 +12,14 @@ use lib.Seq.{set-getD}
 use Rattle.numbers.specs.Count.{bit, count}
 use Rattle.numbers.specs.Search.Laws.{caseB, contra}
 use Rattle.table.specs.Table.{Table, ports}
-use Rattle.table.specs.Layout.{branchCount}
-use Rattle.state.specs.State.{State, thread, standsAt, inUse, isReady, isWaiting}
+use Rattle.state.specs.State.{inUse, isReady, isWaiting}
 use Rattle.rules.specs.Holding.{holds, holders, countOf}
 use Rattle.rules.specs.Start.{freeRow}
 use Rattle.engine_laws.specs.Reading.Laws.{holds-elim, ready-not-waiting}
 use Rattle.published.specs.Syntax.{waiting}
 use Rattle.published.specs.Agents.{_∈_, Thread, knows, globalrc}
 use Rattle.published.specs.Rules.{Rearranged, same-first, swapped, twice}
-use Rattle.published.specs.Lists.{same-order, turned-back}
+use Rattle.published.specs.Lists.{same-order}
 use Rattle.published_laws.specs.Standing.{envOf, waitingThread, readyThread, threadOf, threadsOf}
 use Rattle.published_laws.specs.Environments.{knows-held}
 

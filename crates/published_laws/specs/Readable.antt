@@ -3,7 +3,7 @@
 use Prim.Native.Nat.{ℕ, _+_, _-_, _<_, _≤_}
 use native.Mathlib.Omega.{arith}
 use mathlib.Core.Path.{_≡_, refl}
-use mathlib.Core.Bool.{true, false, _&&_}
+use mathlib.Core.Bool.{true}
 use mathlib.Core.Logic.{inl, inr, _≢_}
 use mathlib.Core.List.{List}
 use lib.Dec.{ltb}
@@ -12,17 +12,17 @@ use borrow.Author.Tests.{lt-ltb, le-ltb, eqb-true, ne-eqb, not-false}
 use Rattle.numbers.specs.Rows.{at}
 use Rattle.numbers.specs.Search.Laws.{caseB, first-below, every-elim}
 use Rattle.numbers.specs.Tests.{parts}
-use Rattle.table.specs.Table.{Table, tableOf, nodes, definitionRow, nodeRow, branchRow, lineTotal, carried, slotCount}
+use Rattle.table.specs.Table.{Table, tableOf, nodes, definitionRow, nodeRow, branchRow, lineTotal, slotCount}
 use Rattle.table.specs.Layout.{start, branchCount, definitionOf, slotType}
 use Rattle.table.specs.Form.Laws.{within-least, header-counts}
-use Rattle.table.specs.Roles.{guardRole, actionRole, operandPlace, operand, operandRole, reads, writes}
+use Rattle.table.specs.Roles.{guardRole, actionRole, operandPlace, operand, operandRole, reads}
 use Rattle.table.specs.declared.Part.the-variants.{Branches}
 use Rattle.table.specs.declared.Role.the-variants.{ReadNumber}
-use Rattle.checks.specs.Ranges.{roleInRange, nodeInRange, operandInRange, branchInRange}
+use Rattle.checks.specs.Ranges.{nodeInRange, operandInRange, branchInRange}
 use Rattle.checks.specs.Types.{roleTyped, operandTyped, branchTyped, rowTyped, typesDisagree}
 use Rattle.loader.specs.Load.{accepted}
 use Rattle.loading.specs.Grounds.{named, named-below, branch-kind, node-in-range, node-of, branch-below, own-branch-in-range, edges}
-use Rattle.loading.specs.Paths.{rowOf, Edge}
+use Rattle.loading.specs.Paths.{rowOf}
 use Rattle.rules.specs.Program.{kindOf, branchAt, nextOf, childOf, fieldB, fieldC, actOf}
 use Rattle.rules.specs.declared.Act.the-variants.{Spawn}
 use Rattle.granted.specs.Passed.{Passed, accepted-passed}

@@ -1,20 +1,20 @@
 -- Counting the channels of a state anew is a series of uses of (reclaim), one for each channel that nobody holds any more. Assumes nothing.
-use Prim.Native.Nat.{ℕ, zero, suc, _<_, _≤_}
+use Prim.Native.Nat.{ℕ, zero, suc, _≤_}
 use native.Mathlib.Omega.{arith}
-use mathlib.Core.Path.{_≡_, refl, sym, _∙_, ap, fun-ext}
+use mathlib.Core.Path.{_≡_, refl, sym, _∙_, fun-ext}
 use mathlib.Core.Logic.{_≢_}
-use mathlib.Core.Bool.{Bool, true, false, not, _&&_, _||_}
+use mathlib.Core.Bool.{true, not, _&&_, _||_}
 use mathlib.Core.List.{List, [], _∷_}
 use lib.Dec.{ltb, leb, eqb}
 use lib.ListN.{length, getD, List·getD-eq-default}
-use borrow.Author.Tests.{ltb-true, ltb-false, lt-ltb, eqb-true, eqb-false, eq-eqb, ne-eqb, leb-true, leb-false, le-leb, lt-leb}
-use Rattle.numbers.specs.Search.Laws.{caseB, contra}
+use borrow.Author.Tests.{ltb-true, ltb-false, lt-ltb, eqb-true, eqb-false, eq-eqb, leb-true, leb-false, le-leb, lt-leb}
+use Rattle.numbers.specs.Search.Laws.{caseB}
 use Rattle.table.specs.Table.{Table}
-use Rattle.state.specs.State.{State, maxChannels, typeIn, channel, withChannels}
+use Rattle.state.specs.State.{State, maxChannels, typeIn, withChannels}
 use Rattle.rules.specs.Holding.{waiters, countOf, channelRow, settled}
 use Rattle.counts.specs.Upkeep.{settled-length}
 use Rattle.engine_laws.specs.Settle.{settled-row}
-use Rattle.published.specs.Agents.{Thread, Channels, adding, Agent, agent, globalrc}
+use Rattle.published.specs.Agents.{Thread, Channels, adding, agent, globalrc}
 use Rattle.published.specs.Rules.{Reclaims, reclaim, Many, stays, goes}
 use Rattle.published.specs.Lists.{many-on}
 use Rattle.published_laws.specs.Standing.{threadsOf, channelsOf, agentOf}

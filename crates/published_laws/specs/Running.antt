@@ -1,7 +1,7 @@
 -- The calls of the engine and of the collector, over the bytes that the bench software sees, are series of 002's reductions. Assumes nothing.
 use Prim.Native.Nat.{ℕ, zero, suc, _<_}
 use mathlib.Core.Path.{_≡_, refl, sym, _∙_}
-use mathlib.Core.Bool.{true, false, _&&_}
+use mathlib.Core.Bool.{true}
 use mathlib.Core.List.{List, []}
 use mathlib.Core.Option.{some}
 use lib.Dec.{ltb}
@@ -42,7 +42,7 @@ use Rattle.published.specs.Syntax.{Process, choice, Sum, branch, always, output
 use Rattle.published.specs.Agents as Agents
 use Rattle.published.specs.Agents.{Env, look, bind, Thread, Agent}
 use Rattle.published.specs.Rules as Rules
-use Rattle.published.specs.Rules.{Many, stays, Reduces, Reaches, Ours}
+use Rattle.published.specs.Rules.{stays, Reduces, Reaches, Ours}
 use Rattle.published.specs.Lists.{many-on, stepped-reaches}
 use Rattle.published_laws.specs.Readable.{Readable, readable}
 use Rattle.published_laws.specs.Standing.{bodyOf, threadOf, channelsOf, agentOf}

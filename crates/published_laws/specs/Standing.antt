@@ -1,7 +1,7 @@
 -- The agent of 002 that a state stands for. A node of a table stands for the process that begins there; a thread's slots are its environment; a waiting
 -- thread has its offers as commitments; the channels in use are Δ. The bench is one thread more.
 use Prim.Native.Nat.{ℕ, zero, suc}
-use mathlib.Core.Bool.{Bool, not, cond}
+use mathlib.Core.Bool.{not, cond}
 use mathlib.Core.List.{List, [], _∷_, _++_}
 use mathlib.Core.Option.{Option, none, some}
 use lib.Dec.{ltb, eqb}

@@ -1,9 +1,9 @@
 -- A spawn and a meeting are reductions: (spawn), (send), (recv). Assumes nothing but what the table grants.
-use Prim.Native.Nat.{ℕ, _+_, _<_}
+use Prim.Native.Nat.{ℕ, _<_}
 use native.Mathlib.Omega.{arith}
 use mathlib.Core.Path.{_≡_, refl, sym, _∙_, ap}
-use mathlib.Core.Logic.{inl, _≢_}
-use mathlib.Core.Bool.{true, false}
+use mathlib.Core.Logic.{_≢_}
+use mathlib.Core.Bool.{true}
 use mathlib.Core.List.{List, [], _∷_}
 use mathlib.Core.Option.{some}
 use lib.ListN.{length, getD, set, length-set}
@@ -11,13 +11,13 @@ use lib.Seq.{set-getD, set-comm, getD-set-other}
 use Rattle.numbers.specs.Search.Laws.{contra}
 use Rattle.table.specs.Table.{Table, carried}
 use Rattle.table.specs.Layout.{branchCount, definitionOf, slotType}
-use Rattle.state.specs.State.{State, maxThreads, thread, standsAt, slotOf, inUse, isReady, isWaiting, typeIn, withMark, withThread}
+use Rattle.state.specs.State.{State, maxThreads, thread, standsAt, slotOf, inUse, isReady, typeIn, withMark, withThread}
 use Rattle.rules.specs.Program.{kindOf, branchAt, nextOf, childOf, fieldA, fieldB, actOf, guardHolds, opposite}
 use Rattle.rules.specs.Start.{freeRow}
 use Rattle.rules.specs.Moves.{resumed, metBy, valueBy, spawnedBy, written}
 use Rattle.rules.specs.declared.Direction.{Direction}
 use Rattle.rules.specs.declared.Direction.the-variants.{Out, In}
-use Rattle.rules.specs.declared.Act.the-variants.{Meeting, Spawn}
+use Rattle.rules.specs.declared.Act.the-variants.{Meeting}
 use Rattle.rules.specs.declared.Move.the-variants.{Spawns, Meets}
 use Rattle.granted.specs.Granted.{Granted}
 use Rattle.engine_laws.specs.Reading.Laws.{ready-used, waiting-used}
@@ -26,16 +26,16 @@ use Rattle.engine_laws.specs.Rows.{resumed-ready}
 use Rattle.engine_laws.specs.Onward.{metBy-ready}
 use Rattle.engine_laws.specs.Meetings.{meets-by, value-type}
 use Rattle.engine_laws.specs.Chosen.{channelBy, Open, Spawning, Answering}
-use Rattle.published.specs.Syntax.{choice, Sum, waits}
+use Rattle.published.specs.Syntax.{Sum, waits}
 use Rattle.published.specs.Agents as Agents
-use Rattle.published.specs.Agents.{_∈_, Value, look, bind, Commitment, Thread, Agent, agent}
+use Rattle.published.specs.Agents.{_∈_, Value, look, Commitment, Thread, Agent, agent}
 use Rattle.published.specs.Rules.{Rearranged, same-first, swapped, twice, Acts, spawn, send, recv, stays, Turn}
 use Rattle.published.specs.Lists.{same-order, in-rearranged, turned-back}
 use Rattle.published_laws.specs.Readable.{Readable}
 use Rattle.published_laws.specs.Standing.{guardOf, prefixOf, processAt, bodyOf, valueAs, envOf, commitmentsFrom, waitingThread, readyThread, threadOf, threadsOf, channelsOf, agentOf}
 use Rattle.published_laws.specs.Environments.{guard-same, filled-value, look-filled}
 use Rattle.published_laws.specs.Products.{Bench, waiting-thread, stored-first, row-first}
-use Rattle.published_laws.specs.Commitments.{pledge, pledged, pledged-in}
+use Rattle.published_laws.specs.Commitments.{pledge, pledged-in}
 use Rattle.published_laws.specs.Passing.{Passed, others, tip, midway, channel-is}
 use Rattle.published_laws.specs.Afterwards.{next-thread, child-thread, gave-thread, received-thread}
 use Rattle.published_laws.specs.Alone.{new-first, led}

@@ -1,11 +1,9 @@
 -- The process of a node unrolls by one node at a time: how far the table is followed does not matter. Assumes nothing but what the table grants.
 use Prim.Native.Nat.{ℕ, zero, suc, _+_, _<_, _≤_}
 use native.Mathlib.Omega.{arith}
-use mathlib.Core.Path.{_≡_, refl, sym, _∙_, ap}
-use mathlib.Core.Bool.{true, false}
+use mathlib.Core.Path.{_≡_, refl, ap}
 use lib.Dec.{eqb}
 use Rattle.numbers.specs.Search.Laws.{caseB}
-use borrow.Author.Tests.{eqb-true}
 use Rattle.table.specs.Table.{Table, nodes}
 use Rattle.table.specs.Layout.{branchCount}
 use Rattle.rules.specs.Program.{kindOf, branchAt, nextOf, childOf, actOf}
@@ -15,7 +13,7 @@ use Rattle.rules.specs.declared.Act.the-variants.{Tau, Meeting, New, Spawn, Ass
 use Rattle.granted.specs.Granted.{Granted}
 use Rattle.published.specs.Syntax.{Process, Sum, nothing, wait, branch, andWait, waits}
 use Rattle.published_laws.specs.Readable.{Readable}
-use Rattle.published_laws.specs.Standing.{guardOf, prefixOf, sumBefore, nodeProcess, unrolled, processAt}
+use Rattle.published_laws.specs.Standing.{prefixOf, sumBefore, nodeProcess, unrolled, processAt}
 
 module _ (tb : Table) (f g : ℕ → Process) where
   prefix-same : (r n : ℕ) (a : Act) → (a ≡ Spawn → f n ≡ g n) → prefixOf tb (f n) r a ≡ prefixOf tb (g n) r a
