@@ -96,7 +96,8 @@ module _ (R : Agent → Agent → Type 0) where
 
 module _ (def : ℕ → Process) (More : Agent → Agent → Type 0) where
   -- products in another order at the beginning and at the end
-  exchanged : {A A′ B : List Thread} {Δ : Channels} {C T : Agent} → Rearranged A A′ → Acts def More (agent Δ A′) C → Many (Acts def More) C T → Rearranged (T .threads) B
+  exchanged : {A A′ B : List Thread} {Δ : Channels} {C T : Agent} → Rearranged A A′ → Acts def More (agent Δ A′) C → Many (Acts def More) C T
+      → Rearranged (T .threads) B
       → Reaches def More (agent Δ A) (agent (T .channels) B)
   exchanged p r stays q = goes (exchange p (acts r) q) stays
   exchanged p r (goes x w) q = goes (exchange p (acts r) (same-order _)) (exchanged (same-order _) x w q)

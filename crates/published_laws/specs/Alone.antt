@@ -102,7 +102,8 @@ module _ (tb : Table) (g : Granted tb) (rd : Readable tb) (s : State) (o : Order
   -- ---- a wait: (out), (in) and skip
 
   wait-thread : threadOf tb (waitingRow (thread s t))
-      ≡ midway tb g rd s o t l ready b bn (commitmentsFrom tb (thread s t) 0 (branchCount tb (standsAt (thread s t)))) (waits (branchCount tb (standsAt (thread s t))))
+      ≡ midway tb g rd s o t l ready b bn (commitmentsFrom tb (thread s t) 0 (branchCount tb (standsAt (thread s t))))
+      (waits (branchCount tb (standsAt (thread s t))))
   unfolding waitingThread
   wait-thread =
       let row = thread s t in
@@ -155,9 +156,11 @@ module _ (tb : Table) (g : Granted tb) (rd : Readable tb) (s : State) (o : Order
 
     -- it writes the row of the thread alone
     single : (row : List ℕ) → inUse row ≡ true → (D : Channels)
-        → ((Γ : List Commitment) (q : Sum) → Acts (bodyOf tb) More (agent (channelsOf s) (midway tb g rd s o t l ready b bn Γ (tip tb g rd s o t l ready b bn k q) ∷ rest))
+        → ((Γ : List Commitment) (q : Sum) → Acts (bodyOf tb) More
+        (agent (channelsOf s) (midway tb g rd s o t l ready b bn Γ (tip tb g rd s o t l ready b bn k q) ∷ rest))
         (agent D (threadOf tb row ∷ rest)))
-        → Turn (bodyOf tb) More (agent (channelsOf s) (b ∷ threadsOf tb (s .threads))) (readyThread tb (thread s t)) (agent D (b ∷ threadsOf tb (set (s .threads) t row)))
+        → Turn (bodyOf tb) More (agent (channelsOf s) (b ∷ threadsOf tb (s .threads))) (readyThread tb (thread s t))
+        (agent D (b ∷ threadsOf tb (set (s .threads) t row)))
     single row u D f =
         led rest (agent D (threadOf tb row ∷ rest)) (b ∷ threadsOf tb (set (s .threads) t row)) (same-order rest) (λ x i. i)
         (λ Γ q. (D, threadOf tb row, rest, f Γ q, stays)) (turned-back (new-first row u))

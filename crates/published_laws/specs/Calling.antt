@@ -51,7 +51,8 @@ no-value ty n = rw (ne-eqb ty 0 n)
 -- ---- what stands in a slot that is no parameter
 
 -- nothing, or 0 where it is for numbers
-blank-value : (tb : Table) (d k : ℕ) → k < slotCount tb d → (valueAs (slotType tb d k) (blank tb d k) ≡ none) ⊎ (valueAs (slotType tb d k) (blank tb d k) ≡ some (Agents.number 0))
+blank-value : (tb : Table) (d k : ℕ) → k < slotCount tb d
+    → (valueAs (slotType tb d k) (blank tb d k) ≡ none) ⊎ (valueAs (slotType tb d k) (blank tb d k) ≡ some (Agents.number 0))
 unfolding blank channelSlot
 blank-value tb d k l =
     caseB (eqb (slotType tb d k) 0)

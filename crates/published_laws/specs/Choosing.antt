@@ -36,7 +36,8 @@ module _ (tb : Table) (s : State) (t : ℕ) (d : Direction) (c : ℕ) where
       (λ y. clash (let z : Nobody ≡ At u j = rw y at e in cc))
 
   -- a thread before it, t left aside, has no such commitment
-  none-before : (u j : ℕ) → partnerOf tb s t d c ≡ At u j → (v : ℕ) → v < u → v ≢ t → (x : ℕ) (S : Process) → pledge d c x S ∈ threadOf tb (thread s v) .commitments → ⊥
+  none-before : (u j : ℕ) → partnerOf tb s t d c ≡ At u j → (v : ℕ) → v < u → v ≢ t → (x : ℕ) (S : Process)
+      → pledge d c x S ∈ threadOf tb (thread s v) .commitments → ⊥
   unfolding answering answers
   none-before u j e v l n x S i =
       let (q, z) = found-at u j e in

@@ -107,7 +107,8 @@ module _ (tb : Table) (g : Granted tb) (rd : Readable tb) (s : State) (ok : Soun
   -- ---- from 002 to document 01
 
   -- who waits offers on a channel that the thread k knows
-  by-known : (t : ℕ) → t < maxThreads → inUse (thread s t) ≡ true → (ĉ : ℕ) → Commits (threadOf tb (thread s t) .commitments) ĉ → (k : ℕ) → k ≢ placeOf t → k < length A
+  by-known : (t : ℕ) → t < maxThreads → inUse (thread s t) ≡ true → (ĉ : ℕ) → Commits (threadOf tb (thread s t) .commitments) ĉ → (k : ℕ) → k ≢ placeOf t
+      → k < length A
       → ((u : ℕ) → u < maxThreads → inUse (thread s u) ≡ true → k ≡ placeOf u → Collector.Enabled tb s nobody u)
       → knows ĉ (nth A k) ≡ true → Collector.Enabled tb s nobody t
   by-known t l x ĉ (c, i, q) zero n m f h =
@@ -138,7 +139,8 @@ module _ (tb : Table) (g : Granted tb) (rd : Readable tb) (s : State) (ok : Soun
   bench-enabled : Enabled A 0
   bench-enabled = active {j = 0} (omega arith) (bn .acts)
 
-  known-by : (t : ℕ) → t < maxThreads → (d : Direction) (c : ℕ) → offers tb (thread s t) d c ≡ true → (k : ℕ) → k ≢ placeOf t → Enabled A k → knows c (nth A k) ≡ true
+  known-by : (t : ℕ) → t < maxThreads → (d : Direction) (c : ℕ) → offers tb (thread s t) d c ≡ true → (k : ℕ) → k ≢ placeOf t → Enabled A k
+      → knows c (nth A k) ≡ true
       → Enabled A (placeOf t)
   known-by t l d c o k n e h =
       let w = offers-elim tb (thread s t) d c o .waits in

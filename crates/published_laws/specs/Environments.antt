@@ -75,7 +75,8 @@ module _ (tb : Table) (row : List ℕ) where
   length-env = length-tabulate rowSlots (slotValue tb row)
 
   -- a slot of the definition has its value by its type
-  pub slot-value : (k : ℕ) → k < slotCount tb (definitionOf tb (standsAt row)) → slotValue tb row k ≡ valueAs (slotType tb (definitionOf tb (standsAt row)) k) (slotOf row k)
+  pub slot-value : (k : ℕ) → k < slotCount tb (definitionOf tb (standsAt row))
+      → slotValue tb row k ≡ valueAs (slotType tb (definitionOf tb (standsAt row)) k) (slotOf row k)
   unfolding slotValue
   slot-value k l = rw (lt-ltb k (slotCount tb (definitionOf tb (standsAt row))) l)
 
@@ -158,7 +159,8 @@ module _ (tb : Table) (g : Granted tb) (rd : Readable tb) (ty : ℕ → ℕ) (ro
       by-slot (unfilled a z m v) = contra m f
       by-slot (filled a z v e) = (Agents.channel (slotOf row k), channel-value (slotType tb (definitionOf tb (standsAt row)) k) (slotOf row k) z v)
 
-  pub look-filled : (k : ℕ) → k < slotCount tb (definitionOf tb (standsAt row)) → look (envOf tb row) k ≡ valueAs (slotType tb (definitionOf tb (standsAt row)) k) (slotOf row k)
+  pub look-filled : (k : ℕ) → k < slotCount tb (definitionOf tb (standsAt row))
+      → look (envOf tb row) k ≡ valueAs (slotType tb (definitionOf tb (standsAt row)) k) (slotOf row k)
   look-filled k l = look-env tb row k (own-slot tb g ty row r u k l) ∙ slot-value tb row k l
 
   module _ (i : ℕ) (l : i < branchCount tb (standsAt row)) where
@@ -185,7 +187,8 @@ module _ (tb : Table) (g : Granted tb) (rd : Readable tb) (ty : ℕ → ℕ) (ro
         (λ f. caseB (eqb (at tb b 4) 3) (λ j. clash (let q = rw (e, f, j) at m in cc))
         (λ j. caseB (eqb (at tb b 4) 4) (λ k. clash (let q = rw (e, f, j, k) at m in cc))
         (λ k. caseB (eqb (at tb b 4) 0) (λ z. clash (let q = rw (e, f, j, k, z) at m in cc))
-        (λ z. omega (arith, eqb-false (at tb b 4) 0 z, eqb-false (at tb b 4) 1 e, eqb-false (at tb b 4) 2 f, eqb-false (at tb b 4) 3 j, eqb-false (at tb b 4) 4 k))))))
+        (λ z. omega (arith, eqb-false (at tb b 4) 0 z, eqb-false (at tb b 4) 1 e, eqb-false (at tb b 4) 2 f,
+        eqb-false (at tb b 4) 3 j, eqb-false (at tb b 4) 4 k))))))
 
     -- what is assigned
     pub assigned-same : actOf tb (branchAt tb (standsAt row) i) ≡ Assignment

@@ -18,3 +18,4 @@ pub mod Collecting
 pub mod Running
 pub mod Choosing
 pub mod Benches
+pub mod Starting

@@ -98,7 +98,8 @@ module _ (tb : Table) (g : Granted tb) (rd : Readable tb) (s : State) (ok : Soun
 
     -- the thread that is found to receive goes on with v
     pub give-reduced : partnerOf tb s bench In p ≡ At u j → Bench tb gave
-        → Stepped def More (agentOf tb (Agents.thread [] δ (choice (branch always (output c x) E q))) s) (Agents.thread [] δ (choice (branch always (output c x) E q)))
+        → Stepped def More (agentOf tb (Agents.thread [] δ (choice (branch always (output c x) E q))) s)
+        (Agents.thread [] δ (choice (branch always (output c x) E q)))
         (agentOf tb (Agents.thread [] δ E) (metByBench tb s u j v))
     unfolding metByBench
     give-reduced e bn = let row = metBy tb (thread s u) j v in record {

@@ -105,7 +105,8 @@ module _ (tb : Table) (g : Granted tb) (rd : Readable tb) (s : State) (o : Order
       let w : getD (set rows t freeRow) u [] ≡ thread s u = getD-set-other rows t u freeRow [] e in
       contra (pledge-offers tb (thread s u) d c v S (rw w at k′) m) (f u in-rows e))
 
-  others-silent : (d : Direction) (c : ℕ) → c < maxChannels → Unanswered tb s t d c → (x : Thread) → x ∈ others → (v : ℕ) (S : Process) → pledge d c v S ∈ x .commitments → ⊥
+  others-silent : (d : Direction) (c : ℕ) → c < maxChannels → Unanswered tb s t d c → (x : Thread) → x ∈ others → (v : ℕ) (S : Process)
+      → pledge d c v S ∈ x .commitments → ⊥
   unfolding others
   others-silent d c m f x (inl q) v S k = absurd (let h : pledge d c v S ∈ [] = rw (q, bn .uncommitted) at k in h)
   others-silent d c m f x (inr i) v S k = rows-silent d c m f x i v S k
@@ -123,7 +124,8 @@ module _ (tb : Table) (g : Granted tb) (rd : Readable tb) (s : State) (o : Order
   midway Γ q = Agents.thread Γ (envOf tb (thread s t)) (choice q)
 
   guard-is : (i : ℕ) → i < branchCount tb (standsAt (thread s t))
-      → Agents.holds (envOf tb (thread s t)) (guardOf tb (branchAt tb (standsAt (thread s t)) i)) ≡ guardHolds tb (branchAt tb (standsAt (thread s t)) i) (thread s t)
+      → Agents.holds (envOf tb (thread s t)) (guardOf tb (branchAt tb (standsAt (thread s t)) i))
+      ≡ guardHolds tb (branchAt tb (standsAt (thread s t)) i) (thread s t)
   guard-is i m = guard-same tb g rd (typeIn s) (thread s t) sound used i m
 
   -- ---- the channel of a meeting
@@ -145,7 +147,8 @@ module _ (tb : Table) (g : Granted tb) (rd : Readable tb) (s : State) (o : Order
     commit : (i : ℕ) → i < branchCount tb (standsAt (thread s t)) → (d : Direction) → guardHolds tb (branchAt tb (standsAt (thread s t)) i) (thread s t) ≡ true
         → actOf tb (branchAt tb (standsAt (thread s t)) i) ≡ Meeting d → Unanswered tb s t (opposite d) (channelBy tb s t i) → (Γ : List Commitment) (q : Sum)
         → Acts (bodyOf tb) More (agent Δ (midway Γ (tip i q) ∷ B))
-        (agent Δ (midway (Γ ++ committed tb (thread s t) (branchAt tb (standsAt (thread s t)) i) (actOf tb (branchAt tb (standsAt (thread s t)) i))) (andWait q) ∷ B))
+        (agent Δ (midway (Γ ++ committed tb (thread s t) (branchAt tb (standsAt (thread s t)) i) (actOf tb (branchAt tb (standsAt (thread s t)) i)))
+        (andWait q) ∷ B))
     unfolding tip prefixOf committed opposite pledge
     commit i m Out y e f Γ q =
         let c = channel-in i m Out e in
@@ -198,7 +201,8 @@ module _ (tb : Table) (g : Granted tb) (rd : Readable tb) (s : State) (o : Order
     pass-one i m (closed y) Γ q = rw (y, append-nil Γ) (more (skip (guard-is i m ∙ y)))
     pass-one i m (unmet d y e f) Γ q = rw y (commit Ours B among Δ i m d y e f Γ q)
 
-    pub pass-all : (m i : ℕ) → i + m ≡ branchCount tb (standsAt (thread s t)) → ((j : ℕ) → j < branchCount tb (standsAt (thread s t)) → Passed tb s t j) → (Γ : List Commitment)
+    pub pass-all : (m i : ℕ) → i + m ≡ branchCount tb (standsAt (thread s t)) → ((j : ℕ) → j < branchCount tb (standsAt (thread s t)) → Passed tb s t j)
+        → (Γ : List Commitment)
         → Many (Acts (bodyOf tb) Ours) (agent Δ (midway Γ (sumBefore tb (processAt tb) (waits i) (standsAt (thread s t)) i m) ∷ B))
         (agent Δ (midway (Γ ++ commitmentsFrom tb (thread s t) i m) (waits (i + m)) ∷ B))
     unfolding sumBefore commitmentsFrom left-by tip

@@ -34,7 +34,8 @@ module _ (tb : Table) where
   rank-in (row ∷ rows) (suc t) l u =
       let h = rank-in rows t (omega arith) u in caseB (inUse row) (λ y. rw y (omega arith)) (λ y. rw y h)
 
-  pub rank-nth : (rows : List (List ℕ)) (t : ℕ) → t < length rows → inUse (getD rows t []) ≡ true → nth (threadsOf tb rows) (rank rows t) ≡ threadOf tb (getD rows t [])
+  pub rank-nth : (rows : List (List ℕ)) (t : ℕ) → t < length rows → inUse (getD rows t []) ≡ true
+      → nth (threadsOf tb rows) (rank rows t) ≡ threadOf tb (getD rows t [])
   unfolding rank threadsOf
   rank-nth [] t l u = absurd (omega arith)
   rank-nth (row ∷ rows) zero l u = rw u

@@ -52,7 +52,8 @@ module _ (tb : Table) where
   unfolding threadsOf
   row-of t [] i = absurd i
   row-of t (row ∷ rows) i =
-      let later : t ∈ threadsOf tb rows → (u : ℕ) × (u < length (row ∷ rows)) × (inUse (getD (row ∷ rows) u []) ≡ true) × (t ≡ threadOf tb (getD (row ∷ rows) u [])) =
+      let later : t ∈ threadsOf tb rows → (u : ℕ) × (u < length (row ∷ rows)) × (inUse (getD (row ∷ rows) u []) ≡ true)
+      × (t ≡ threadOf tb (getD (row ∷ rows) u [])) =
       λ j. (let (u, l, y, e) = row-of t rows j in (suc u, omega arith, y, e)) in
       caseB (inUse row)
       (λ y. ⊎-elim (λ e. (0, omega arith, y, e)) later (rw y at i))

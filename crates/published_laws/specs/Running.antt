@@ -164,7 +164,8 @@ module _ (table : List ℕ) (ok : accepted table ≡ true) (fit : (i : ℕ) → 
         (λ y. clash (let q = rw (ad, y) at e in cc))
 
     -- a run
-    pub run-call-reduced : (n : ℕ) → Reaches (bodyOf (tableOf table)) Ours (agentOf (tableOf table) b (view state)) (agentOf (tableOf table) b (view (runCall table state n .state)))
+    pub run-call-reduced : (n : ℕ)
+        → Reaches (bodyOf (tableOf table)) Ours (agentOf (tableOf table) b (view state)) (agentOf (tableOf table) b (view (runCall table state n .state)))
     unfolding runCall runBy
     run-call-reduced n =
         let after = courseOf tb n (view state) .state in

@@ -126,7 +126,8 @@ module _ (tb : Table) (g : Granted tb) (rd : Readable tb) (s : State) (o : Order
           led tb g rd s o t l ready b bn More k kind m before rest (agent (channelsOf s) (threadOf tb child ∷ (threadOf tb parent ∷ rest)))
           (b ∷ threadsOf tb (set (set (s .threads) t parent) u child)) (same-order rest) (λ y i. i)
           (λ Γ q. (channelsOf s, threadOf tb child, threadOf tb parent ∷ rest,
-          rw (next-thread tb g rd (typeIn s) (thread s t) sound used k m, child-thread tb g rd (typeIn s) (thread s t) sound used k m (x .takes .does), x .takes .does)
+          rw (next-thread tb g rd (typeIn s) (thread s t) sound used k m,
+          child-thread tb g rd (typeIn s) (thread s t) sound used k m (x .takes .does), x .takes .does)
           (spawn (guard-true (x .takes .passes))), stays))
           (turned-back family-first)
 
@@ -207,7 +208,8 @@ module _ (tb : Table) (g : Granted tb) (rd : Readable tb) (s : State) (o : Order
       meeting-by Out z Γ q =
           let does : actOf tb (branchAt tb (standsAt (thread s t)) k) ≡ Meeting Out = x .does ∙ ap Meeting (sym z) in
           let does′ : actOf tb (branchAt tb (standsAt (thread s u)) j) ≡ Meeting In = a .does ∙ ap (λ y. Meeting (opposite y)) (sym z) in
-          let (w, has, gets) = given-value tb g rd (typeIn s) (thread s t) (thread s u) sound mate-sound used mate-used k j m (a .branch-in) does does′ (sym (a .is)) in
+          let (w, has, gets) = given-value tb g rd (typeIn s) (thread s t) (thread s u) sound mate-sound used mate-used k j m (a .branch-in) does does′
+          (sym (a .is)) in
           send-by does does′ w has gets Γ q
       meeting-by In z Γ q =
           let does : actOf tb (branchAt tb (standsAt (thread s t)) k) ≡ Meeting In = x .does ∙ ap Meeting (sym z) in
@@ -218,7 +220,8 @@ module _ (tb : Table) (g : Granted tb) (rd : Readable tb) (s : State) (o : Order
       pub meeting-reduced : Turn (bodyOf tb) More (agentOf tb b s) (readyThread tb (thread s t)) (agentOf tb b (written tb s t (Meets k u j)))
       unfolding agentOf channelsOf written withThread
       meeting-reduced =
-          led tb g rd s o t l ready b bn More k kind m before (waitingThread tb (thread s u) ∷ apart) (agent (channelsOf s) (threadOf tb own ∷ (threadOf tb mate ∷ apart)))
+          led tb g rd s o t l ready b bn More k kind m before (waitingThread tb (thread s u) ∷ apart)
+          (agent (channelsOf s) (threadOf tb own ∷ (threadOf tb mate ∷ apart)))
           (b ∷ threadsOf tb (set (set (s .threads) t own) u mate)) mate-second (λ y i. in-rearranged y mate-second i)
           (λ Γ q. (channelsOf s, threadOf tb own, threadOf tb mate ∷ apart, meeting-by d refl Γ q, stays))
           (turned-back both-first)

@@ -1,0 +1,79 @@
+-- The agent with which a file starts, and the theorems applied to the file of document 01's listing, so that no hypothesis is empty. Assumes nothing.
+use Prim.Native.Nat.{ℕ, _<_}
+use mathlib.Core.Path.{_≡_, refl, _∙_, ap}
+use mathlib.Core.Bool.{true, false}
+use mathlib.Core.List.{List, [], _∷_}
+use mathlib.Core.Option.{none}
+use lib.ListN.{length, getD, replicate, length-replicate}
+use Rattle.table.specs.Table.{Table, tableOf}
+use Rattle.table.specs.Layout.{start}
+use Rattle.table.specs.declared.Part.the-variants.{Nodes}
+use Rattle.loader.specs.Verdict.{verdict}
+use Rattle.loader.specs.Load.{tableLength, loaded, accepted}
+use Rattle.loader.specs.declared.Loaded.the-variants.{Done}
+use Rattle.loader.specs.declared.Verdict.the-variants.{Sound}
+use Rattle.loading.specs.Yields.{sound-loads}
+use Rattle.loading.specs.Examples.{listing-sound}
+use Rattle.state.specs.State.{stateLength, view, withChannels}
+use Rattle.rules.specs.Holding.{settled}
+use Rattle.rules.specs.Start.{entered, started}
+use Rattle.rules.specs.Calls.{runCall}
+use Rattle.engine_laws.specs.Buffers.{SoundBuffer}
+use Rattle.engine_laws.specs.Lists.{reached}
+use Rattle.engine_laws.specs.Instance.{loaded-small, loaded-accepted, loaded-sound}
+use Rattle.collector.specs.Collect.{collectCall}
+use Rattle.published.specs.Syntax.{end, waiting}
+use Rattle.published.specs.Agents as Agents
+use Rattle.published.specs.Agents.{Thread, refers}
+use Rattle.published.specs.Rules.{Reaches, Nothing, Ours}
+use Rattle.published_laws.specs.Standing.{bodyOf, envOf, threadsOf, agentOf}
+use Rattle.published_laws.specs.Afterwards.{thread-is}
+use Rattle.published_laws.specs.Products.{Bench}
+use Rattle.published_laws.specs.Benches.{portsAnd, bench-is}
+use Rattle.published_laws.specs.Running.{run-call-reduced, collect-call-reduced}
+
+-- beside the bench there is one thread, at definition 0, with the ports as its parameters
+pub started-agent : (tb : Table)
+    → threadsOf tb (started tb .threads) ≡ Agents.thread [] (envOf tb (entered tb 0 (λ k. k))) (bodyOf tb 0) ∷ []
+unfolding started settled withChannels threadsOf entered bodyOf
+started-agent tb =
+    let row = entered tb 0 (λ k. k) in
+    ap (λ (t : Thread). t ∷ []) (thread-is tb row (start tb Nodes 0) (envOf tb row) refl refl refl)
+
+-- ---- document 01's listing
+
+abbrev listing : (file : List ℕ) × (verdict file ≡ Sound)
+listing = (_, listing-sound)
+
+listing-loads : loaded (listing .0) (replicate tableLength 0) .answer ≡ Done
+listing-loads = ap (λ o. o .answer) (sound-loads (listing .0) (replicate tableLength 0) (listing .1) (length-replicate {A = ℕ} tableLength 0))
+
+abbrev table : List ℕ
+table = loaded (listing .0) (replicate tableLength 0) .table
+
+-- the buffer after start
+abbrev begun : List ℕ
+begun = reached table (replicate stateLength 0) []
+
+begun-sound : SoundBuffer table begun
+begun-sound = loaded-sound (listing .0) (replicate tableLength 0) listing-loads (replicate stateLength 0) (length-replicate {A = ℕ} stateLength 0) []
+
+-- a bench that does nothing
+abbrev idle : Thread
+idle = Agents.thread [] (portsAnd (tableOf table) none) end
+
+idle-bench : Bench (tableOf table) idle
+unfolding refers waiting
+idle-bench = bench-is (tableOf table) none (λ c. refl) end refl
+
+-- its run of whatever length
+pub listing-run : (n : ℕ) → Reaches (bodyOf (tableOf table)) Ours (agentOf (tableOf table) idle (view begun)) (agentOf (tableOf table) idle (view (runCall table begun n .state)))
+listing-run n =
+    run-call-reduced table (loaded-accepted (listing .0) (replicate tableLength 0) listing-loads) (loaded-small (listing .0) (replicate tableLength 0) listing-loads)
+    begun begun-sound idle idle-bench n
+
+-- a collection, by the published rules alone
+pub listing-collect : Reaches (bodyOf (tableOf table)) Nothing (agentOf (tableOf table) idle (view begun)) (agentOf (tableOf table) idle (view (collectCall table begun .state)))
+listing-collect =
+    collect-call-reduced table (loaded-accepted (listing .0) (replicate tableLength 0) listing-loads) (loaded-small (listing .0) (replicate tableLength 0) listing-loads)
+    begun begun-sound idle idle-bench (bodyOf (tableOf table)) Nothing
