@@ -1,15 +1,16 @@
 -- The collector that 002 prints (Table 8), of agents, and an agent with an enabled thread that it takes. Assumes nothing.
-use Prim.Native.Nat.{ℕ, zero, suc}
+use Prim.Native.Nat.{ℕ, zero, suc, _+_, _≤_}
 use native.Mathlib.Omega.{arith}
 use mathlib.Core.Path.{_≡_, refl}
-use mathlib.Core.Logic.{inl}
+use mathlib.Core.Logic.{inl, inr}
 use mathlib.Core.Bool.{Bool, true, false, not, _&&_, _||_, cond}
 use mathlib.Core.List.{List, [], _∷_, _++_}
 use mathlib.Core.Option.{Option, none, some}
 use lib.Dec.{eqb}
 use Rattle.numbers.specs.Count.{bit, count}
+use Rattle.numbers.specs.Search.Laws.{caseB}
 use Rattle.published.specs.Syntax.{end, choice, nothing, wait, waiting, someWait, onlyWaits}
-use Rattle.published.specs.Agents.{channel, Commitment, takes, channelOf, Thread, thread, nth, refers, mentions, knows, globalrc}
+use Rattle.published.specs.Agents.{_∈_, channel, Commitment, takes, channelOf, Thread, thread, nth, refers, mentions, knows, globalrc}
 use Rattle.published.specs.Enabling.{Enabled, active, awoken}
 
 -- ---- Table 8, with places for threads. A candidate is chosen, here the first; where some channel of its commitments is known to a thread that does not wait
@@ -51,6 +52,25 @@ gc2 A (suc n) clique (j ∷ candidates) =
     cond (quiet A (nth A j .commitments))
     (gc2 A n (j ∷ clique) (candidates ++ joining (nth A j .commitments) (j ∷ (clique ++ candidates)) 0 A))
     none
+
+-- Proposition 6, on which it rests: where the two counts of a channel agree, every thread that knows it waits
+waitrc-le : (c : ℕ) (A : List Thread) → waitrc c A ≤ globalrc c A
+unfolding waitrc globalrc count bit
+waitrc-le c [] = omega arith
+waitrc-le c (t ∷ A) =
+    let h = waitrc-le c A in
+    caseB (waiting (t .process)) (λ y. rw y (omega arith)) (λ y. rw y (omega arith))
+
+pub proposition-6 : (c : ℕ) (A : List Thread) → waitrc c A ≡ globalrc c A → (t : Thread) → t ∈ A → knows c t ≡ true → waiting (t .process) ≡ true
+unfolding waitrc globalrc count bit
+proposition-6 c [] e t i h = absurd i
+proposition-6 c (u ∷ A) e t (inl q) h =
+    caseB (waiting (t .process)) (λ y. y)
+    (λ y. absurd (let z : 0 + waitrc c A ≡ 1 + globalrc c A = rw (← q, y, h) at e in omega (arith, waitrc-le c A)))
+proposition-6 c (u ∷ A) e t (inr i) h =
+    proposition-6 c A (caseB (waiting (u .process))
+    (λ y. let z : bit (knows c u) + waitrc c A ≡ bit (knows c u) + globalrc c A = rw y at e in omega arith)
+    (λ y. let z : 0 + waitrc c A ≡ bit (knows c u) + globalrc c A = rw y at e in omega (arith, waitrc-le c A))) t i h
 
 -- ---- document 01's third case
 

@@ -132,7 +132,7 @@ pub record Stepped (def : ℕ → Process) (More : Agent → Agent → Type 0) (
 --    only together with a reduction of the branches behind it (next). So a thread whose last guards are false, or all of them, never comes to Σ wait and
 --    counts as active for ever; in document 01 it waits.
 --  - assign: an assignment goes ahead as a tau does, and binds its variable to a number.
---  - zeros: variables for numbers that have no value yet are 0.
+--  - zeros: variables for numbers that have no value yet are 0. (An environment is a list; variables behind its end are unbound too.)
 pub data Ours : Agent → Agent → Type 0 where
   skip : {Δ : Channels} {Γ : List Commitment} {δ : Env} {g : Guard} {α : Prefix} {P : Process} {Q : Sum} {B : List Thread}
       → holds δ g ≡ false

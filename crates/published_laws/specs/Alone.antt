@@ -113,29 +113,32 @@ module _ (tb : Table) (g : Granted tb) (rd : Readable tb) (s : State) (o : Order
       ∙ rw (node, env-same tb row (waitingRow row) (rw node) slots,
       commitments-same tb row (waitingRow row) node slots (waiting-guard row tb) (branchCount tb (standsAt row)) 0)
 
-  waits-by : (n : ℕ) → branchCount tb (standsAt (thread s t)) ≡ n → 0 < n → kindOf tb (standsAt (thread s t)) ≡ 1
-      → ((j : ℕ) → j < branchCount tb (standsAt (thread s t)) → Passed tb s t j)
-      → Turn (bodyOf tb) Ours (agentOf tb b s) (readyThread tb (thread s t)) (agentOf tb b (written tb s t Waits))
-  unfolding agentOf channelsOf written withThread sumBefore tip commitmentsFrom left-by andWait waits
-  waits-by zero e z k p = absurd (omega arith)
-  waits-by (suc n) e z k p =
-      let Δ = channelsOf s in
-      let row = thread s t in
-      let q = sumBefore tb (processAt tb) nothing (standsAt row) 1 n in
-      let Γ = left-by tb g rd s o t l ready b bn rest (λ x i. i) Δ 0 in
-      let first = pass-one tb g rd s o t l ready b bn rest (λ x i. i) Δ 0 (omega arith) (p 0 (omega arith)) [] q in
-      let later = pass-all tb g rd s o t l ready b bn rest (λ x i. i) Δ n 1 (omega arith) p Γ in
-      let one-more : 1 + n ≡ suc n = omega arith in
-      let last : Many (Acts (bodyOf tb) Ours) (agent Δ (midway tb g rd s o t l ready b bn Γ (andWait q) ∷ rest)) (agent Δ (threadOf tb (waitingRow row) ∷ rest)) =
-      rw (wait-behind tb (processAt tb) nothing (standsAt row) 1 n, wait-thread, e) (rw one-more at later) in
-      let start : Rearranged (b ∷ threadsOf tb (s .threads)) (midway tb g rd s o t l ready b bn [] (tip tb g rd s o t l ready b bn 0 q) ∷ rest) =
-      rw (at-choice k, e) at own-first in
-      rw (at-choice k, e) (turn-by (bodyOf tb) Ours {T = agent Δ (threadOf tb (waitingRow row) ∷ rest)} start first last
-      (turned-back (new-first (waitingRow row) (waiting-used (waitingRow row) (waiting-waits row)))))
+  module _ (More : Agent → Agent → Type 0)
+      (skips : (i : ℕ) → i < branchCount tb (standsAt (thread s t)) → guardHolds tb (branchAt tb (standsAt (thread s t)) i) (thread s t) ≡ false
+      → (A C : Agent) → Ours A C → More A C) where
+    waits-by : (n : ℕ) → branchCount tb (standsAt (thread s t)) ≡ n → 0 < n → kindOf tb (standsAt (thread s t)) ≡ 1
+        → ((j : ℕ) → j < branchCount tb (standsAt (thread s t)) → Passed tb s t j)
+        → Turn (bodyOf tb) More (agentOf tb b s) (readyThread tb (thread s t)) (agentOf tb b (written tb s t Waits))
+    unfolding agentOf channelsOf written withThread sumBefore tip commitmentsFrom left-by andWait waits
+    waits-by zero e z k p = absurd (omega arith)
+    waits-by (suc n) e z k p =
+        let Δ = channelsOf s in
+        let row = thread s t in
+        let q = sumBefore tb (processAt tb) nothing (standsAt row) 1 n in
+        let Γ = left-by tb g rd s o t l ready b bn More skips rest (λ x i. i) Δ 0 in
+        let first = pass-one tb g rd s o t l ready b bn More skips rest (λ x i. i) Δ 0 (omega arith) (p 0 (omega arith)) [] q in
+        let later = pass-all tb g rd s o t l ready b bn More skips rest (λ x i. i) Δ n 1 (omega arith) p Γ in
+        let one-more : 1 + n ≡ suc n = omega arith in
+        let last : Many (Acts (bodyOf tb) More) (agent Δ (midway tb g rd s o t l ready b bn Γ (andWait q) ∷ rest)) (agent Δ (threadOf tb (waitingRow row) ∷ rest)) =
+        rw (wait-behind tb (processAt tb) nothing (standsAt row) 1 n, wait-thread, e) (rw one-more at later) in
+        let start : Rearranged (b ∷ threadsOf tb (s .threads)) (midway tb g rd s o t l ready b bn [] (tip tb g rd s o t l ready b bn 0 q) ∷ rest) =
+        rw (at-choice k, e) at own-first in
+        rw (at-choice k, e) (turn-by (bodyOf tb) More {T = agent Δ (threadOf tb (waitingRow row) ∷ rest)} start first last
+        (turned-back (new-first (waitingRow row) (waiting-used (waitingRow row) (waiting-waits row)))))
 
-  pub waits-reduced : kindOf tb (standsAt (thread s t)) ≡ 1 → ((j : ℕ) → j < branchCount tb (standsAt (thread s t)) → Passed tb s t j)
-      → Turn (bodyOf tb) Ours (agentOf tb b s) (readyThread tb (thread s t)) (agentOf tb b (written tb s t Waits))
-  waits-reduced k p = waits-by (branchCount tb (standsAt (thread s t))) refl (rd .some-branch (standsAt (thread s t)) node-in k) k p
+    pub waits-reduced : kindOf tb (standsAt (thread s t)) ≡ 1 → ((j : ℕ) → j < branchCount tb (standsAt (thread s t)) → Passed tb s t j)
+        → Turn (bodyOf tb) More (agentOf tb b s) (readyThread tb (thread s t)) (agentOf tb b (written tb s t Waits))
+    waits-reduced k p = waits-by (branchCount tb (standsAt (thread s t))) refl (rd .some-branch (standsAt (thread s t)) node-in k) k p
 
   -- ---- the first branch that goes ahead is branch k
 

@@ -186,8 +186,11 @@ module _ (tb : Table) (g : Granted tb) (rd : Readable tb) (s : State) (o : Order
             let r′ : Acts (bodyOf tb) More (agent Δ (midway Γ′ (andWait Q) ∷ B)) (agent D (x ∷ C)) = rw v r in
             (Δ, midway Γ′ (andWait Q), B, commit i n d y e f Γ Q, goes r′ w)
 
-  -- ---- where none goes ahead
-  module _ (B : List Thread) (among : (x : Thread) → x ∈ B → x ∈ others) (Δ : Channels) where
+  -- ---- where none goes ahead; the rule skip is there if some guard is false
+  module _ (More : Agent → Agent → Type 0)
+      (skips : (i : ℕ) → i < branchCount tb (standsAt (thread s t)) → guardHolds tb (branchAt tb (standsAt (thread s t)) i) (thread s t) ≡ false
+      → (A C : Agent) → Ours A C → More A C)
+      (B : List Thread) (among : (x : Thread) → x ∈ B → x ∈ others) (Δ : Channels) where
 
     -- what branch i leaves
     unfoldable pub left-by : ℕ → List Commitment
@@ -196,14 +199,14 @@ module _ (tb : Table) (g : Granted tb) (rd : Readable tb) (s : State) (o : Order
         (committed tb (thread s t) (branchAt tb (standsAt (thread s t)) i) (actOf tb (branchAt tb (standsAt (thread s t)) i))) []
 
     pub pass-one : (i : ℕ) → i < branchCount tb (standsAt (thread s t)) → Passed tb s t i → (Γ : List Commitment) (q : Sum)
-        → Acts (bodyOf tb) Ours (agent Δ (midway Γ (tip i q) ∷ B)) (agent Δ (midway (Γ ++ left-by i) (andWait q) ∷ B))
+        → Acts (bodyOf tb) More (agent Δ (midway Γ (tip i q) ∷ B)) (agent Δ (midway (Γ ++ left-by i) (andWait q) ∷ B))
     unfolding left-by tip
-    pass-one i m (closed y) Γ q = rw (y, append-nil Γ) (more (skip (guard-is i m ∙ y)))
-    pass-one i m (unmet d y e f) Γ q = rw y (commit Ours B among Δ i m d y e f Γ q)
+    pass-one i m (closed y) Γ q = rw (y, append-nil Γ) (more (skips i m y _ _ (skip (guard-is i m ∙ y))))
+    pass-one i m (unmet d y e f) Γ q = rw y (commit More B among Δ i m d y e f Γ q)
 
     pub pass-all : (m i : ℕ) → i + m ≡ branchCount tb (standsAt (thread s t)) → ((j : ℕ) → j < branchCount tb (standsAt (thread s t)) → Passed tb s t j)
         → (Γ : List Commitment)
-        → Many (Acts (bodyOf tb) Ours) (agent Δ (midway Γ (sumBefore tb (processAt tb) (waits i) (standsAt (thread s t)) i m) ∷ B))
+        → Many (Acts (bodyOf tb) More) (agent Δ (midway Γ (sumBefore tb (processAt tb) (waits i) (standsAt (thread s t)) i m) ∷ B))
         (agent Δ (midway (Γ ++ commitmentsFrom tb (thread s t) i m) (waits (i + m)) ∷ B))
     unfolding sumBefore commitmentsFrom left-by tip
     pass-all zero i e p Γ = let z : i + 0 ≡ i = omega arith in rw (append-nil Γ, z) stays
@@ -213,7 +216,7 @@ module _ (tb : Table) (g : Granted tb) (rd : Readable tb) (s : State) (o : Order
         let z : i + suc m ≡ suc i + m = omega arith in
         let h = pass-all m (suc i) (omega arith) p (Γ ++ left-by i) in
         let Q = sumBefore tb (processAt tb) (waits i) n (suc i) m in
-        let h′ : Many (Acts (bodyOf tb) Ours) (agent Δ (midway (Γ ++ left-by i) (andWait Q) ∷ B))
+        let h′ : Many (Acts (bodyOf tb) More) (agent Δ (midway (Γ ++ left-by i) (andWait Q) ∷ B))
         (agent Δ (midway (Γ ++ (left-by i ++ commitmentsFrom tb (thread s t) (suc i) m)) (waits (i + suc m)) ∷ B)) =
         rw (v, one-more-wait i, z, ← append-assoc Γ (left-by i) (commitmentsFrom tb (thread s t) (suc i) m)) h in
         goes (pass-one i (omega arith) (p i (omega arith)) Γ Q) h′

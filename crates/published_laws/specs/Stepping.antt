@@ -148,11 +148,11 @@ Allowed (Meets i u j) = Unit {0}
 Allowed LacksThread = ⊥
 Allowed LacksChannel = ⊥
 
--- a move by 002's rules alone: all but calls (which may need zeros), waits (which may need skip) and assignments
+-- a move by 002's rules alone: all but calls, which need zeros, waits with a guard that is false, which need skip, and assignments
 unfoldable pub Plain : Table → List ℕ → Move → Type 0
 Plain tb row Ends = Unit {0}
 Plain tb row Calls = ⊥
-Plain tb row Waits = ⊥
+Plain tb row Waits = (i : ℕ) → i < branchCount tb (standsAt row) → guardHolds tb (branchAt tb (standsAt row) i) row ≡ true
 Plain tb row (Goes i) = actOf tb (branchAt tb (standsAt row) i) ≡ Tau
 Plain tb row (Creates i c) = Unit {0}
 Plain tb row (Spawns i u) = Unit {0}
@@ -172,13 +172,15 @@ module _ (tb : Table) (g : Granted tb) (rd : Readable tb) (s : State) (ok : Soun
   step-reduced =
       stepped tb g rd s ok t l ready b bn Ours Allowed (λ z. z) (λ z. z)
       (λ k z. calls-reduced tb g rd s (ok .orderly) t l ready b bn k)
-      (λ k p z. waits-reduced tb g rd s (ok .orderly) t l ready b bn k p)
+      (λ k p z. waits-reduced tb g rd s (ok .orderly) t l ready b bn Ours (λ i m f A C x. x) k p)
       (λ k (x, before) z. assignment-reduced tb g rd s (ok .orderly) t l ready b bn k (x .at-choice) (x .branch-in) before x)
 
-  -- and it is one by 002's rules alone, if it is neither a call nor a wait nor an assignment
+  -- and it is one by 002's rules alone, if it is neither a call, nor an assignment, nor a wait with a guard that is false
   pub step-published : Plain tb (thread s t) (move tb s t)
       → Stepped (bodyOf tb) Nothing (agentOf tb b s) (threadOf tb (thread s t)) (agentOf tb b (perform tb s t (move tb s t)))
   unfolding Plain
   step-published =
       stepped tb g rd s ok t l ready b bn Nothing (Plain tb (thread s t)) (λ z. z) (λ z. z)
-      (λ k z. absurd z) (λ k p z. absurd z) (λ k (x, before) z. tau-assignment (actOf tb (branchAt tb (standsAt (thread s t)) k)) z (x .does))
+      (λ k z. absurd z)
+      (λ k p z. waits-reduced tb g rd s (ok .orderly) t l ready b bn Nothing (λ i m f A C x. contra (z i m) f) k p)
+      (λ k (x, before) z. tau-assignment (actOf tb (branchAt tb (standsAt (thread s t)) k)) z (x .does))
