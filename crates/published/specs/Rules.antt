@@ -26,25 +26,32 @@ pub data Rearranged : List Thread → List Thread → Type 0 where
 -- which is empty where only 002's count
 module _ (def : ℕ → Process) (More : Agent → Agent → Type 0) where
   pub data Acts : Agent → Agent → Type 0 where
+    -- ḡ = true: Δ ⊢ [Γ; δ] : [g] tau, P + Σ Qᵢ ∥ B → Δ ⊢ [∅; δ] : P ∥ B
     step : {Δ : Channels} {Γ : List Commitment} {δ : Env} {g : Guard} {P : Process} {Q : Sum} {B : List Thread}
         → holds δ g ≡ true
         → Acts (agent Δ (thread Γ δ (choice (branch g tau P Q)) ∷ B)) (agent Δ (thread [] δ P ∷ B))
+    -- ḡ = true: Δ ⊢ [Γ; δ] : [g] new(c), P + Σ Qᵢ ∥ B → Δ, ĉ ⊢ [∅; δ, c ▷ ĉ] : P ∥ B
     new : {Δ : Channels} {Γ : List Commitment} {δ : Env} {g : Guard} {c : ℕ} {P : Process} {Q : Sum} {B : List Thread} (ĉ : ℕ)
         → holds δ g ≡ true
         → Δ ĉ ≡ false
         → Acts (agent Δ (thread Γ δ (choice (branch g (newChannel c) P Q)) ∷ B)) (agent (adding Δ ĉ) (thread [] (bind δ c (channel ĉ)) P ∷ B))
+    -- ḡ = true: Δ ⊢ [Γ; δ] : [g] spawn{P}, Q + Σ Rᵢ ∥ B → Δ ⊢ [∅; δ] : P ∥ [∅; δ] : Q ∥ B
     spawn : {Δ : Channels} {Γ : List Commitment} {δ : Env} {g : Guard} {P Q : Process} {R : Sum} {B : List Thread}
         → holds δ g ≡ true
         → Acts (agent Δ (thread Γ δ (choice (branch g (newThread P) Q R)) ∷ B)) (agent Δ (thread [] δ P ∷ thread [] δ Q ∷ B))
+    -- ḡ = false, Δ ⊢ [Γ; δ] : Σ Qᵢ ∥ B → Δ′ ⊢ [Γ′; δ′] : R ∥ B′: Δ ⊢ [Γ; δ] : [g] P + Σ Qᵢ ∥ B → Δ′ ⊢ [Γ′; δ′] : R ∥ B′
     next : {Δ Δ′ : Channels} {Γ Γ′ : List Commitment} {δ δ′ : Env} {g : Guard} {α : Prefix} {P R : Process} {Q : Sum} {B B′ : List Thread}
         → holds δ g ≡ false
         → Acts (agent Δ (thread Γ δ (choice Q) ∷ B)) (agent Δ′ (thread Γ′ δ′ R ∷ B′))
         → Acts (agent Δ (thread Γ δ (choice (branch g α P Q)) ∷ B)) (agent Δ′ (thread Γ′ δ′ R ∷ B′))
+    -- def D(x₁, .., xₙ) = P: Δ ⊢ [Γ; δ] : D(v₁, .., vₙ) ∥ B → Δ ⊢ [∅; x₁ ▷ v̄₁, .., xₙ ▷ v̄ₙ] : P ∥ B
     call : {Δ : Channels} {Γ : List Commitment} {δ : Env} {D : ℕ} {vs : List ℕ} {B : List Thread} (ws : List Value)
         → map (look δ) vs ≡ map some ws
         → Acts (agent Δ (thread Γ δ (invoke D vs) ∷ B)) (agent Δ (thread [] (map some ws) (def D) ∷ B))
+    -- Δ ⊢ [Γ; δ] : end → Δ ⊢ ∅
     inert : {Δ : Channels} {Γ : List Commitment} {δ : Env} {B : List Thread}
         → Acts (agent Δ (thread Γ δ end ∷ B)) (agent Δ B)
+    -- ḡ = true, δ(c) = ĉ: Δ ⊢ [Γ; δ] : [g] c!v, P + Σ Qᵢ ∥ [Γ′, ĉ ⇒ x: R; δ′] : S ∥ B → Δ ⊢ [∅; δ] : P ∥ [∅; δ′, x ▷ v̄] : R ∥ B
     send : {Δ : Channels} {Γ Γ′ : List Commitment} {δ δ′ : Env} {g : Guard} {c v : ℕ} {P R S : Process} {Q : Sum} {B : List Thread} (ĉ x : ℕ) (w : Value)
         → holds δ g ≡ true
         → look δ c ≡ some (channel ĉ)
@@ -52,11 +59,13 @@ module _ (def : ℕ → Process) (More : Agent → Agent → Type 0) where
         → look δ v ≡ some w
         → Acts (agent Δ (thread Γ δ (choice (branch g (output c v) P Q)) ∷ thread Γ′ δ′ S ∷ B))
         (agent Δ (thread [] δ P ∷ thread [] (bind δ′ x w) R ∷ B))
+    -- ḡ = true, δ(c) = ĉ, no ĉ ⇒ x: S in any Γⱼ: Δ ⊢ [Γ; δ] : [g] c!v, P + Σ Qᵢ ∥ ∏ⱼ .. → Δ ⊢ [Γ, ĉ ⇐ v: P; δ] : Σ Qᵢ + wait ∥ ∏ⱼ ..
     out : {Δ : Channels} {Γ : List Commitment} {δ : Env} {g : Guard} {c v : ℕ} {P : Process} {Q : Sum} {B : List Thread} (ĉ : ℕ)
         → holds δ g ≡ true
         → look δ c ≡ some (channel ĉ)
         → ((t : Thread) → t ∈ B → (x : ℕ) (S : Process) → takes ĉ x S ∈ t .commitments → ⊥)
         → Acts (agent Δ (thread Γ δ (choice (branch g (output c v) P Q)) ∷ B)) (agent Δ (thread (Γ ++ (gives ĉ v P ∷ [])) δ (choice (andWait Q)) ∷ B))
+    -- ḡ = true, δ(c) = ĉ: Δ ⊢ [Γ; δ] : [g] c?(x), P + Σ Qᵢ ∥ [Γ′, ĉ ⇐ v: R; δ′] : S ∥ B → Δ ⊢ [∅; δ, x ▷ v̄] : P ∥ [∅; δ′] : R ∥ B
     recv : {Δ : Channels} {Γ Γ′ : List Commitment} {δ δ′ : Env} {g : Guard} {c x : ℕ} {P R S : Process} {Q : Sum} {B : List Thread} (ĉ v : ℕ) (w : Value)
         → holds δ g ≡ true
         → look δ c ≡ some (channel ĉ)
@@ -64,6 +73,7 @@ module _ (def : ℕ → Process) (More : Agent → Agent → Type 0) where
         → look δ′ v ≡ some w
         → Acts (agent Δ (thread Γ δ (choice (branch g (input c x) P Q)) ∷ thread Γ′ δ′ S ∷ B))
         (agent Δ (thread [] (bind δ x w) P ∷ thread [] δ′ R ∷ B))
+    -- ḡ = true, δ(c) = ĉ, no ĉ ⇐ v: S in any Γⱼ: Δ ⊢ [Γ; δ] : [g] c?(x), P + Σ Qᵢ ∥ ∏ⱼ .. → Δ ⊢ [Γ, ĉ ⇒ x: P; δ] : Σ Qᵢ + wait ∥ ∏ⱼ ..
     inn : {Δ : Channels} {Γ : List Commitment} {δ : Env} {g : Guard} {c x : ℕ} {P : Process} {Q : Sum} {B : List Thread} (ĉ : ℕ)
         → holds δ g ≡ true
         → look δ c ≡ some (channel ĉ)
@@ -74,12 +84,14 @@ module _ (def : ℕ → Process) (More : Agent → Agent → Type 0) where
 -- ---- Table 5
 
 pub data Reclaims : Agent → Agent → Type 0 where
+  -- globalrc(ĉ, A) = 0: Δ, ĉ ⊢ A → Δ ⊢ A
   reclaim : {Δ : Channels} {A : List Thread} (ĉ : ℕ)
       → Δ ĉ ≡ false
       → globalrc ĉ A ≡ 0
       → Reclaims (agent (adding Δ ĉ) A) (agent Δ A)
 
 pub data Sticks : Agent → Agent → Type 0 where
+  -- globalrc(ĉ, B) = 0 for each ĉ in the Γᵢ: Δ ⊢ ∏ᵢ [Γᵢ; δᵢ] : Σ wait ∥ B → Δ ⊢ B
   stuck : {Δ : Channels} (A B : List Thread)
       → ((t : Thread) → t ∈ A → waiting (t .process) ≡ true)
       → ((t : Thread) → t ∈ A → (ĉ : ℕ) → Commits (t .commitments) ĉ → globalrc ĉ B ≡ 0)
@@ -88,6 +100,7 @@ pub data Sticks : Agent → Agent → Type 0 where
 -- ---- all reductions: (par) of Table 2, the rules above, and that the order of threads does not count
 module _ (def : ℕ → Process) (More : Agent → Agent → Type 0) where
   pub data Reduces : Agent → Agent → Type 0 where
+    -- Δ ⊢ A ∥ B → Δ′ ⊢ A′ ∥ B: Δ ⊢ B ∥ A → Δ′ ⊢ B ∥ A′
     par : {Δ Δ′ : Channels} (A A′ B : List Thread)
         → Reduces (agent Δ (A ++ B)) (agent Δ′ (A′ ++ B))
         → Reduces (agent Δ (B ++ A)) (agent Δ′ (B ++ A′))
@@ -134,12 +147,15 @@ pub record Stepped (def : ℕ → Process) (More : Agent → Agent → Type 0) (
 --  - assign: an assignment goes ahead as a tau does, and binds its variable to a number.
 --  - zeros: variables for numbers that have no value yet are 0. (An environment is a list; variables behind its end are unbound too.)
 pub data Ours : Agent → Agent → Type 0 where
+  -- ḡ = false: Δ ⊢ [Γ; δ] : [g] P + Σ Qᵢ ∥ B → Δ ⊢ [Γ; δ] : Σ Qᵢ + wait ∥ B
   skip : {Δ : Channels} {Γ : List Commitment} {δ : Env} {g : Guard} {α : Prefix} {P : Process} {Q : Sum} {B : List Thread}
       → holds δ g ≡ false
       → Ours (agent Δ (thread Γ δ (choice (branch g α P Q)) ∷ B)) (agent Δ (thread Γ δ (choice (andWait Q)) ∷ B))
+  -- ḡ = true: Δ ⊢ [Γ; δ] : [g] x := e, P + Σ Qᵢ ∥ B → Δ ⊢ [∅; δ, x ▷ ē] : P ∥ B
   assigns : {Δ : Channels} {Γ : List Commitment} {δ : Env} {g : Guard} {x : ℕ} {e : Expression} {P : Process} {Q : Sum} {B : List Thread}
       → holds δ g ≡ true
       → Ours (agent Δ (thread Γ δ (choice (branch g (assign x e) P Q)) ∷ B)) (agent Δ (thread [] (bind δ x (number (valueOf δ e))) P ∷ B))
+  -- Δ ⊢ [Γ; δ] : P ∥ B → Δ ⊢ [Γ; δ, x ▷ 0, ..] : P ∥ B for some x that δ does not bind
   zeros : {Δ : Channels} {Γ : List Commitment} {δ δ′ : Env} {P : Process} {B : List Thread}
       → ((x : ℕ) → (look δ′ x ≡ look δ x) ⊎ ((look δ x ≡ none) × (look δ′ x ≡ some (number 0))))
       → Ours (agent Δ (thread Γ δ P ∷ B)) (agent Δ (thread Γ δ′ P ∷ B))
