@@ -2,14 +2,19 @@
 use Prim.Native.Nat.{ℕ, zero, suc, _<_}
 use native.Mathlib.Omega.{arith}
 use mathlib.Core.Path.{_≡_, refl, ap}
-use mathlib.Core.Logic.{_⊎_, inl, inr, ⊎-elim, _≢_, _↔_}
-use mathlib.Core.Bool.{Bool, true, false, _||_}
+use mathlib.Core.Logic.{⊎-elim, _≢_, _↔_}
+use mathlib.Core.Bool.{true}
 use mathlib.Core.List.{[], _∷_}
 use mathlib.Core.Option.{Option, none, some}
 use lib.ListN.{length}
 use borrow.Author.Tests.{eqb-true, eq-eqb}
 use Rattle.numbers.specs.Search.Laws.{contra}
+use Rattle.collector.specs.Enabled.Laws.{or-elim, or-second}
 use Rattle.published.specs.Agents.{Value, channel, number, Env, look, bind, refers, mentions, Thread, knows}
+
+-- two constructors that differ are not equal: an equation of them gives one of 0 and 1
+pub clash : {A : Type 0} → _≡_ {A = ℕ} 0 1 → A
+clash e = absurd (let h : ⊥ = omega arith in h)
 
 -- ---- a binding
 
@@ -39,14 +44,6 @@ length-bound (o ∷ δ) (suc x) v l = ap suc (length-bound δ x v (omega arith))
 
 -- ---- who knows
 
-pub or-elim : (a b : Bool) → (a || b) ≡ true → (a ≡ true) ⊎ (b ≡ true)
-or-elim true b e = inl refl
-or-elim false b e = inr e
-
-pub or-second : (a b : Bool) → b ≡ true → (a || b) ≡ true
-or-second true b e = refl
-or-second false b e = e
-
 refers-is : (c : ℕ) (o : Option Value) → refers c o ≡ true → o ≡ some (channel c)
 unfolding refers
 refers-is c none e = contra e refl
@@ -58,9 +55,6 @@ unfolding mentions
 mentions-elim c [] e = contra e refl
 mentions-elim c (o ∷ δ) e =
     ⊎-elim (λ y. (0, refers-is c o y)) (λ y. let (x, h) = mentions-elim c δ y in (suc x, h)) (or-elim (refers c o) (mentions c δ) e)
-
-clash : {A : Type 0} → _≡_ {A = ℕ} 0 1 → A
-clash e = absurd (let h : ⊥ = omega arith in h)
 
 mentions-intro : (c : ℕ) (δ : Env) (x : ℕ) → look δ x ≡ some (channel c) → mentions c δ ≡ true
 unfolding mentions refers

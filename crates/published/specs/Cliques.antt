@@ -12,12 +12,12 @@ use borrow.Author.Tests.{ltb-true, ltb-false, eqb-false, ne-eqb, not-true, not-f
 use Rattle.numbers.specs.Search.{some, tabulate}
 use Rattle.numbers.specs.Search.Laws.{caseB, contra, some-elim, some-intro}
 use Rattle.numbers.specs.Tests.{parts}
+use Rattle.collector.specs.Enabled.Laws.{or-elim, or-second}
 use Rattle.collector.specs.Rounds.{round-all, round-root, round-closed}
 use Rattle.published.specs.Syntax.{Process, end, waiting}
 use Rattle.published.specs.Agents.{_∈_, Commitment, channelOf, Thread, thread, Channels, Agent, agent, nth, knows, globalrc, Commits}
 use Rattle.published.specs.Rules.{Rearranged, none-left, same-first, twice, Sticks, stuck, Reduces, sticks, exchange}
 use Rattle.published.specs.Enabling.{Enabled, active, awoken, Disabled, enabled-in}
-use Rattle.published.specs.Bindings.{or-elim, or-second}
 use Rattle.published.specs.Lists.{in-nth, nth-in, same-order, to-front, turned-back, unknown, none-knows}
 
 -- ---- the places of a product of two parts

@@ -8,6 +8,7 @@ use lib.ListN.{length}
 use Rattle.published.specs.Syntax.{Process}
 use Rattle.published.specs.Agents.{_∈_, bind, Commitment, gives, takes, Thread, thread, Agent, nth}
 use Rattle.published.specs.Rules.{Rearranged, none-left, same-first, swapped, twice, Acts, step, new, spawn, next, call, inert, send, out, recv, inn, more, Reclaims, reclaim, Sticks, stuck, Reduces, par, acts, reclaims, sticks, exchange, Reaches, stays, goes, Nothing, Ours, skip, assigns, zeros}
+use Rattle.published.specs.Bindings.{clash}
 use Rattle.published.specs.Lists.{in-either, in-rearranged, turned-round, nth-in}
 
 -- no output commitment of the one thread is on a channel of an input commitment of the other
@@ -48,9 +49,6 @@ bare A h = ((λ u i. ((λ ĉ v x Q R m n. absurd m), (λ ĉ v x Q R m n. absurd 
 polar-rest : (A B : List Thread) → Polar (A ++ B) → Polar B
 polar-rest [] B h = h
 polar-rest (t ∷ A) B h = polar-rest A B (h .1)
-
-clash : {A : Type 0} → _≡_ {A = ℕ} 0 1 → A
-clash e = absurd (let h : ⊥ = omega arith in h)
 
 -- (out) and (in): one commitment more, which no other thread meets
 gives-on : (Γ Γ′ : List Commitment) (ĉ v : ℕ) (P : Process) → ((x : ℕ) (S : Process) → takes ĉ x S ∈ Γ′ → ⊥)

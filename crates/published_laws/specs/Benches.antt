@@ -12,6 +12,7 @@ use borrow.Author.Tests.{ltb-true, ltb-false}
 use Rattle.numbers.specs.Search.{tabulate}
 use Rattle.numbers.specs.Search.Laws.{caseB, same-truth, getD-tabulate, length-tabulate}
 use Rattle.table.specs.Table.{Table, ports}
+use Rattle.granted.specs.Codes.{clash}
 use Rattle.published.specs.Syntax.{Process, waiting}
 use Rattle.published.specs.Agents.{Value, channel, Env, look, bind, refers, mentions, thread, knows}
 use Rattle.published.specs.Bindings.{knows-iff}
@@ -20,9 +21,6 @@ use Rattle.published_laws.specs.Products.{Bench}
 -- the variables of the ports, and variable P, for a number
 unfoldable pub portsAnd : Table → Option Value → Env
 portsAnd tb o = tabulate (ports tb) (λ c. some (channel c)) ++ (o ∷ [])
-
-clash : {A : Type 0} → _≡_ {A = ℕ} 0 1 → A
-clash e = absurd (let h : ⊥ = omega arith in h)
 
 mentions-ports : (c : ℕ) (l : Env) (o : Option Value) → refers c o ≡ false → mentions c (l ++ (o ∷ [])) ≡ mentions c l
 unfolding mentions

@@ -17,6 +17,7 @@ use Rattle.rules.specs.declared.Direction.{Direction}
 use Rattle.rules.specs.declared.Direction.the-variants.{Out, In}
 use Rattle.rules.specs.declared.Act.{Act}
 use Rattle.rules.specs.declared.Act.the-variants.{Tau, Meeting, New, Spawn, Assignment}
+use Rattle.granted.specs.Codes.{clash}
 use Rattle.engine_laws.specs.Reading.Laws.{offers-intro}
 use Rattle.published.specs.Syntax.{Process}
 use Rattle.published.specs.Agents.{_∈_, Commitment, gives, takes, channelOf}
@@ -27,9 +28,6 @@ use Rattle.published_laws.specs.Standing.{processAt, committed, commitme
 unfoldable pub pledge : Direction → ℕ → ℕ → Process → Commitment
 pledge Out c v Q = gives c v Q
 pledge In c x Q = takes c x Q
-
-clash : {A : Type 0} → _≡_ {A = ℕ} 0 1 → A
-clash e = absurd (let h : ⊥ = omega arith in h)
 
 pub pledge-channel : (d : Direction) (c v : ℕ) (Q : Process) → channelOf (pledge d c v Q) ≡ c
 unfolding pledge channelOf

@@ -21,6 +21,7 @@ use Rattle.rules.specs.Program.{branchAt, fieldB, fieldC, actOf, guardHolds, as
 use Rattle.rules.specs.Holding.{holds}
 use Rattle.rules.specs.declared.Act.the-variants.{Assignment}
 use Rattle.granted.specs.Granted.{Granted}
+use Rattle.granted.specs.Codes.{clash}
 use Rattle.engine_laws.specs.Reading.Laws.{holds-elim, holds-intro}
 use Rattle.engine_laws.specs.Sound.{SlotSound, spare, number, unfilled, filled, RowSound}
 use Rattle.engine_laws.specs.Onward.{own-slot}
@@ -29,9 +30,6 @@ use Rattle.published.specs.Agents.{Value, look, bind, numeric, numberOf, valueO
 use Rattle.published.specs.Bindings.{look-bound, look-other, length-bound, knows-iff}
 use Rattle.published_laws.specs.Readable.{NumberSlot, Readable}
 use Rattle.published_laws.specs.Standing.{guardOf, expressionOf, valueAs, slotValue, envOf}
-
-clash : {A : Type 0} → _≡_ {A = ℕ} 0 1 → A
-clash e = absurd (let h : ⊥ = omega arith in h)
 
 -- ---- values
 

@@ -1,15 +1,14 @@
 -- The agent with which a file starts, and the theorems applied to the file of document 01's listing, so that no hypothesis is empty. Assumes nothing.
-use Prim.Native.Nat.{ℕ, _<_}
-use mathlib.Core.Path.{_≡_, refl, _∙_, ap}
-use mathlib.Core.Bool.{true, false}
+use Prim.Native.Nat.{ℕ}
+use mathlib.Core.Path.{_≡_, refl, ap}
 use mathlib.Core.List.{List, [], _∷_}
 use mathlib.Core.Option.{none}
-use lib.ListN.{length, getD, replicate, length-replicate}
+use lib.ListN.{replicate, length-replicate}
 use Rattle.table.specs.Table.{Table, tableOf}
 use Rattle.table.specs.Layout.{start}
 use Rattle.table.specs.declared.Part.the-variants.{Nodes}
 use Rattle.loader.specs.Verdict.{verdict}
-use Rattle.loader.specs.Load.{tableLength, loaded, accepted}
+use Rattle.loader.specs.Load.{tableLength, loaded}
 use Rattle.loader.specs.declared.Loaded.the-variants.{Done}
 use Rattle.loader.specs.declared.Verdict.the-variants.{Sound}
 use Rattle.loading.specs.Yields.{sound-loads}
