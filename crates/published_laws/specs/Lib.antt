@@ -19,3 +19,4 @@ pub mod Running
 pub mod Choosing
 pub mod Benches
 pub mod Starting
+pub mod Computation

@@ -66,7 +66,8 @@ unfolding refers waiting
 idle-bench = bench-is (tableOf table) none (λ c. refl) end refl
 
 -- its run of whatever length
-pub listing-run : (n : ℕ) → Reaches (bodyOf (tableOf table)) Ours (agentOf (tableOf table) idle (view begun)) (agentOf (tableOf table) idle (view (runCall table begun n .state)))
+pub listing-run : (n : ℕ)
+    → Reaches (bodyOf (tableOf table)) Ours (agentOf (tableOf table) idle (view begun)) (agentOf (tableOf table) idle (view (runCall table begun n .state)))
 listing-run n =
     run-call-reduced table (loaded-accepted (listing .0) (replicate tableLength 0) listing-loads) (loaded-small (listing .0) (replicate tableLength 0) listing-loads)
     begun begun-sound idle idle-bench n
@@ -74,5 +75,6 @@ listing-run n =
 -- a collection, by the published rules alone
 pub listing-collect : Reaches (bodyOf (tableOf table)) Nothing (agentOf (tableOf table) idle (view begun)) (agentOf (tableOf table) idle (view (collectCall table begun .state)))
 listing-collect =
-    collect-call-reduced table (loaded-accepted (listing .0) (replicate tableLength 0) listing-loads) (loaded-small (listing .0) (replicate tableLength 0) listing-loads)
+    collect-call-reduced table (loaded-accepted (listing .0) (replicate tableLength 0) listing-loads)
+    (loaded-small (listing .0) (replicate tableLength 0) listing-loads)
     begun begun-sound idle idle-bench (bodyOf (tableOf table)) Nothing
