@@ -73,7 +73,8 @@ listing-run n =
     begun begun-sound idle idle-bench n
 
 -- a collection, by the published rules alone
-pub listing-collect : Reaches (bodyOf (tableOf table)) Nothing (agentOf (tableOf table) idle (view begun)) (agentOf (tableOf table) idle (view (collectCall table begun .state)))
+pub listing-collect : Reaches (bodyOf (tableOf table)) Nothing (agentOf (tableOf table) idle (view begun))
+    (agentOf (tableOf table) idle (view (collectCall table begun .state)))
 listing-collect =
     collect-call-reduced table (loaded-accepted (listing .0) (replicate tableLength 0) listing-loads)
     (loaded-small (listing .0) (replicate tableLength 0) listing-loads)

@@ -47,7 +47,8 @@ same-meeting d e q = cc
 
 -- thread u waits, and its branch j, a meeting of direction d on channel c, has a true guard
 module _ (tb : Table) (s : State) (t u j c : ℕ) (d : Direction) (a : Answering tb s t d c u j) where
-  pub met-commits : pledge d c (fieldB tb (branchAt tb (standsAt (thread s u)) j)) (processAt tb (nextOf tb (standsAt (thread s u)) (branchAt tb (standsAt (thread s u)) j)))
+  pub met-commits : pledge d c (fieldB tb (branchAt tb (standsAt (thread s u)) j))
+      (processAt tb (nextOf tb (standsAt (thread s u)) (branchAt tb (standsAt (thread s u)) j)))
       ∈ commitmentsFrom tb (thread s u) 0 (branchCount tb (standsAt (thread s u)))
   met-commits =
       rw (a .is) at (pledged-in tb (thread s u) (branchCount tb (standsAt (thread s u))) 0 j d (omega arith) (omega (arith, a .branch-in)) (a .passes) (a .does))
