@@ -9,8 +9,8 @@ use lib.ListN.{length}
 use Rattle.numbers.specs.Count.{bit, count}
 use Rattle.numbers.specs.Search.Laws.{caseB}
 use Rattle.published.specs.Syntax.{Process}
-use Rattle.published.specs.Agents.{_∈_, Thread, Channels, Agent, agent, nth, knows, globalrc}
-use Rattle.published.specs.Rules.{Rearranged, none-left, same-first, swapped, twice, Acts, Reclaims, Reduces, acts, reclaims, exchange, Many, stays, goes, Reaches, Turn, Stepped}
+use Rattle.published.specs.Agents.{_∈_, Thread, Agent, agent, nth, knows, globalrc}
+use Rattle.published.specs.Rules.{Rearranged, none-left, same-first, swapped, twice, Reclaims, Reduces, acts, reclaims, exchange, Many, stays, goes, Reaches, Run, last, pass, Turn, Stepped}
 
 -- ---- one of a list
 
@@ -96,15 +96,14 @@ module _ (R : Agent → Agent → Type 0) where
 
 module _ (def : ℕ → Process) (More : Agent → Agent → Type 0) where
   -- products in another order at the beginning and at the end
-  exchanged : {A A′ B : List Thread} {Δ : Channels} {C T : Agent} → Rearranged A A′ → Acts def More (agent Δ A′) C → Many (Acts def More) C T
-      → Rearranged (T .threads) B
-      → Reaches def More (agent Δ A) (agent (T .channels) B)
-  exchanged p r stays q = goes (exchange p (acts r) q) stays
-  exchanged p r (goes x w) q = goes (exchange p (acts r) (same-order _)) (exchanged (same-order _) x w q)
+  exchanged : {A T : Agent} {P Q : List Thread} → Run def More A T → Rearranged P (A .threads) → Rearranged (T .threads) Q
+      → Reaches def More (agent (A .channels) P) (agent (T .channels) Q)
+  exchanged (last r) p q = goes (exchange p (acts r) q) stays
+  exchanged (pass r w) p q = goes (exchange p (acts r) (same-order _)) (exchanged w (same-order _) q)
 
   -- a turn is a series of reductions
   pub turn-reaches : (A : Agent) (t : Thread) (B : Agent) → Turn def More A t B → Reaches def More A B
-  turn-reaches A t B h = exchanged (h .brought) (h .first) (h .later) (h .put-back)
+  turn-reaches A t B h = exchanged (h .run) (h .brought) (h .put-back)
 
 pub reclaims-reach : (def : ℕ → Process) (More : Agent → Agent → Type 0) {A B : Agent} → Many Reclaims A B → Reaches def More A B
 reclaims-reach def More p = many-by Reclaims (Reduces def More) (λ A B r. reclaims r) p

@@ -123,15 +123,20 @@ pub data Many (R : Agent → Agent → Type 0) : Agent → Agent → Type 0 wher
 abbrev pub Reaches : (ℕ → Process) → (Agent → Agent → Type 0) → Agent → Agent → Type 0
 Reaches def More = Many (Reduces def More)
 
--- a turn of thread t, which takes the agent A to the agent B: t is brought to the first place, and each of the reductions, at least one, has the first thread
--- as its redex. Besides t and the threads that it meets and makes, no thread takes part
+-- reductions of the first thread, at least one: each before the last changes that thread and nothing else
+module _ (def : ℕ → Process) (More : Agent → Agent → Type 0) where
+  pub data Run : Agent → Agent → Type 0 where
+    last : {A B : Agent} → Acts def More A B → Run A B
+    pass : {Δ : Channels} {t t′ : Thread} {B : List Thread} {C : Agent} → Acts def More (agent Δ (t ∷ B)) (agent Δ (t′ ∷ B)) → Run (agent Δ (t′ ∷ B)) C
+        → Run (agent Δ (t ∷ B)) C
+
+-- a turn of thread t, which takes the agent A to the agent B: t is brought to the first place, and the reductions are of it. So besides t only the threads take
+-- part that it meets or makes in the last of them
 pub record Turn (def : ℕ → Process) (More : Agent → Agent → Type 0) (A : Agent) (t : Thread) (B : Agent) : Type 0 where
   pub others : List Thread
   pub brought : Rearranged (A .threads) (t ∷ others)
-  pub then : Agent
-  pub first : Acts def More (agent (A .channels) (t ∷ others)) then
   pub product : List Thread
-  pub later : Many (Acts def More) then (agent (B .channels) product)
+  pub run : Run def More (agent (A .channels) (t ∷ others)) (agent (B .channels) product)
   pub put-back : Rearranged product (B .threads)
 
 -- a turn, and then any number of uses of (reclaim)

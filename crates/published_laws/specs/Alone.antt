@@ -2,7 +2,7 @@
 use Prim.Native.Nat.{ℕ, zero, suc, _+_, _<_}
 use native.Mathlib.Omega.{arith}
 use mathlib.Core.Path.{_≡_, refl, _∙_, fun-ext}
-use mathlib.Core.Logic.{_≢_}
+use mathlib.Core.Logic.{inl, _≢_}
 use mathlib.Core.Bool.{true, false}
 use mathlib.Core.List.{List, [], _∷_}
 use lib.Dec.{eqb}
@@ -24,24 +24,24 @@ use Rattle.engine_laws.specs.Rows.{waiting-waits, waiting-node, waiting-slot, w
 use Rattle.engine_laws.specs.Onward.{branching, goneBy-ready, createdBy-ready}
 use Rattle.engine_laws.specs.Replaced.{typed-same, typed-other}
 use Rattle.engine_laws.specs.Chosen.{Open, Creating}
-use Rattle.published.specs.Syntax.{Process, end, invoke, Sum, nothing, andWait, waits}
+use Rattle.published.specs.Syntax.{Process, end, invoke, Sum, nothing, waits}
 use Rattle.published.specs.Agents as Agents
 use Rattle.published.specs.Agents.{_∈_, Commitment, Thread, Channels, adding, Agent, agent}
-use Rattle.published.specs.Rules.{Rearranged, same-first, swapped, twice, Acts, step, new, inert, more, Many, stays, Turn, Ours, assigns}
+use Rattle.published.specs.Rules.{Rearranged, same-first, swapped, twice, Acts, step, new, inert, more, Run, last, Turn, Ours, assigns}
 use Rattle.published.specs.Lists.{same-order, turned-back}
 use Rattle.published_laws.specs.Readable.{Readable}
 use Rattle.published_laws.specs.Standing.{guardOf, prefixOf, sumBefore, nodeProcess, processAt, bodyOf, envOf, commitmentsFrom, waitingThread, readyThread, threadOf, threadsOf, channelsOf, agentOf}
-use Rattle.published_laws.specs.Unrolled.{process-at, wait-behind}
+use Rattle.published_laws.specs.Unrolled.{process-at}
 use Rattle.published_laws.specs.Environments.{env-same, guard-same}
 use Rattle.published_laws.specs.Products.{Bench, ready-thread, waiting-thread, stored-first, row-first}
 use Rattle.published_laws.specs.Commitments.{commitments-same}
-use Rattle.published_laws.specs.Passing.{Passed, others, tip, midway, Leads, lead, left-by, pass-one, pass-all}
+use Rattle.published_laws.specs.Passing.{Passed, others, tip, midway, leads-run, lead, pass-all}
 use Rattle.published_laws.specs.Afterwards.{tau-thread, assigned-thread, created-thread}
 
 -- a turn, by its reductions
-pub turn-by : (def : ℕ → Process) (More : Agent → Agent → Type 0) {A B P : List Thread} {t : Thread} {Δ : Channels} {C T : Agent} → Rearranged A (t ∷ B)
-    → Acts def More (agent Δ (t ∷ B)) C → Many (Acts def More) C T → Rearranged (T .threads) P → Turn def More (agent Δ A) t (agent (T .channels) P)
-turn-by def More {B = B} {C = C} {T = T} p r w q = record { others = B; brought = p; then = C; first = r; product = T .threads; later = w; put-back = q }
+pub turn-by : (def : ℕ → Process) (More : Agent → Agent → Type 0) {A B P : List Thread} {t : Thread} {Δ : Channels} {T : Agent} → Rearranged A (t ∷ B)
+    → Run def More (agent Δ (t ∷ B)) T → Rearranged (T .threads) P → Turn def More (agent Δ A) t (agent (T .channels) P)
+turn-by def More {B = B} {T = T} p w q = record { others = B; brought = p; product = T .threads; run = w; put-back = q }
 
 module _ (tb : Table) (g : Granted tb) (rd : Readable tb) (s : State) (o : Orderly tb s) (t : ℕ) (l : t < maxThreads) (ready : isReady (thread s t) ≡ true)
     (b : Thread) (bn : Bench tb b) where
@@ -97,7 +97,7 @@ module _ (tb : Table) (g : Granted tb) (rd : Readable tb) (s : State) (o : Order
   unfolding agentOf channelsOf written withThread others
   ends-reduced More m n =
       let start = rw (at-end m n) at own-first in
-      rw (at-end m n) (turn-by (bodyOf tb) More {T = agent (channelsOf s) rest} start inert stays (same-order rest))
+      rw (at-end m n) (turn-by (bodyOf tb) More {T = agent (channelsOf s) rest} start (last inert) (same-order rest))
 
   -- ---- a wait: (out), (in) and skip
 
@@ -119,21 +119,18 @@ module _ (tb : Table) (g : Granted tb) (rd : Readable tb) (s : State) (o : Order
     waits-by : (n : ℕ) → branchCount tb (standsAt (thread s t)) ≡ n → 0 < n → kindOf tb (standsAt (thread s t)) ≡ 1
         → ((j : ℕ) → j < branchCount tb (standsAt (thread s t)) → Passed tb s t j)
         → Turn (bodyOf tb) More (agentOf tb b s) (readyThread tb (thread s t)) (agentOf tb b (written tb s t Waits))
-    unfolding agentOf channelsOf written withThread sumBefore tip commitmentsFrom left-by andWait waits
+    unfolding agentOf channelsOf written withThread waits
     waits-by zero e z k p = absurd (omega arith)
     waits-by (suc n) e z k p =
         let Δ = channelsOf s in
         let row = thread s t in
-        let q = sumBefore tb (processAt tb) nothing (standsAt row) 1 n in
-        let Γ = left-by tb g rd s o t l ready b bn More skips rest (λ x i. i) Δ 0 in
-        let first = pass-one tb g rd s o t l ready b bn More skips rest (λ x i. i) Δ 0 (omega arith) (p 0 (omega arith)) [] q in
-        let later = pass-all tb g rd s o t l ready b bn More skips rest (λ x i. i) Δ n 1 (omega arith) p Γ in
-        let one-more : 1 + n ≡ suc n = omega arith in
-        let last : Many (Acts (bodyOf tb) More) (agent Δ (midway tb g rd s o t l ready b bn Γ (andWait q) ∷ rest)) (agent Δ (threadOf tb (waitingRow row) ∷ rest)) =
-        rw (wait-behind tb (processAt tb) nothing (standsAt row) 1 n, wait-thread, e) (rw one-more at later) in
-        let start : Rearranged (b ∷ threadsOf tb (s .threads)) (midway tb g rd s o t l ready b bn [] (tip tb g rd s o t l ready b bn 0 q) ∷ rest) =
-        rw (at-choice k, e) at own-first in
-        rw (at-choice k, e) (turn-by (bodyOf tb) More {T = agent Δ (threadOf tb (waitingRow row) ∷ rest)} start first last
+        let q = sumBefore tb (processAt tb) nothing (standsAt row) 0 (suc n) in
+        let all = pass-all tb g rd s o t l ready b bn More skips rest (λ x i. i) Δ n 0 (omega arith) p [] in
+        let no-more : 0 + suc n ≡ suc n = omega arith in
+        let w : Run (bodyOf tb) More (agent Δ (midway tb g rd s o t l ready b bn [] q ∷ rest)) (agent Δ (threadOf tb (waitingRow row) ∷ rest)) =
+        rw (wait-thread, e) (rw no-more at all) in
+        let start : Rearranged (b ∷ threadsOf tb (s .threads)) (midway tb g rd s o t l ready b bn [] q ∷ rest) = rw (at-choice k, e) at own-first in
+        rw (at-choice k, e) (turn-by (bodyOf tb) More {T = agent Δ (threadOf tb (waitingRow row) ∷ rest)} start w
         (turned-back (new-first (waitingRow row) (waiting-used (waitingRow row) (waiting-waits row)))))
 
     pub waits-reduced : kindOf tb (standsAt (thread s t)) ≡ 1 → ((j : ℕ) → j < branchCount tb (standsAt (thread s t)) → Passed tb s t j)
@@ -145,17 +142,20 @@ module _ (tb : Table) (g : Granted tb) (rd : Readable tb) (s : State) (o : Order
   module _ (More : Agent → Agent → Type 0) (k : ℕ) (kind : kindOf tb (standsAt (thread s t)) ≡ 1) (m : k < branchCount tb (standsAt (thread s t)))
       (before : (j : ℕ) → j < k → Passed tb s t j) where
     -- beside the threads B: from a reduction of it, whatever was committed and whatever branches are behind it
-    pub led : (B : List Thread) (T : Agent) (P : List Thread) → Rearranged (others tb g rd s o t l ready b bn) B
+    pub led : (B : List Thread) (D : Channels) (h : Thread) (C P : List Thread) → Rearranged (others tb g rd s o t l ready b bn) B
         → (among : (x : Thread) → x ∈ B → x ∈ others tb g rd s o t l ready b bn)
-        → ((Γ : List Commitment) (q : Sum) → Leads tb g rd s o t l ready b bn More B among (channelsOf s) T Γ (tip tb g rd s o t l ready b bn k q))
-        → Rearranged (T .threads) P
-        → Turn (bodyOf tb) More (agent (channelsOf s) (b ∷ threadsOf tb (s .threads))) (readyThread tb (thread s t)) (agent (T .channels) P)
-    led B T P p among act q =
+        → ((Γ : List Commitment) (q : Sum) → Acts (bodyOf tb) More
+        (agent (channelsOf s) (midway tb g rd s o t l ready b bn Γ (tip tb g rd s o t l ready b bn k q) ∷ B)) (agent D (h ∷ C)))
+        → Rearranged (h ∷ C) P
+        → Turn (bodyOf tb) More (agent (channelsOf s) (b ∷ threadsOf tb (s .threads))) (readyThread tb (thread s t)) (agent D P)
+    led B D h C P p among act q =
         let n = standsAt (thread s t) in
+        let Q = sumBefore tb (processAt tb) nothing n 0 (branchCount tb n) in
         let z : k ≡ 0 + k = omega arith in
-        let (D, h, C, r, w) = lead tb g rd s o t l ready b bn More B among (channelsOf s) T k m before act (branchCount tb n) k 0 m z [] nothing in
+        let x = lead tb g rd s o t l ready b bn More B among (channelsOf s) D h C k m before (λ Γ r. inl (act Γ r)) (branchCount tb n) k 0 m z [] nothing in
+        let w = leads-run tb g rd s o t l ready b bn More B among (channelsOf s) D h C [] Q x in
         let start = rw (at-choice kind) at own-first in
-        rw (at-choice kind) (turn-by (bodyOf tb) More (twice start (same-first p)) r w q)
+        rw (at-choice kind) (turn-by (bodyOf tb) More (twice start (same-first p)) w q)
 
     -- it writes the row of the thread alone
     single : (row : List ℕ) → inUse row ≡ true → (D : Channels)
@@ -165,8 +165,7 @@ module _ (tb : Table) (g : Granted tb) (rd : Readable tb) (s : State) (o : Order
         → Turn (bodyOf tb) More (agent (channelsOf s) (b ∷ threadsOf tb (s .threads))) (readyThread tb (thread s t))
         (agent D (b ∷ threadsOf tb (set (s .threads) t row)))
     single row u D f =
-        led rest (agent D (threadOf tb row ∷ rest)) (b ∷ threadsOf tb (set (s .threads) t row)) (same-order rest) (λ x i. i)
-        (λ Γ q. (D, threadOf tb row, rest, f Γ q, stays)) (turned-back (new-first row u))
+        led rest D (threadOf tb row) rest (b ∷ threadsOf tb (set (s .threads) t row)) (same-order rest) (λ x i. i) f (turned-back (new-first row u))
 
     guard-true : guardHolds tb (branchAt tb (standsAt (thread s t)) k) (thread s t) ≡ true
         → Agents.holds (envOf tb (thread s t)) (guardOf tb (branchAt tb (standsAt (thread s t)) k)) ≡ true

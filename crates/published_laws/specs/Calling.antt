@@ -24,7 +24,7 @@ use Rattle.engine_laws.specs.Reading.Laws.{head-slot, ready-used}
 use Rattle.engine_laws.specs.Sound.{RowSound, Orderly}
 use Rattle.published.specs.Agents as Agents
 use Rattle.published.specs.Agents.{Value, Env, look, Thread, agent}
-use Rattle.published.specs.Rules.{Rearranged, call, more, stays, goes, Turn, Ours, zeros}
+use Rattle.published.specs.Rules.{Rearranged, call, more, last, pass, Turn, Ours, zeros}
 use Rattle.published.specs.Lists.{turned-back}
 use Rattle.published_laws.specs.Readable.{Readable}
 use Rattle.published_laws.specs.Standing.{bodyOf, valueAs, slotValue, envOf, readyThread, threadOf, threadsOf, channelsOf, agentOf}
@@ -181,7 +181,7 @@ module _ (tb : Table) (g : Granted tb) (rd : Readable tb) (s : State) (o : Order
   calls-reduced =
       let rest = others tb g rd s o t l ready b bn in
       let start = rw (at-call tb g rd s o t l ready b bn kind) at (own-first tb g rd s o t l ready b bn) in
-      let last : Rearranged (Agents.thread [] (envOf tb after) (bodyOf tb d) ∷ rest) (b ∷ threadsOf tb (set (s .threads) t after)) =
+      let end : Rearranged (Agents.thread [] (envOf tb after) (bodyOf tb d) ∷ rest) (b ∷ threadsOf tb (set (s .threads) t after)) =
       rw after-thread at (turned-back (new-first tb g rd s o t l ready b bn after after-used)) in
       rw (at-call tb g rd s o t l ready b bn kind) (turn-by (bodyOf tb) Ours {T = agent (channelsOf s) (Agents.thread [] (envOf tb after) (bodyOf tb d) ∷ rest)}
-      start (call values evaluated) (goes (more (zeros entered-zeros)) stays) last)
+      start (pass (call values evaluated) (last (more (zeros entered-zeros)))) end)

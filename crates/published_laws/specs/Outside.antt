@@ -27,7 +27,7 @@ use Rattle.engine_laws.specs.Chosen.{Answering, partner-answers}
 use Rattle.published.specs.Syntax.{Process, choice, Sum, branch, always, output, input}
 use Rattle.published.specs.Agents as Agents
 use Rattle.published.specs.Agents.{Env, look, bind, Thread, Agent}
-use Rattle.published.specs.Rules.{Rearranged, same-first, send, recv, stays, Turn, Stepped}
+use Rattle.published.specs.Rules.{Rearranged, same-first, send, recv, last, Turn, Stepped}
 use Rattle.published.specs.Lists.{turned-back}
 use Rattle.published_laws.specs.Readable.{Readable}
 use Rattle.published_laws.specs.Standing.{waitingThread, threadOf, threadsOf, envOf, channelsOf, agentOf}
@@ -89,12 +89,12 @@ module _ (tb : Table) (g : Granted tb) (rd : Readable tb) (s : State) (ok : Soun
     sent a =
         let b = branchAt tb (standsAt (thread s u)) j in
         let fits = number-value (slotType tb (definitionOf tb (standsAt (thread s u))) (fieldB tb b)) v (number-slot In a) in
-        let last : Rearranged (gave ∷ (Agents.thread [] (bind (envOf tb (thread s u)) (fieldB tb b) (Agents.number v)) _ ∷ rest))
+        let end : Rearranged (gave ∷ (Agents.thread [] (bind (envOf tb (thread s u)) (fieldB tb b) (Agents.number v)) _ ∷ rest))
         (gave ∷ threadsOf tb (set (s .threads) u (metBy tb (thread s u) j v))) =
         rw (received-thread tb g rd (typeIn s) (thread s u) (sound In a) (used In a) j (a .branch-in) (a .does) v (Agents.number v) fits)
         at (same-first {t = gave} (turned-back (after-first In a v))) in
         turn-by def More (same-first (met-first In a))
-        (send p (fieldB tb b) (Agents.number v) refl on (met-commits tb s bench u j p In a) has) stays last
+        (last (send p (fieldB tb b) (Agents.number v) refl on (met-commits tb s bench u j p In a) has)) end
 
     -- the thread that is found to receive goes on with v
     pub give-reduced : partnerOf tb s bench In p ≡ At u j → Bench tb gave
@@ -125,10 +125,10 @@ module _ (tb : Table) (g : Granted tb) (rd : Readable tb) (s : State) (ok : Soun
         let m = meets-by tb g (typeIn s) (thread s u) (sound Out a) (used Out a) j (a .branch-in) Out (a .does) in
         let has = look-filled tb g rd (typeIn s) (thread s u) (sound Out a) (used Out a) (fieldB tb b) (m .with-slot)
         ∙ number-value (slotType tb (definitionOf tb (standsAt (thread s u))) (fieldB tb b)) (valueBy tb (thread s u) j) (number-slot Out a) in
-        let last = rw (gave-thread tb g rd (typeIn s) (thread s u) (sound Out a) (used Out a) j (a .branch-in) (a .does) 0)
+        let end = rw (gave-thread tb g rd (typeIn s) (thread s u) (sound Out a) (used Out a) j (a .branch-in) (a .does) 0)
         at (same-first {t = took} (turned-back (after-first Out a 0))) in
         turn-by def More (same-first (met-first Out a))
-        (recv p (fieldB tb b) (Agents.number (valueBy tb (thread s u) j)) refl on (met-commits tb s bench u j p Out a) has) stays last
+        (last (recv p (fieldB tb b) (Agents.number (valueBy tb (thread s u) j)) refl on (met-commits tb s bench u j p Out a) has)) end
 
     -- the thread that is found to send goes on, and the bench has its number
     pub take-reduced : partnerOf tb s bench Out p ≡ At u j → Bench tb took

@@ -3,7 +3,7 @@
 use Prim.Native.Nat.{ℕ, zero, suc, _+_, _<_}
 use native.Mathlib.Omega.{arith}
 use mathlib.Core.Path.{_≡_, refl, _∙_}
-use mathlib.Core.Logic.{inl, inr, _≢_}
+use mathlib.Core.Logic.{_⊎_, inl, inr, ⊎-elim, _≢_}
 use mathlib.Core.Bool.{true, false, cond}
 use mathlib.Core.List.{List, [], _∷_, _++_, append-nil, append-assoc}
 use mathlib.Core.Option.{some}
@@ -34,7 +34,7 @@ use Rattle.engine_laws.specs.Channels.{on-held}
 use Rattle.published.specs.Syntax.{Process, choice, Sum, branch, andWait, waits}
 use Rattle.published.specs.Agents as Agents
 use Rattle.published.specs.Agents.{_∈_, look, Commitment, Thread, Channels, Agent, agent}
-use Rattle.published.specs.Rules.{Acts, next, out, inn, more, Many, stays, goes, Ours, skip}
+use Rattle.published.specs.Rules.{Acts, next, out, inn, more, Run, last, pass, Ours, skip}
 use Rattle.published_laws.specs.Readable.{Readable}
 use Rattle.published_laws.specs.Standing.{guardOf, prefixOf, sumBefore, processAt, bodyOf, envOf, committed, commitmentsFrom, threadOf, threadsOf}
 use Rattle.published_laws.specs.Unrolled.{wait-behind, one-more-wait}
@@ -159,32 +159,41 @@ module _ (tb : Table) (g : Granted tb) (rd : Readable tb) (s : State) (o : Order
 
     -- ---- as far as a branch that goes ahead
 
-    -- a first reduction that leaves a thread in the first place, and more of them, to the agent T
-    abbrev pub Leads : Agent → List Commitment → Sum → Type 0
-    Leads T Γ q = (D : Channels) × (h : Thread) × (C : List Thread)
-        × Acts (bodyOf tb) More (agent Δ (midway Γ q ∷ B)) (agent D (h ∷ C)) × Many (Acts (bodyOf tb) More) (agent D (h ∷ C)) T
+    -- to the agent with D and h ∷ C, by one reduction, or by more of which the first changes the thread alone
+    abbrev pub Leads : Channels → Thread → List Thread → List Commitment → Sum → Type 0
+    Leads D h C Γ q =
+        Acts (bodyOf tb) More (agent Δ (midway Γ q ∷ B)) (agent D (h ∷ C))
+        ⊎ ((x : Thread) × Acts (bodyOf tb) More (agent Δ (midway Γ q ∷ B)) (agent Δ (x ∷ B)) × Run (bodyOf tb) More (agent Δ (x ∷ B)) (agent D (h ∷ C)))
 
-    pub lead : (T : Agent) (k : ℕ) → k < branchCount tb (standsAt (thread s t)) → ((j : ℕ) → j < k → Passed tb s t j)
-        → ((Γ : List Commitment) (q : Sum) → Leads T Γ (tip k q))
-        → (m j i : ℕ) → j < m → k ≡ i + j → (Γ : List Commitment) (q : Sum) → Leads T Γ (sumBefore tb (processAt tb) q (standsAt (thread s t)) i m)
-    unfolding sumBefore tip
-    lead T k b p act zero j i z e Γ q = absurd (omega arith)
-    lead T k b p act (suc m) zero i z e Γ q =
-        let w : k ≡ i = omega arith in rw w at (act Γ (sumBefore tb (processAt tb) q (standsAt (thread s t)) (suc i) m))
-    lead T k b p act (suc m) (suc j) i z e Γ q =
-        pass i (p i (omega arith)) (omega arith) Γ q m (λ Γ′ q′. lead T k b p act m j (suc i) (omega arith) (omega arith) Γ′ q′)
-      where
-        pass : (i : ℕ) → Passed tb s t i → i < branchCount tb (standsAt (thread s t)) → (Γ : List Commitment) (q : Sum) (m : ℕ)
-            → ((Γ : List Commitment) (q : Sum) → Leads T Γ (sumBefore tb (processAt tb) q (standsAt (thread s t)) (suc i) m))
-            → Leads T Γ (tip i (sumBefore tb (processAt tb) q (standsAt (thread s t)) (suc i) m))
-        pass i (closed y) n Γ q m h = let (D, x, C, r, w) = h Γ q in (D, x, C, next (guard-is i n ∙ y) r, w)
-        pass i (unmet d y e f) n Γ q m h =
-            let Q = sumBefore tb (processAt tb) q (standsAt (thread s t)) (suc i) m in
-            let Γ′ = Γ ++ committed tb (thread s t) (branchAt tb (standsAt (thread s t)) i) (actOf tb (branchAt tb (standsAt (thread s t)) i)) in
-            let (D, x, C, r, w) = h Γ′ (andWait q) in
-            let v = wait-behind tb (processAt tb) q (standsAt (thread s t)) (suc i) m in
-            let r′ : Acts (bodyOf tb) More (agent Δ (midway Γ′ (andWait Q) ∷ B)) (agent D (x ∷ C)) = rw v r in
-            (Δ, midway Γ′ (andWait Q), B, commit i n d y e f Γ Q, goes r′ w)
+    pub leads-run : (D : Channels) (h : Thread) (C : List Thread) (Γ : List Commitment) (q : Sum) → Leads D h C Γ q
+        → Run (bodyOf tb) More (agent Δ (midway Γ q ∷ B)) (agent D (h ∷ C))
+    leads-run D h C Γ q (inl r) = last r
+    leads-run D h C Γ q (inr (x, r, w)) = pass r w
+
+    module _ (D : Channels) (h : Thread) (C : List Thread) where
+      -- past branch i, where the branches behind it lead there
+      pass-by : (i : ℕ) → Passed tb s t i → i < branchCount tb (standsAt (thread s t)) → (Γ : List Commitment) (q : Sum) (m : ℕ)
+          → ((Γ : List Commitment) (q : Sum) → Leads D h C Γ (sumBefore tb (processAt tb) q (standsAt (thread s t)) (suc i) m))
+          → Leads D h C Γ (tip i (sumBefore tb (processAt tb) q (standsAt (thread s t)) (suc i) m))
+      unfolding tip
+      pass-by i (closed y) n Γ q m f = ⊎-elim (λ r. inl (next (guard-is i n ∙ y) r)) (λ (x, r, w). inr (x, next (guard-is i n ∙ y) r, w)) (f Γ q)
+      pass-by i (unmet d y e z) n Γ q m f =
+          let Q = sumBefore tb (processAt tb) q (standsAt (thread s t)) (suc i) m in
+          let Γ′ = Γ ++ committed tb (thread s t) (branchAt tb (standsAt (thread s t)) i) (actOf tb (branchAt tb (standsAt (thread s t)) i)) in
+          let Q′ = sumBefore tb (processAt tb) (andWait q) (standsAt (thread s t)) (suc i) m in
+          let v = wait-behind tb (processAt tb) q (standsAt (thread s t)) (suc i) m in
+          let w : Run (bodyOf tb) More (agent Δ (midway Γ′ (andWait Q) ∷ B)) (agent D (h ∷ C)) = rw v (leads-run D h C Γ′ Q′ (f Γ′ (andWait q))) in
+          inr (midway Γ′ (andWait Q), commit i n d y e z Γ Q, w)
+
+      pub lead : (k : ℕ) → k < branchCount tb (standsAt (thread s t)) → ((j : ℕ) → j < k → Passed tb s t j)
+          → ((Γ : List Commitment) (q : Sum) → Leads D h C Γ (tip k q))
+          → (m j i : ℕ) → j < m → k ≡ i + j → (Γ : List Commitment) (q : Sum) → Leads D h C Γ (sumBefore tb (processAt tb) q (standsAt (thread s t)) i m)
+      unfolding sumBefore tip
+      lead k b p act zero j i z e Γ q = absurd (omega arith)
+      lead k b p act (suc m) zero i z e Γ q =
+          let w : k ≡ i = omega arith in rw w at (act Γ (sumBefore tb (processAt tb) q (standsAt (thread s t)) (suc i) m))
+      lead k b p act (suc m) (suc j) i z e Γ q =
+          pass-by i (p i (omega arith)) (omega arith) Γ q m (λ Γ′ q′. lead k b p act m j (suc i) (omega arith) (omega arith) Γ′ q′)
 
   -- ---- where none goes ahead; the rule skip is there if some guard is false
   module _ (More : Agent → Agent → Type 0)
@@ -204,19 +213,23 @@ module _ (tb : Table) (g : Granted tb) (rd : Readable tb) (s : State) (o : Order
     pass-one i m (closed y) Γ q = rw (y, append-nil Γ) (more (skips i m y _ _ (skip (guard-is i m ∙ y))))
     pass-one i m (unmet d y e f) Γ q = rw y (commit More B among Δ i m d y e f Γ q)
 
-    pub pass-all : (m i : ℕ) → i + m ≡ branchCount tb (standsAt (thread s t)) → ((j : ℕ) → j < branchCount tb (standsAt (thread s t)) → Passed tb s t j)
-        → (Γ : List Commitment)
-        → Many (Acts (bodyOf tb) More) (agent Δ (midway Γ (sumBefore tb (processAt tb) (waits i) (standsAt (thread s t)) i m) ∷ B))
-        (agent Δ (midway (Γ ++ commitmentsFrom tb (thread s t) i m) (waits (i + m)) ∷ B))
+    -- the branches from i on, one and m more
+    pub pass-all : (m i : ℕ) → i + suc m ≡ branchCount tb (standsAt (thread s t))
+        → ((j : ℕ) → j < branchCount tb (standsAt (thread s t)) → Passed tb s t j) → (Γ : List Commitment)
+        → Run (bodyOf tb) More (agent Δ (midway Γ (sumBefore tb (processAt tb) (waits i) (standsAt (thread s t)) i (suc m)) ∷ B))
+        (agent Δ (midway (Γ ++ commitmentsFrom tb (thread s t) i (suc m)) (waits (i + suc m)) ∷ B))
     unfolding sumBefore commitmentsFrom left-by tip
-    pass-all zero i e p Γ = let z : i + 0 ≡ i = omega arith in rw (append-nil Γ, z) stays
+    pass-all zero i e p Γ =
+        let z : i + 1 ≡ suc i = omega arith in
+        let r = pass-one i (omega arith) (p i (omega arith)) Γ (waits i) in
+        rw (z, append-nil (left-by i)) (last (rw (one-more-wait i) at r))
     pass-all (suc m) i e p Γ =
         let n = standsAt (thread s t) in
-        let v = wait-behind tb (processAt tb) (waits i) n (suc i) m in
-        let z : i + suc m ≡ suc i + m = omega arith in
+        let v = wait-behind tb (processAt tb) (waits i) n (suc i) (suc m) in
+        let z : i + suc (suc m) ≡ suc i + suc m = omega arith in
         let h = pass-all m (suc i) (omega arith) p (Γ ++ left-by i) in
-        let Q = sumBefore tb (processAt tb) (waits i) n (suc i) m in
-        let h′ : Many (Acts (bodyOf tb) More) (agent Δ (midway (Γ ++ left-by i) (andWait Q) ∷ B))
-        (agent Δ (midway (Γ ++ (left-by i ++ commitmentsFrom tb (thread s t) (suc i) m)) (waits (i + suc m)) ∷ B)) =
-        rw (v, one-more-wait i, z, ← append-assoc Γ (left-by i) (commitmentsFrom tb (thread s t) (suc i) m)) h in
-        goes (pass-one i (omega arith) (p i (omega arith)) Γ Q) h′
+        let Q = sumBefore tb (processAt tb) (waits i) n (suc i) (suc m) in
+        let h′ : Run (bodyOf tb) More (agent Δ (midway (Γ ++ left-by i) (andWait Q) ∷ B))
+        (agent Δ (midway (Γ ++ (left-by i ++ commitmentsFrom tb (thread s t) (suc i) (suc m))) (waits (i + suc (suc m))) ∷ B)) =
+        rw (v, one-more-wait i, z, ← append-assoc Γ (left-by i) (commitmentsFrom tb (thread s t) (suc i) (suc m))) h in
+        pass (pass-one i (omega arith) (p i (omega arith)) Γ Q) h′

@@ -29,7 +29,7 @@ use Rattle.engine_laws.specs.Chosen.{channelBy, Open, Spawning, Answering}
 use Rattle.published.specs.Syntax.{Sum, waits}
 use Rattle.published.specs.Agents as Agents
 use Rattle.published.specs.Agents.{_∈_, Value, look, Commitment, Thread, Agent, agent}
-use Rattle.published.specs.Rules.{Rearranged, same-first, swapped, twice, Acts, spawn, send, recv, stays, Turn}
+use Rattle.published.specs.Rules.{Rearranged, same-first, swapped, twice, Acts, spawn, send, recv, Turn}
 use Rattle.published.specs.Lists.{same-order, in-rearranged, turned-back}
 use Rattle.published_laws.specs.Readable.{Readable}
 use Rattle.published_laws.specs.Standing.{guardOf, prefixOf, processAt, bodyOf, valueAs, envOf, commitmentsFrom, waitingThread, readyThread, threadOf, threadsOf, channelsOf, agentOf}
@@ -124,12 +124,11 @@ module _ (tb : Table) (g : Granted tb) (rd : Readable tb) (s : State) (o : Order
       pub spawn-reduced : Turn (bodyOf tb) More (agentOf tb b s) (readyThread tb (thread s t)) (agentOf tb b (written tb s t (Spawns k u)))
       unfolding agentOf channelsOf written withMark spawnedBy withThread tip prefixOf
       spawn-reduced =
-          led tb g rd s o t l ready b bn More k kind m before rest (agent (channelsOf s) (threadOf tb child ∷ (threadOf tb parent ∷ rest)))
+          led tb g rd s o t l ready b bn More k kind m before rest (channelsOf s) (threadOf tb child) (threadOf tb parent ∷ rest)
           (b ∷ threadsOf tb (set (set (s .threads) t parent) u child)) (same-order rest) (λ y i. i)
-          (λ Γ q. (channelsOf s, threadOf tb child, threadOf tb parent ∷ rest,
-          rw (next-thread tb g rd (typeIn s) (thread s t) sound used k m,
+          (λ Γ q. rw (next-thread tb g rd (typeIn s) (thread s t) sound used k m,
           child-thread tb g rd (typeIn s) (thread s t) sound used k m (x .takes .does), x .takes .does)
-          (spawn (guard-true (x .takes .passes))), stays))
+          (spawn (guard-true (x .takes .passes))))
           (turned-back family-first)
 
     -- ---- (send) and (recv)
@@ -221,8 +220,7 @@ module _ (tb : Table) (g : Granted tb) (rd : Readable tb) (s : State) (o : Order
       pub meeting-reduced : Turn (bodyOf tb) More (agentOf tb b s) (readyThread tb (thread s t)) (agentOf tb b (written tb s t (Meets k u j)))
       unfolding agentOf channelsOf written withThread
       meeting-reduced =
-          led tb g rd s o t l ready b bn More k kind m before (waitingThread tb (thread s u) ∷ apart)
-          (agent (channelsOf s) (threadOf tb own ∷ (threadOf tb mate ∷ apart)))
+          led tb g rd s o t l ready b bn More k kind m before (waitingThread tb (thread s u) ∷ apart) (channelsOf s) (threadOf tb own) (threadOf tb mate ∷ apart)
           (b ∷ threadsOf tb (set (set (s .threads) t own) u mate)) mate-second (λ y i. in-rearranged y mate-second i)
-          (λ Γ q. (channelsOf s, threadOf tb own, threadOf tb mate ∷ apart, meeting-by d refl Γ q, stays))
+          (meeting-by d refl)
           (turned-back both-first)
