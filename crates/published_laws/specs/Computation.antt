@@ -3,23 +3,30 @@
 use Prim.Native.Nat.{ℕ, _<_}
 use mathlib.Core.Path.{_≡_, refl}
 use mathlib.Core.Bool.{true, false}
+use mathlib.Core.Logic.{inl, inr}
 use mathlib.Core.List.{List, [], _∷_}
 use mathlib.Core.Option.{Option, none, some}
 use lib.Dec.{ltb}
 use lib.ListN.{length, getD}
-use borrow.Author.Tests.{ltb-true}
+use borrow.Author.Tests.{ltb-true, eqb-true}
 use Rattle.numbers.specs.Search.Laws.{caseB}
+use Rattle.numbers.specs.Tests.{and-left}
 use Rattle.table.specs.Table.{Table, tableOf, ports}
-use Rattle.loader.specs.Load.{accepted}
+use Rattle.loader.specs.Load.{tableLength, accepted}
 use Rattle.state.specs.State.{stateLength, view, thread}
-use Rattle.rules.specs.Calls.{startCall, stepCall, giveBy, giveCall, takeBy, takeCall, runCall}
+use Rattle.rules.specs.Start.{entered, started}
+use Rattle.rules.specs.Calls.{startBy, startCall, stepCall, giveBy, giveCall, takeBy, takeCall, runCall}
 use Rattle.rules.specs.declared.Stepped.{Stepped}
 use Rattle.rules.specs.declared.Stepped.the-variants as Stepped
 use Rattle.rules.specs.declared.Given.{Given}
 use Rattle.rules.specs.declared.Given.the-variants as Given
 use Rattle.rules.specs.declared.Taken.{Taken}
 use Rattle.rules.specs.declared.Taken.the-variants as Taken
+use Rattle.granted.specs.Accepted.{granted}
 use Rattle.granted.specs.Codes.{clash}
+use Rattle.engine_laws.specs.Shape.Laws.{view-bytes}
+use Rattle.engine_laws.specs.Started.{started-sound}
+use Rattle.engine_laws.specs.Entry.{RightLengths, start-admitted-iff}
 use Rattle.engine_laws.specs.Buffers.{SoundBuffer}
 use Rattle.engine_laws.specs.Calls.{admitted, start-done, start-sound}
 use Rattle.engine_laws.specs.Lists.{step, give, take, run, after}
@@ -29,11 +36,13 @@ use Rattle.guarantee.specs.Claim.{Any, on, collect, afterAny, afterList, reache
 use Rattle.guarantee.specs.Kept.{list-sound}
 use Rattle.published.specs.Syntax.{Process, choice, nothing, branch, always, output, input, assign, constant, waiting, someWait}
 use Rattle.published.specs.Agents as Agents
-use Rattle.published.specs.Agents.{Value, refers, valueOf, Thread}
+use Rattle.published.specs.Agents.{_∈_, Value, refers, valueOf, Thread}
 use Rattle.published.specs.Rules.{Reduces, acts, more, stays, goes, Reaches, Ours, assigns}
 use Rattle.published.specs.Lists.{many-on, stepped-reaches}
-use Rattle.published_laws.specs.Standing.{bodyOf, threadOf, agentOf}
+use Rattle.published.specs.Polarity.{OnePolarity, Bare, our-proposition-2}
+use Rattle.published_laws.specs.Standing.{bodyOf, envOf, threadOf, agentOf}
 use Rattle.published_laws.specs.Benches.{portsAnd, bench-is, look-port, look-own, bind-own}
+use Rattle.published_laws.specs.Starting.{started-agent}
 use Rattle.published_laws.specs.Running.{step-call-reduced, run-call-reduced, give-call-reduced, take-call-reduced, collect-call-reduced}
 
 -- what the bench's own variable has: nothing yet, or a number
@@ -182,3 +191,34 @@ module _ (table : List ℕ) (ok : accepted table ≡ true) (fit : (i : ℕ) → 
   pub computation : (state : List ℕ) → length state ≡ stateLength → (ks : List Any) (E′ : Process) → waiting E′ ≡ false
       → (E : Process) × Leads (startCall table state .state) (reachedBy table state ks) E E′
   computation state long ks E′ w = list-leads (startCall table state .state) (start-sound table ok fit state (start-done table ok state long)) ks E′ w
+
+  -- ---- so what 002 proves of computations holds of the engine's states: Proposition 2, for one
+
+  right-lengths : (state : List ℕ) → length state ≡ stateLength → RightLengths table state
+  unfolding accepted
+  right-lengths state long = (eqb-true (length table) tableLength (and-left _ _ ok), long)
+
+  start-view : (state : List ℕ) → length state ≡ stateLength → view (startCall table state .state) ≡ started tb
+  unfolding startCall startBy
+  start-view state long =
+      let shaped = started-sound tb (granted table ok fit) .orderly .shaped in
+      rw (start-admitted-iff table state .1 (right-lengths state long, ok)) (view-bytes (started tb) shaped)
+
+  start-bare : (o : Option Value) (E : Process) → Bare (agentOf tb (benchAt o E) (started tb) .threads)
+  unfolding agentOf
+  start-bare o E x (inl e) = rw e
+  start-bare o E x (inr i) = last-bare x (rw (started-agent tb) at i)
+    where
+      last-bare : (x : Thread) → x ∈ (Agents.thread [] (envOf tb (entered tb 0 (λ k. k))) (bodyOf tb 0) ∷ []) → x .commitments ≡ []
+      last-bare x (inl e) = rw e
+      last-bare x (inr z) = absurd z
+
+  -- after whatever list of calls, no channel has an output commitment of one thread and an input commitment of another
+  pub reached-polarity : (state : List ℕ) → length state ≡ stateLength → (ks : List Any) (E′ : Process) → waiting E′ ≡ false
+      → (o′ : Option Value) × OnePolarity (agentOf (tableOf table) (benchAt o′ E′) (view (reachedBy table state ks)) .threads)
+  reached-polarity state long ks E′ w =
+      let (E, h) = computation state long ks E′ w in
+      let (o′, i, p) = h .from none no-number in
+      let p′ = rw (start-view state long) at p in
+      (o′, our-proposition-2 (bodyOf tb) (agentOf tb (benchAt none E) (started tb)) (agentOf tb (benchAt o′ E′) (view (reachedBy table state ks)))
+      (start-bare none E) p′)
