@@ -9,7 +9,7 @@ use mathlib.Core.Option.{some}
 use Rattle.numbers.specs.Search.Laws.{contra}
 use Rattle.published.specs.Syntax.{Process, end, choice, invoke, Sum, nothing, branch, wait, Prefix, tau, output, input, newChannel, newThread, assign, andWait}
 use Rattle.published.specs.Agents.{_∈_, Value, channel, Env, look, bind, holds, Commitment, gives, takes, Thread, thread, Channels, adding, Agent, agent}
-use Rattle.published.specs.Rules.{Acts, step, new, spawn, next, call, inert, send, out, recv, inn, more, Nothing}
+use Rattle.published.specs.Rules.{Acts, step, new, spawn, next, call, inert, send, out, recv, inn, more, Nothing, Run, last, pass}
 
 -- ---- what a reduction of the first thread, with Γ and δ, comes to
 
@@ -167,3 +167,16 @@ of-alike def Δ (t ∷ B) T T′ a a′ = process-alike def Δ (t .commitments) 
 -- two reductions of the first thread from one agent end in the same agent, but for the name of a new channel and the commitment that is met
 pub settled-choice : (def : ℕ → Process) {A T T′ : Agent} → Acts def Nothing A T → Acts def Nothing A T′ → Alike T T′
 settled-choice def {A} {T} {T′} r r′ = of-alike def (A .channels) (A .threads) T T′ (acts-of def r) (acts-of def r′)
+
+-- ---- along a turn
+
+-- at each point of it every reduction of the first thread by 002's rules is like the one that is made
+unfoldable pub Forced : (def : ℕ → Process) {A B : Agent} → Run def Nothing A B → Type 0
+Forced def (last {A} {B} r) = (T : Agent) → Acts def Nothing A T → Alike B T
+Forced def (pass {Δ} {t} {t′} {B} {C} r w) = ((T : Agent) → Acts def Nothing (agent Δ (t ∷ B)) T → Alike (agent Δ (t′ ∷ B)) T) × Forced def w
+
+-- so of a turn by 002's rules alone nothing could have gone otherwise, but for names of channels and for partners
+pub turn-forced : (def : ℕ → Process) {A B : Agent} (w : Run def Nothing A B) → Forced def w
+unfolding Forced
+turn-forced def (last r) = λ T r′. settled-choice def r r′
+turn-forced def (pass r w) = ((λ T r′. settled-choice def r r′), turn-forced def w)
