@@ -1,18 +1,22 @@
 -- One law for each way out of the calls. Assumes nothing.
-use Prim.Native.Nat.{ℕ, _+_, _-_, _<_, _≤_}
+use Prim.Native.Nat.{ℕ, _+_, _<_, _≤_}
 use native.Mathlib.Omega.{arith}
-use mathlib.Core.Path.{_≡_, sym, _∙_, ap}
+use mathlib.Core.Path.{_≡_, refl, sym, _∙_, ap}
+use mathlib.Core.List.{List}
 use mathlib.Core.Bool.{Bool, true, false, _&&_}
 use lib.Dec.{eqb, ltb}
+use lib.ListN.{getD}
+use lib.Seq.{getD-set-other, set-getD, set-set}
 use borrow.Author.Tests.{lt-ltb, le-ltb, ltb-true}
 use Rattle.numbers.specs.Rows.{at}
 use Rattle.numbers.specs.Search.Laws.{caseB, contra}
 use Rattle.numbers.specs.Tests.{and-left, and-right}
 use Rattle.table.specs.Table.{Table}
-use Rattle.state.specs.State.{State, maxThreads, thread, standsAt, isReady}
+use Rattle.state.specs.State.{State, maxThreads, maxChannels, thread, standsAt, isReady, withMark, withThread, withChannel, withChannels}
+use Rattle.rules.specs.Holding.{settled}
 use Rattle.rules.specs.Offers.{partnerOf}
-use Rattle.rules.specs.Moves.{move, perform, valueBy, metByBench}
-use Rattle.rules.specs.Calls.{bench, canStep, stepAnswer, Course, course, turned, takeTurn, courseOf}
+use Rattle.rules.specs.Moves.{oneUp, move, written, perform, typed, spawnedBy, valueBy, metByBench}
+use Rattle.rules.specs.Calls.{bench, canStep, stepAnswer, Course, course, oneMore, onward, nextReady, pastTurn, turnBy, courseOf}
 use Rattle.rules.specs.declared.Direction.the-variants.{Out, In}
 use Rattle.rules.specs.declared.Partner.{Partner}
 use Rattle.rules.specs.declared.Partner.the-variants as Partner
@@ -26,15 +30,15 @@ use Rattle.rules.specs.declared.Given.the-variants as Given
 use Rattle.rules.specs.declared.Taken.{Taken}
 use Rattle.rules.specs.declared.Taken.the-variants as Taken
 use Rattle.rules.specs.declared.Reason.{Reason}
-use Rattle.rules.specs.declared.Reason.the-variants.{AllDone}
 use Rattle.rules.specs.declared.Turn.{Turn}
-use Rattle.rules.specs.declared.Turn.the-variants.{Stopped}
+use Rattle.rules.specs.declared.Turn.the-variants.{Went, Stopped}
 use Rattle.rules.specs.declared.Ran.{Ran}
 use Rattle.rules.specs.declared.Ran.the-variants as Ran
 use Rattle.steps.specs.Made.{made}
+use Rattle.steps.specs.Made.Laws.{turn-ends}
 use Rattle.branches.specs.Way.{wayOf, valueAlong}
 use Rattle.branches.specs.declared.Way.{Way}
-use Rattle.calls.specs.Course.{after, course-stopped, course-all}
+use Rattle.calls.specs.Course.{turnAt, courseBy, course-by}
 use Rattle.calls.specs.States.{After, afterwards, stepAfter, stepOn, givenOn, giveOn, takenOn, takeOn, runOn}
 
 pub answer-arm : (r : Stepped) (n : ℕ) (m k : Move) → m ≡ k → r ≡ stepAnswer n k → r ≡ stepAnswer n m
@@ -60,6 +64,39 @@ module _ (s : State) (t : ℕ) where
     unfolding canStep
     step-is-ready = and-right (ltb t maxThreads) (isReady (thread s t)) (sym e ∙ f)
 
+-- ---- one turn, and the turn put back
+
+one-on : (tb : Table) (w : Turn) (x : State) → onward w x (courseOf tb 0) .state ≡ x
+unfolding onward oneMore courseOf
+one-on tb Went x = refl
+one-on tb (Stopped r) x = refl
+
+module _ (tb : Table) (s : State) (t : ℕ) where
+  by-one : t < 64 → courseBy tb 1 s t .state ≡ pastTurn (made tb s t (move tb s t)) t
+  unfolding courseBy turnAt pastTurn
+  by-one l =
+      let e = turn-ends tb s t (move tb s t) (made tb s t (move tb s t)) (withMark (made tb s t (move tb s t)) 2 (oneUp maxThreads t)) (turnBy t (move tb s t)) (oneUp maxThreads t) refl refl refl refl refl in
+      rw (lt-ltb t 64 l, ← e) (one-on tb (turnBy t (move tb s t)) (withMark (made tb s t (move tb s t)) 2 (oneUp maxThreads t)))
+
+  -- a move leaves the turn as it is
+  turn-stays : (m : Move) → getD (made tb s t m .marks) 2 0 ≡ getD (s .marks) 2 0
+  unfolding made perform written spawnedBy typed settled withChannels withChannel withThread withMark
+  turn-stays Ends = refl
+  turn-stays Calls = refl
+  turn-stays Waits = refl
+  turn-stays (Goes i) = refl
+  turn-stays (Creates i c) = getD-set-other (s .marks) 1 2 (oneUp maxChannels c) 0 (λ e. absurd (omega arith))
+  turn-stays (Spawns i u) = getD-set-other (s .marks) 0 2 (oneUp maxThreads u) 0 (λ e. absurd (omega arith))
+  turn-stays (Meets i u j) = refl
+  turn-stays LacksThread = refl
+  turn-stays LacksChannel = refl
+
+  put-back : (m : Move) → withMark (pastTurn (made tb s t m) t) 2 (getD (s .marks) 2 0) ≡ made tb s t m
+  unfolding pastTurn withMark
+  put-back m =
+      ap {B = State} (λ (y : List ℕ). record { marks = y; threads = made tb s t m .threads; channels = made tb s t m .channels })
+      (set-set (made tb s t m .marks) 2 (oneUp maxThreads t) (getD (s .marks) 2 0) ∙ rw (← turn-stays m) (set-getD (made tb s t m .marks) 2 0))
+
 -- ---- step: s before and s₁ after
 
 module _ (s s₁ : State) where
@@ -75,10 +112,25 @@ module _ (s s₁ : State) where
   step-made tb t n LacksThread e = ap (afterwards _) e
   step-made tb t n LacksChannel e = ap (afterwards _) e
 
-  pub step-done : (tb : Table) (t n : ℕ) (m : Move) (r : Stepped) (x : Bool) → s₁ ≡ made tb s t (move tb s t)
+  step-answered : (tb : Table) (t n : ℕ) (m : Move) (r : Stepped) (x : Bool) → s₁ ≡ made tb s t (move tb s t)
       → r ≡ stepAnswer n m → m ≡ move tb s t → n ≡ at (s .threads) t 1 → x ≡ canStep s t → x ≡ true → afterwards r s₁ ≡ stepOn tb s t
   unfolding stepOn
-  step-done tb t n m r x e p q i j k = rw (← j, k, p, q, i) (step-made tb t (standsAt (thread s t)) (move tb s t) e)
+  step-answered tb t n m r x e p q i j k = rw (← j, k, p, q, i) (step-made tb t (standsAt (thread s t)) (move tb s t) e)
+
+  -- the turn is put back
+  module _ (tb : Table) (t : ℕ) where
+    one-turn : (i : ℕ) (r : Reason) (s₂ : State) → course i r s₂ ≡ courseBy tb 1 s t → t < 64 → s₂ ≡ pastTurn (made tb s t (move tb s t)) t
+    one-turn i r s₂ e l =
+        ap (λ (k : Course). k .state) e ∙ by-one tb s t l
+
+    turned-back : (i v : ℕ) (r : Reason) (s₂ : State) → course i r s₂ ≡ courseBy tb 1 s t → t < 64 → s₁ ≡ withMark s₂ 2 v → v ≡ getD (s .marks) 2 0 → s₁ ≡ made tb s t (move tb s t)
+    turned-back i v r s₂ e l f g = f ∙ rw (g, one-turn i r s₂ e l) (put-back tb s t (move tb s t))
+
+    pub step-done : (i v n : ℕ) (r : Reason) (s₂ : State) (m : Move) (a : Stepped) (x : Bool) → course i r s₂ ≡ courseBy tb 1 s t → s₁ ≡ withMark s₂ 2 v → v ≡ getD (s .marks) 2 0
+        → (t < 64 → _≡_ {A = ℕ} 1 1 → m ≡ move tb s t) → a ≡ stepAnswer n m → n ≡ at (s .threads) t 1 → x ≡ canStep s t → x ≡ true → afterwards a s₁ ≡ stepOn tb s t
+    step-done i v n r s₂ m a x e f g o p q j k =
+        let l : t < 64 = step-low s t x j k in
+        step-answered tb t n m a x (turned-back i v r s₂ e l f g) p (o l refl) q j k
 
 pub step-refused : (tb : Table) (s : State) (t : ℕ) (x : Bool) → x ≡ canStep s t → x ≡ false → afterwards (Stepped.Refused Thread) s ≡ stepOn tb s t
 unfolding stepOn
@@ -114,16 +166,37 @@ module _ (tb : Table) (s : State) (p n : ℕ) (e : n ≡ at tb 0 6) where
       unfolding takeOn takenOn valueAlong wayOf valueBy
       take-met v w i q k f = rw (lt-ltb p (at tb 0 6) (omega arith), ← f, g, q, k) (ap (afterwards _) i)
 
+-- ---- turns: s₀ and t₀ at first, s and t after i turns, the last of which made move m
+
+module _ (tb : Table) (s₀ : State) (t₀ : ℕ) where
+  abbrev pub Followed : ℕ → State → ℕ → Move → Type 0
+  Followed i s t m = (i ≡ 0 → (s ≡ s₀) × (t ≡ t₀)) × (i ≡ 1 → m ≡ move tb s₀ t₀)
+
+  pub followed-none : (m : Move) → Followed 0 s₀ t₀ m
+  followed-none m = (λ e. (refl, refl), λ e. absurd (omega arith))
+
+  module _ (i : ℕ) (s : State) (t : ℕ) (m m₁ : Move) (f : Followed i s t m) (e : m₁ ≡ move tb s t) where
+    first-is : i ≡ 0 → m₁ ≡ move tb s₀ t₀
+    first-is z = let (p, q) = f .0 z in e ∙ rw (p, q)
+
+    pub followed-more : (s₁ : State) (t₁ : ℕ) → Followed (i + 1) s₁ t₁ m₁
+    followed-more s₁ t₁ = (λ z. absurd (omega arith), λ z. first-is (omega arith))
+
+    -- what it comes to where only one turn was asked for
+    pub stopped-last : (n : ℕ) → i < n → t₀ < 64 → n ≡ 1 → m₁ ≡ move tb s₀ t₀
+    stopped-last n h l o = first-is (omega arith)
+
+  module _ (i : ℕ) (s : State) (t : ℕ) (m : Move) (f : Followed i s t m) (n : ℕ) where
+    pub nobody-last : i < n → 64 ≤ t → t₀ < 64 → n ≡ 1 → m ≡ move tb s₀ t₀
+    nobody-last h j l o = let (p, q) = f .0 (omega arith) in absurd (omega arith)
+
+    pub all-last : i ≤ n → n ≤ i → t₀ < 64 → n ≡ 1 → m ≡ move tb s₀ t₀
+    all-last h j l o = f .1 (omega arith)
+
 -- ---- run
 
-module _ (tb : Table) (s s₁ : State) (n : ℕ) where
-  ran : (i : ℕ) (r : Reason) → courseOf tb n s ≡ course i r s₁ → afterwards (Ran.Done i r) s₁ ≡ runOn tb s n
-  unfolding runOn
-  ran i r e = rw e
-
-  pub run-stopped : (i : ℕ) (s₂ : State) (w : Turn) (r : Reason) → courseOf tb n s ≡ after i (courseOf tb (n - i) s₂)
-      → turned w s₁ ≡ takeTurn tb s₂ → w ≡ Stopped r → i < n → afterwards (Ran.Done i r) s₁ ≡ runOn tb s n
-  run-stopped i s₂ w r f e h j = ran i r (course-stopped tb n s i s₂ f j w s₁ e r h)
-
-  pub run-all : (i : ℕ) → courseOf tb n s ≡ after i (courseOf tb (n - i) s₁) → i ≤ n → n ≤ i → afterwards (Ran.Done n AllDone) s₁ ≡ runOn tb s n
-  run-all i f h j = ran n AllDone (course-all tb n s i s₁ f (omega arith))
+pub run-done : (tb : Table) (s s₁ : State) (n i t : ℕ) (r : Reason) → course i r s₁ ≡ courseBy tb n s t → t ≡ nextReady s → afterwards (Ran.Done i r) s₁ ≡ runOn tb s n
+unfolding runOn
+run-done tb s s₁ n i t r e f =
+    let k : courseOf tb n s ≡ course i r s₁ = sym (e ∙ rw f (course-by tb n s)) in
+    rw k

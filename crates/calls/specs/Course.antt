@@ -1,13 +1,16 @@
 -- A run seen from a step in its midst. Assumes nothing.
-use Prim.Native.Nat.{ℕ, zero, suc, _+_, _-_, _<_}
+use Prim.Native.Nat.{ℕ, zero, suc, _+_, _-_, _<_, _≤_}
 use native.Mathlib.Omega.{arith}
-use native.Mathlib.Numerals.{add-one}
 use mathlib.Core.Path.{_≡_, refl, sym, _∙_, ap}
+use mathlib.Core.Bool.{cond}
+use lib.Dec.{ltb}
+use borrow.Author.Tests.{lt-ltb, le-ltb}
 use Rattle.table.specs.Table.{Table}
-use Rattle.state.specs.State.{State}
-use Rattle.rules.specs.Calls.{Course, course, oneMore, onward, Turned, turned, takeTurn, courseOf}
+use Rattle.state.specs.State.{State, maxThreads}
+use Rattle.rules.specs.Moves.{move}
+use Rattle.rules.specs.Calls.{Course, course, oneMore, onward, nextReady, turnBy, Turned, turned, turnEnd, takeTurn, courseOf}
 use Rattle.rules.specs.declared.Reason.{Reason}
-use Rattle.rules.specs.declared.Reason.the-variants.{AllDone}
+use Rattle.rules.specs.declared.Reason.the-variants.{AllDone, NoneReady}
 use Rattle.rules.specs.declared.Turn.{Turn}
 use Rattle.rules.specs.declared.Turn.the-variants.{Went, Stopped}
 
@@ -15,43 +18,70 @@ use Rattle.rules.specs.declared.Turn.the-variants.{Went, Stopped}
 unfoldable pub after : ℕ → Course → Course
 after i k = course (i + k .steps) (k .reason) (k .state)
 
-module _ (tb : Table) (n : ℕ) (s : State) where
-  pub course-none : courseOf tb n s ≡ after 0 (courseOf tb (n - 0) s)
+module _ (tb : Table) where
+  -- thread t's turn; the number past the last thread says that nobody is ready
+  unfoldable pub turnAt : State → ℕ → Turned
+  turnAt s t = cond (ltb t maxThreads) (turnEnd tb s t (turnBy t (move tb s t))) (turned (Stopped NoneReady) s)
+
+  -- at most n steps, the first of them thread t's
+  unfoldable pub courseBy : ℕ → State → ℕ → Course
+  courseBy zero s t = course 0 AllDone s
+  courseBy (suc n) s t = onward (turnAt s t .turn) (turnAt s t .state) (courseOf tb n)
+
+  pub course-by : (n : ℕ) (s : State) → courseBy n s (nextReady s) ≡ courseOf tb n s
+  unfolding courseBy turnAt courseOf takeTurn
+  course-by zero s = refl
+  course-by (suc n) s = refl
+
+module _ (tb : Table) (n : ℕ) (s : State) (t : ℕ) where
+  pub course-none : courseBy tb n s t ≡ after 0 (courseBy tb (n - 0) s t)
   unfolding after
   course-none =
       let e : n - 0 ≡ n = omega arith in
-      let z : 0 + courseOf tb n s .steps ≡ courseOf tb n s .steps = omega arith in
+      let z : 0 + courseBy tb n s t .steps ≡ courseBy tb n s t .steps = omega arith in
       rw (e, z)
 
-  module _ (i : ℕ) (s₁ : State) (f : courseOf tb n s ≡ after i (courseOf tb (n - i) s₁)) (h : i < n) (w : Turn) (s₂ : State) (e : turned w s₂ ≡ takeTurn tb s₁) where
-    step-on : courseOf tb (n - i) s₁ ≡ onward w s₂ (courseOf tb (n - (i + 1)))
-    unfolding courseOf
-    step-on =
+  module _ (i : ℕ) (s₁ : State) (u : ℕ) (f : courseBy tb n s t ≡ after i (courseBy tb (n - i) s₁ u)) (h : i < n) where
+    step-on : (k : Turned) → k ≡ turnAt tb s₁ u → courseBy tb (n - i) s₁ u ≡ onward (k .turn) (k .state) (courseOf tb (n - (i + 1)))
+    unfolding courseBy
+    step-on k e =
         let q : n - i ≡ suc (n - (i + 1)) = omega arith in
-        let a : takeTurn tb s₁ .turn ≡ w = sym (ap (λ (k : Turned). k .turn) e) in
-        let b : takeTurn tb s₁ .state ≡ s₂ = sym (ap (λ (k : Turned). k .state) e) in
-        rw (q, a, b)
+        rw (q, e)
 
-    -- a turn that went
-    pub course-more : w ≡ Went → courseOf tb n s ≡ after (i + 1) (courseOf tb (n - (i + 1)) s₂)
-    unfolding after onward oneMore
-    course-more g =
-        let k : courseOf tb (n - i) s₁ ≡ oneMore (courseOf tb (n - (i + 1)) s₂) = step-on ∙ rw g in
-        let x : i + suc (courseOf tb (n - (i + 1)) s₂ .steps) ≡ i + 1 + courseOf tb (n - (i + 1)) s₂ .steps = omega arith in
-        f ∙ rw (k, x)
-
-    -- a turn that stopped
-    pub course-stopped : (r : Reason) → w ≡ Stopped r → courseOf tb n s ≡ course i r s₂
-    unfolding after onward
-    course-stopped r g =
-        let k : courseOf tb (n - i) s₁ ≡ course 0 r s₂ = step-on ∙ rw g in
+    -- nobody is ready
+    pub course-nobody : 64 ≤ u → course i NoneReady s₁ ≡ courseBy tb n s t
+    unfolding after onward turnAt
+    course-nobody l =
+        let k : courseBy tb (n - i) s₁ u ≡ course 0 NoneReady s₁ = step-on (turned (Stopped NoneReady) s₁) (rw (le-ltb u 64 l)) in
         let x : i + 0 ≡ i = omega arith in
-        f ∙ rw (k, x)
+        sym (f ∙ rw (k, x))
+
+    module _ (w : Turn) (s₂ : State) (e : turned w s₂ ≡ turnEnd tb s₁ u (turnBy u (move tb s₁ u))) (l : u < 64) where
+      here : turned w s₂ ≡ turnAt tb s₁ u
+      unfolding turnAt
+      here = rw (lt-ltb u 64 l) e
+
+      -- a turn that went
+      pub course-more : (v : ℕ) → w ≡ Went → v ≡ nextReady s₂ → courseBy tb n s t ≡ after (i + 1) (courseBy tb (n - (i + 1)) s₂ v)
+      unfolding after onward oneMore
+      course-more v g j =
+          let k : courseBy tb (n - i) s₁ u ≡ oneMore (courseOf tb (n - (i + 1)) s₂) = step-on (turned w s₂) here ∙ rw g in
+          let x : i + suc (courseOf tb (n - (i + 1)) s₂ .steps) ≡ i + 1 + courseOf tb (n - (i + 1)) s₂ .steps = omega arith in
+          f ∙ rw (k, j, course-by tb (n - (i + 1)) s₂, x)
+
+      -- a turn that stopped
+      pub course-stopped : (r : Reason) → w ≡ Stopped r → course i r s₂ ≡ courseBy tb n s t
+      unfolding after onward
+      course-stopped r g =
+          let k : courseBy tb (n - i) s₁ u ≡ course 0 r s₂ = step-on (turned w s₂) here ∙ rw g in
+          let x : i + 0 ≡ i = omega arith in
+          sym (f ∙ rw (k, x))
 
   -- all steps made
-  pub course-all : (i : ℕ) (s₁ : State) → courseOf tb n s ≡ after i (courseOf tb (n - i) s₁) → i ≡ n → courseOf tb n s ≡ course n AllDone s₁
-  unfolding after courseOf
-  course-all i s₁ f e =
+  pub course-all : (i : ℕ) (s₁ : State) (u : ℕ) → courseBy tb n s t ≡ after i (courseBy tb (n - i) s₁ u) → i ≤ n → n ≤ i → course n AllDone s₁ ≡ courseBy tb n s t
+  unfolding after courseBy
+  course-all i s₁ u f h l =
+      let e : i ≡ n = omega arith in
       let q : n - n ≡ 0 = omega arith in
       let x : n + 0 ≡ n = omega arith in
-      f ∙ rw (e, q, x)
+      sym (f ∙ rw (e, q, x))

@@ -1,11 +1,15 @@
 // The calls on a state that has been admitted: step, give, take and run, with the grounds of their own.
 ghost use mathlib.Core.Path.{_≡_};
+ghost use mathlib.Core.Bool.{true};
+ghost use Prim.Native.Nat.{_<_};
 ghost use Rattle.table.specs.Table.{tableOf};
 ghost use Rattle.table.specs.Index.{Indexed};
-ghost use Rattle.state.specs.State.{stateOf};
+ghost use Rattle.state.specs.State.{stateOf, thread, isReady};
 ghost use Rattle.granted.specs.Granted.{Granted};
 ghost use Rattle.engine_laws.specs.Sound.{Sound};
-ghost use Rattle.rules.specs.Calls.{canStep, stepAnswer};
+ghost use Rattle.rules.specs.Moves.{move};
+ghost use Rattle.rules.specs.Calls.{canStep, stepAnswer, Course};
+ghost use Rattle.calls.specs.Course.{courseBy};
 ghost use Rattle.calls.specs.States.{After, stepOn, giveOn, takeOn, runOn};
 use rules::Deed;
 use rules::Direction;
@@ -51,7 +55,57 @@ fn can_step(state: &[u32; state::WORDS], t: u32) -> bool
     false
 }
 
-// A step of thread t.
+// How many turns went, why they ended, and the move of the last.
+struct Turns {
+    went: u32,
+    reason: Reason,
+    last: Move,
+}
+
+// At most n turns, the first of them thread t's, which is ready; 64 where nobody is.
+fn take_turns(table: &[u8], index: &[u32], state: &mut [u32; state::WORDS], t: u32, n: u16) -> Turns
+    requires { ⌜ Indexed (tableOf (now table)) (now index) ⌝ }
+    requires { ⌜ Granted (tableOf (now table)) ⌝ }
+    requires { ⌜ Sound (tableOf (now table)) (stateOf (now state)) ⌝ }
+    requires { ⌜ (t < 64 → isReady (thread (stateOf (now state)) t) ≡ true) ⌝ }
+    ensures { λ r. ⌜ _≡_ {A = Course} (record { steps = r .went; reason = r .reason; state = stateOf (now (state .exit)) }) (courseBy (tableOf (now (table .entry))) n (stateOf (now (state .entry))) t) ⌝ }
+    ensures { λ r. ⌜ (t < 64 → n ≡ 1 → r .last ≡ move (tableOf (now (table .entry))) (stateOf (now (state .entry))) t) ⌝ }
+{
+    let mut top = moves::rows_used(state);
+    let mut next = t;
+    let mut last = Move::Ends;
+    for i in 0..n {
+        if MAX_THREADS <= next {
+            return Turns {
+                went: i as u32,
+                reason: Reason::NoneReady,
+                last: last,
+            };
+        }
+        let round = steps::turn_of(table, index, state, next, top);
+        top = round.top;
+        last = round.by;
+        let turn = round.turn;
+        match turn {
+            Turn::Went => {}
+            Turn::Stopped(reason) => {
+                return Turns {
+                    went: i as u32,
+                    reason: reason,
+                    last: last,
+                };
+            }
+        }
+        next = moves::next_ready(state, top);
+    }
+    Turns {
+        went: n as u32,
+        reason: Reason::AllDone,
+        last: last,
+    }
+}
+
+// A step of thread t: one turn, after which the turn is whose it was.
 pub fn step(table: &[u8], index: &[u32], state: &mut [u32; state::WORDS], t: u32) -> Stepped
     requires { ⌜ Indexed (tableOf (now table)) (now index) ⌝ }
     requires { ⌜ Granted (tableOf (now table)) ⌝ }
@@ -60,7 +114,10 @@ pub fn step(table: &[u8], index: &[u32], state: &mut [u32; state::WORDS], t: u32
 {
     if can_step(state, t) {
         let node = state::thread_word(state, t as usize, 1);
-        let m = steps::step_ready(table, index, state, t, MAX_THREADS);
+        let turn = state::mark(state, 2);
+        let turns = take_turns(table, index, state, t, 1);
+        state::put_mark(state, 2, turn);
+        let m = turns.last;
         return step_answer(node, m);
     }
     Stepped::Refused(Refusal::Thread)
@@ -113,15 +170,8 @@ pub fn run(table: &[u8], index: &[u32], state: &mut [u32; state::WORDS], n: u16)
     requires { ⌜ Sound (tableOf (now table)) (stateOf (now state)) ⌝ }
     ensures { λ r. ⌜ _≡_ {A = After Ran} (record { answer = r; state = stateOf (now (state .exit)) }) (runOn (tableOf (now (table .entry))) (stateOf (now (state .entry))) n) ⌝ }
 {
-    let mut top = moves::rows_used(state);
-    for i in 0..n {
-        let round = steps::take_turn(table, index, state, top);
-        top = round.top;
-        let turn = round.turn;
-        match turn {
-            Turn::Went => {}
-            Turn::Stopped(reason) => return Ran::Done(i as u32, reason),
-        }
-    }
-    Ran::Done(n as u32, Reason::AllDone)
+    let t = moves::next_ready(state, MAX_THREADS);
+    let turns = take_turns(table, index, state, t, n);
+    let reason = turns.reason;
+    Ran::Done(turns.went, reason)
 }

@@ -9,7 +9,7 @@ ghost use mathlib.Core.Bool.{true};
 ghost use Rattle.state.specs.State.{stateOf, thread, isReady};
 ghost use Rattle.rules.specs.Holding.{settled};
 ghost use Rattle.rules.specs.Moves.{move, written, perform, metByBench};
-ghost use Rattle.rules.specs.Calls.{turnBy, Turned, turnEnd, takeTurn};
+ghost use Rattle.rules.specs.Calls.{turnBy, Turned, turnEnd};
 ghost use Rattle.counts.specs.Shift.{settledTwo};
 ghost use Rattle.granted.specs.Granted.{Granted};
 ghost use Rattle.engine_laws.specs.Sound.{Sound};
@@ -25,9 +25,10 @@ use rules::Turn;
 
 const MAX_THREADS: u32 = 64;
 
-// What a turn came to, and a number from which on no thread row is in use after it.
+// What a turn came to, by which move, and a number from which on no thread row is in use after it.
 pub struct Round {
     pub turn: Turn,
+    pub by: Move,
     pub top: u32,
 }
 
@@ -262,7 +263,7 @@ fn make_meeting(
 }
 
 // A move of thread t; one that lacks a row changes nothing.
-pub fn make_move(table: &[u8], index: &[u32], state: &mut [u32; state::WORDS], t: u32, m: Move)
+fn make_move(table: &[u8], index: &[u32], state: &mut [u32; state::WORDS], t: u32, m: Move)
     requires { ⌜ Indexed (tableOf (now table)) (now index) ⌝ }
     requires { ⌜ t < 64 ⌝ }
     requires { ⌜ settled (tableOf (now table)) (stateOf (now state)) ≡ stateOf (now state) ⌝ }
@@ -329,7 +330,7 @@ pub fn make_met(
 }
 
 // Thread t, which is ready, makes its move; the move is answered.
-pub fn step_ready(
+fn step_ready(
     table: &[u8],
     index: &[u32],
     state: &mut [u32; state::WORDS],
@@ -391,7 +392,13 @@ fn raised(t: u32, m: Move, top: u32) -> u32
 }
 
 // Thread t, which is ready, has its turn, and the turn moves past it.
-fn turn_of(table: &[u8], index: &[u32], state: &mut [u32; state::WORDS], t: u32, top: u32) -> Round
+pub fn turn_of(
+    table: &[u8],
+    index: &[u32],
+    state: &mut [u32; state::WORDS],
+    t: u32,
+    top: u32,
+) -> Round
     requires { ⌜ Indexed (tableOf (now table)) (now index) ⌝ }
     requires { ⌜ t < 64 ⌝ }
     requires { ⌜ Granted (tableOf (now table)) ⌝ }
@@ -401,32 +408,14 @@ fn turn_of(table: &[u8], index: &[u32], state: &mut [u32; state::WORDS], t: u32,
     ensures { λ r. ⌜ _≡_ {A = Turned} (record { turn = r .turn; state = stateOf (now (state .exit)) }) (turnEnd (tableOf (now (table .entry))) (stateOf (now (state .entry))) t (turnBy t (move (tableOf (now (table .entry))) (stateOf (now (state .entry))) t))) ⌝ }
     ensures { λ _. ⌜ Sound (tableOf (now (table .entry))) (stateOf (now (state .exit))) ⌝ }
     ensures { λ r. ⌜ UsedBelow (stateOf (now (state .exit))) (r .top) ⌝ }
+    ensures { λ r. ⌜ r .by ≡ move (tableOf (now (table .entry))) (stateOf (now (state .entry))) t ⌝ }
 {
     let m = step_ready(table, index, state, t, top);
     state::put_mark(state, 2, moves::one_up(MAX_THREADS, t));
     let turn = turn_by(t, m);
     Round {
         turn: turn,
+        by: m,
         top: raised(t, m, top),
-    }
-}
-
-// The next ready thread has its turn.
-pub fn take_turn(table: &[u8], index: &[u32], state: &mut [u32; state::WORDS], top: u32) -> Round
-    requires { ⌜ Indexed (tableOf (now table)) (now index) ⌝ }
-    requires { ⌜ Granted (tableOf (now table)) ⌝ }
-    requires { ⌜ Sound (tableOf (now table)) (stateOf (now state)) ⌝ }
-    requires { ⌜ UsedBelow (stateOf (now state)) top ⌝ }
-    ensures { λ r. ⌜ _≡_ {A = Turned} (record { turn = r .turn; state = stateOf (now (state .exit)) }) (takeTurn (tableOf (now (table .entry))) (stateOf (now (state .entry)))) ⌝ }
-    ensures { λ _. ⌜ Sound (tableOf (now (table .entry))) (stateOf (now (state .exit))) ⌝ }
-    ensures { λ r. ⌜ UsedBelow (stateOf (now (state .exit))) (r .top) ⌝ }
-{
-    let t = moves::next_ready(state, top);
-    if t < MAX_THREADS {
-        return turn_of(table, index, state, t, top);
-    }
-    Round {
-        turn: Turn::Stopped(Reason::NoneReady),
-        top: top,
     }
 }

@@ -1,5 +1,4 @@
-use Rattle.calls.proofs.Laws.{step-done, step-refused, step-low, step-is-ready}
-use Rattle.moves.specs.Top.{used-all}
+use Rattle.calls.proofs.Laws.{step-done, step-refused, step-is-ready}
 use borrow.Author.Needs.{needs}
 use Rattle.calls.proofs.step.Statement.{statement}
 use Rattle.calls.proofs.step.Tie as tie
@@ -10,7 +9,9 @@ step-spec =
     (tie.spec
     (λ c κs. search needs)
     (λ c κs. search needs)
-    (λ c κs. (search, (search step-low, (search, (search, (search step-is-ready, search used-all))))))
+    (λ c κs. search needs)
+    (λ c κs. (search, (search, (search, λ h. search step-is-ready))))
+    (λ c κs. search needs)
     (λ c κs. search needs)
     (λ c. search step-done)
     (λ c. search step-refused))

@@ -13,4 +13,4 @@ turn-of-spec =
     (λ c κs. search needs)
     (λ c κs. search needs)
     (λ c κs. search move-writable)
-    (λ c. (search turn-ends, (search turn-sound, search turn-used))))
+    (λ c. (search turn-ends, (search turn-sound, (search turn-used, search)))))
