@@ -189,8 +189,9 @@ fn make_call(table: &[u8], index: &[u32], state: &mut [u32; state::WORDS], t: u3
     ensures { λ _. ⌜ stateOf (now (state .exit)) ≡ perform (tableOf (now (table .entry))) (stateOf (now (state .entry))) t Calls ⌝ }
 {
     if state::thread_word(state, t as usize, 0) == 1 {
-        if writes::call_keeps(table, index, state, t) {
-            writes::write_call(table, index, state, t);
+        let mut slots = [0u32; writes::SLOTS];
+        if writes::prepare_call(table, index, state, t, &mut slots) {
+            writes::enter_call(table, index, state, t, &slots);
             return;
         }
     }

@@ -14,7 +14,8 @@ ghost use Rattle.rules.specs.Start.{freeRow, entered};
 ghost use Rattle.rules.specs.Moves.{resumed, waitingRow, stored, met, goneBy, createdBy, metBy, valueBy, typeBy, sideOf, oneUp, written};
 ghost use Rattle.rules.specs.declared.Move.the-variants.{Calls, Spawns};
 ghost use Rattle.writes.specs.Rows.{reslotted, entryAt, callAt, portAt};
-ghost use Rattle.writes.specs.Calling.{lastSlot, callBy, keptBy, callKeeps};
+ghost use Rattle.writes.specs.Calling.{lastSlot, callBy, keptAt, keptBy, slotKept, callSlots, callKeeps};
+ghost use mathlib.Core.Bool.{_&&_};
 use rules::Act;
 use rules::Direction;
 use table::Part;
@@ -169,7 +170,41 @@ fn call_slot(
     0
 }
 
-// All slots, read before any is written.
+// Whether slot k, which the call gives v, gets what it has, if it is a channel slot.
+fn slot_keeps(
+    table: &[u8],
+    index: &[u32],
+    from: usize,
+    n: u32,
+    state: &[u32; state::WORDS],
+    t: u32,
+    k: u32,
+    v: u32,
+) -> bool
+    requires { ⌜ Indexed (tableOf (now table)) (now index) ⌝ }
+    requires { ⌜ from ≤ 12713792 ⌝ }
+    ensures { λ r. ⌜ r ≡ keptAt (tableOf (now (table .entry))) from n (thread (stateOf (now (state .entry))) t) k v ⌝ }
+{
+    if k < n {
+        if table::cell_of(table, index, from + k as usize, 1) == 0 {
+            return true;
+        }
+        return v == program::slot(state, t, k);
+    }
+    true
+}
+
+// Whether both are so.
+fn both(a: bool, b: bool) -> bool
+    ensures { λ r. ⌜ r ≡ (a && b) ⌝ }
+{
+    if a {
+        return b;
+    }
+    false
+}
+
+// All slots, read before any is written. Answers whether every channel slot gets what it has.
 fn lay_call(
     table: &[u8],
     index: &[u32],
@@ -180,20 +215,21 @@ fn lay_call(
     state: &[u32; state::WORDS],
     t: u32,
     slots: &mut [u32; SLOTS],
-)
+) -> bool
     requires { ⌜ Indexed (tableOf (now table)) (now index) ⌝ }
     requires { ⌜ from ≤ 12713792 ⌝ }
     requires { ⌜ now slots ≡ replicate rowSlots 0 ⌝ }
     ensures { λ _. ⌜ now (slots .exit) ≡ tabulate rowSlots (callBy (tableOf (now (table .entry))) row from p n (thread (stateOf (now (state .entry))) t)) ⌝ }
+    ensures { λ r. ⌜ r ≡ every (keptBy (tableOf (now (table .entry))) row from p n (thread (stateOf (now (state .entry))) t)) rowSlots ⌝ }
 {
     let last = last_slot(p, n);
+    let mut kept = true;
     for k in 0..last {
-        numbers::put_cell(
-            slots,
-            k as usize,
-            call_slot(table, index, row, from, p, n, state, t, k),
-        );
+        let v = call_slot(table, index, row, from, p, n, state, t, k);
+        numbers::put_cell(slots, k as usize, v);
+        kept = both(kept, slot_keeps(table, index, from, n, state, t, k, v));
     }
+    kept
 }
 
 // Where the types of a definition's slots begin in the table.
@@ -205,7 +241,7 @@ fn types_from(table: &[u8], index: &[u32], d: u32) -> usize
     table::slot_row_of(table, index) + table::start_of(table, index, Part::Slots, d) as usize
 }
 
-// All slots with which the call at thread t's node enters definition d.
+// All slots with which the call at thread t's node enters definition d. Answers whether every channel slot gets what it has.
 fn call_slots(
     table: &[u8],
     index: &[u32],
@@ -213,85 +249,68 @@ fn call_slots(
     t: u32,
     d: u32,
     slots: &mut [u32; SLOTS],
-)
+) -> bool
     requires { ⌜ Indexed (tableOf (now table)) (now index) ⌝ }
     requires { ⌜ now slots ≡ replicate rowSlots 0 ⌝ }
     ensures { λ _. ⌜ now (slots .exit) ≡ tabulate rowSlots (callAt (tableOf (now (table .entry))) (thread (stateOf (now (state .entry))) t) d) ⌝ }
+    ensures { λ r. ⌜ r ≡ every (slotKept (tableOf (now (table .entry))) (thread (stateOf (now (state .entry))) t) d) rowSlots ⌝ }
 {
     let row = table::node_row_of(table, index) + stands_at(state, t) as usize;
     let from = types_from(table, index, d);
     let p = table::parameter_count_of(table, index, d);
     let n = table::slot_count_of(table, index, d);
-    lay_call(table, index, row, from, p, n, state, t, slots);
+    lay_call(table, index, row, from, p, n, state, t, slots)
 }
 
-// Whether slot k gets by the call in a row what it has, if it is a channel slot.
-fn slot_keeps(
+// The definition that the call at thread t's node calls.
+fn called_by(table: &[u8], index: &[u32], state: &[u32; state::WORDS], t: u32) -> u32
+    requires { ⌜ Indexed (tableOf (now table)) (now index) ⌝ }
+    ensures { λ r. ⌜ r ≡ callee (tableOf (now (table .entry))) (standsAt (thread (stateOf (now (state .entry))) t)) ⌝ }
+{
+    let row = table::node_row_of(table, index) + stands_at(state, t) as usize;
+    table::cell_of(table, index, row, 2)
+}
+
+// All slots with which thread t makes the call at its node. Answers whether the call is to its own definition and every channel slot gets what it has.
+pub fn prepare_call(
     table: &[u8],
     index: &[u32],
-    row: usize,
-    from: usize,
-    p: u32,
-    n: u32,
     state: &[u32; state::WORDS],
     t: u32,
-    k: u32,
+    slots: &mut [u32; SLOTS],
 ) -> bool
     requires { ⌜ Indexed (tableOf (now table)) (now index) ⌝ }
-    requires { ⌜ from ≤ 12713792 ⌝ }
-    ensures { λ r. ⌜ r ≡ keptBy (tableOf (now (table .entry))) row from p n (thread (stateOf (now (state .entry))) t) k ⌝ }
-{
-    if k < n {
-        if table::cell_of(table, index, from + k as usize, 1) == 0 {
-            return true;
-        }
-        return call_slot(table, index, row, from, p, n, state, t, k) == program::slot(state, t, k);
-    }
-    true
-}
-
-// ... all channel slots.
-fn slots_keep(
-    table: &[u8],
-    index: &[u32],
-    row: usize,
-    from: usize,
-    p: u32,
-    n: u32,
-    state: &[u32; state::WORDS],
-    t: u32,
-) -> bool
-    requires { ⌜ Indexed (tableOf (now table)) (now index) ⌝ }
-    requires { ⌜ from ≤ 12713792 ⌝ }
-    ensures { λ r. ⌜ r ≡ every (keptBy (tableOf (now (table .entry))) row from p n (thread (stateOf (now (state .entry))) t)) rowSlots ⌝ }
-{
-    let last = last_slot(p, n);
-    for k in 0..last {
-        if !slot_keeps(table, index, row, from, p, n, state, t, k) {
-            return false;
-        }
-    }
-    true
-}
-
-// Whether the call at thread t's node is to its own definition and every channel slot gets what it has.
-pub fn call_keeps(table: &[u8], index: &[u32], state: &[u32; state::WORDS], t: u32) -> bool
-    requires { ⌜ Indexed (tableOf (now table)) (now index) ⌝ }
+    requires { ⌜ now slots ≡ replicate rowSlots 0 ⌝ }
+    ensures { λ _. ⌜ now (slots .exit) ≡ callSlots (tableOf (now (table .entry))) (thread (stateOf (now (state .entry))) t) ⌝ }
     ensures { λ r. ⌜ r ≡ callKeeps (tableOf (now (table .entry))) (thread (stateOf (now (state .entry))) t) ⌝ }
 {
-    let node = stands_at(state, t);
-    let row = table::node_row_of(table, index) + node as usize;
-    let d = table::cell_of(table, index, row, 2);
-    if program::definition_of(table, index, node) == d {
+    let d = called_by(table, index, state, t);
+    let kept = call_slots(table, index, state, t, d, slots);
+    if program::definition_of(table, index, stands_at(state, t)) == d {
         let entry = table::start_of(table, index, Part::Nodes, d);
         if program::definition_of(table, index, entry) == d {
-            let from = types_from(table, index, d);
-            let p = table::parameter_count_of(table, index, d);
-            let n = table::slot_count_of(table, index, d);
-            return slots_keep(table, index, row, from, p, n, state, t);
+            return kept;
         }
     }
     false
+}
+
+// Thread t makes the call at its node with its slots.
+pub fn enter_call(
+    table: &[u8],
+    index: &[u32],
+    state: &mut [u32; state::WORDS],
+    t: u32,
+    slots: &[u32; SLOTS],
+)
+    requires { ⌜ Indexed (tableOf (now table)) (now index) ⌝ }
+    requires { ⌜ t < 64 ⌝ }
+    requires { ⌜ now slots ≡ callSlots (tableOf (now table)) (thread (stateOf (now state)) t) ⌝ }
+    ensures { λ _. ⌜ stateOf (now (state .exit)) ≡ written (tableOf (now (table .entry))) (stateOf (now (state .entry))) t Calls ⌝ }
+{
+    let d = called_by(table, index, state, t);
+    let node = table::start_of(table, index, Part::Nodes, d);
+    put_row(state, t, 1, node, slots);
 }
 
 // The slots with which thread 0 starts: parameter k is port k.
@@ -312,15 +331,8 @@ pub fn write_call(table: &[u8], index: &[u32], state: &mut [u32; state::WORDS], 
     ensures { λ _. ⌜ stateOf (now (state .exit)) ≡ written (tableOf (now (table .entry))) (stateOf (now (state .entry))) t Calls ⌝ }
 {
     let mut slots = [0u32; SLOTS];
-    let d = table::cell_of(
-        table,
-        index,
-        table::node_row_of(table, index) + stands_at(state, t) as usize,
-        2,
-    );
-    call_slots(table, index, state, t, d, &mut slots);
-    let node = table::start_of(table, index, Part::Nodes, d);
-    put_row(state, t, 1, node, &slots);
+    prepare_call(table, index, state, t, &mut slots);
+    enter_call(table, index, state, t, &slots);
 }
 
 // Thread 0 enters definition 0 with the ports.

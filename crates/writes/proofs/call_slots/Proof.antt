@@ -1,4 +1,4 @@
-use Rattle.writes.specs.Calling.Laws.{calls-looked}
+use Rattle.writes.specs.Calling.Laws.{calls-looked, kept-looked}
 use borrow.Author.Needs.{needs}
 use Rattle.writes.proofs.call_slots.Statement.{statement}
 use Rattle.writes.proofs.call_slots.Tie as tie
@@ -15,4 +15,4 @@ call-slots-spec =
     (λ c κs. search needs)
     (λ c κs. search needs)
     (λ c κs. search needs)
-    (λ c. search calls-looked))
+    (λ c. (search calls-looked, search kept-looked)))

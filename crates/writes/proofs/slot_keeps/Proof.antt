@@ -11,6 +11,5 @@ slot-keeps-spec =
     (λ c κs. search needs)
     (λ c. search kept-ways)
     (λ c κs. search needs)
-    (λ c κs. search needs)
     (λ c. search kept-ways)
     (λ c. search kept-ways))

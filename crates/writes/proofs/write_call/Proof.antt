@@ -1,4 +1,3 @@
-use Rattle.writes.specs.Rows.Laws.{call-written}
 use borrow.Author.Needs.{needs}
 use Rattle.writes.proofs.write_call.Statement.{statement}
 use Rattle.writes.proofs.write_call.Tie as tie
@@ -9,10 +8,4 @@ write-call-spec =
     (tie.spec
     (λ c κs. search needs)
     (λ c κs. search needs)
-    (λ c. search needs)
-    (λ c. search needs)
-    (λ c κs. search needs)
-    (λ c κs. search needs)
-    (λ c κs. search needs)
-    (λ c κs. search needs)
-    (λ c. search call-written))
+    (λ c. search needs))

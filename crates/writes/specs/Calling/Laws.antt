@@ -3,7 +3,7 @@ use Prim.Native.Nat.{ℕ, _+_, _<_, _≤_}
 use native.Mathlib.Omega.{arith}
 use mathlib.Core.Path.{_≡_, refl, sym, _∙_}
 use mathlib.Core.Bool.{Bool, true, false, not, _&&_, _||_, cond}
-use mathlib.Core.List.{List}
+use mathlib.Core.List.{List, _∷_}
 use lib.Dec.{ltb, leb, eqb}
 use lib.ListN.{set}
 use borrow.Author.Tests.{lt-ltb, le-ltb, le-leb, lt-leb, ltb-true, ltb-false, leb-true, eq-eqb, ne-eqb}
@@ -11,15 +11,19 @@ use Rattle.numbers.specs.Rows.{at}
 use Rattle.numbers.specs.Laid.{laid}
 use Rattle.numbers.specs.Laid.Laws.{laid-all, laid-skip}
 use Rattle.numbers.specs.Search.{every, tabulate}
-use Rattle.numbers.specs.Search.Laws.{caseB, every-not, every-elim, every-intro, every-cong, tabulate-cong}
+use Rattle.numbers.specs.Tests.{and-left, and-right}
+use Rattle.numbers.specs.Search.Laws.{caseB, same-truth, every-none, every-more, every-elim, every-intro, every-cong, tabulate-cong}
 use Rattle.table.specs.Table.{Table, slotRow, nodeRow, slotCount, parameters}
 use Rattle.table.specs.Layout.{start, definitionOf, slotType}
 use Rattle.table.specs.declared.Part.the-variants.{Slots, Nodes}
-use Rattle.state.specs.State.{rowSlots, minusOne, standsAt, slotOf}
+use Rattle.state.specs.State.{State, rowSlots, minusOne, thread, standsAt, slotOf, withThread}
 use Rattle.rules.specs.Program.{channelSlot, blank, callee}
+use Rattle.rules.specs.Start.{entered}
+use Rattle.rules.specs.Moves.{written}
+use Rattle.rules.specs.declared.Move.the-variants.{Calls}
 use Rattle.writes.specs.Rows.{entryAt, callAt}
 use Rattle.writes.specs.Rows.Laws.{slots-more}
-use Rattle.writes.specs.Calling.{lastSlot, callBy, keptBy, slotKept, callKeeps}
+use Rattle.writes.specs.Calling.{lastSlot, callBy, keptAt, keptBy, slotKept, callSlots, callKeeps}
 
 -- ---- from the last slot on all are 0
 
@@ -62,6 +66,12 @@ same-kept : (a z e : Bool) → cond a (cond z true e) true ≡ (not (a && not z)
 same-kept true true e = refl
 same-kept true false e = refl
 same-kept false z e = refl
+
+every-and-next : (q : ℕ → Bool) (k : ℕ) → (every q k && q k) ≡ every q (k + 1)
+every-and-next q k =
+    same-truth (every q k && q k) (every q (k + 1))
+    (λ y. every-more q k (q k) (and-left (every q k) (q k) y) refl (and-right (every q k) (q k) y))
+    (λ y. rw (every-intro q k (λ i l. every-elim q (k + 1) i y (omega arith)), every-elim q (k + 1) k y (omega arith)))
 
 module _ (tb : Table) (r from p n : ℕ) (row : List ℕ) where
   -- the code's ways out: x is the slot that the call names, v what it has
@@ -114,67 +124,85 @@ module _ (tb : Table) (row : List ℕ) (d a m from p n : ℕ) (ea : a ≡ nodeRo
   -- ---- a call after which the row holds what it held
 
   kept-at : (k : ℕ) → keptBy tb (a + m) from p n row k ≡ slotKept tb row d k
-  unfolding keptBy slotKept channelSlot
+  unfolding keptBy keptAt slotKept channelSlot
   kept-at k =
       let place : slotRow tb + start tb Slots d + k ≡ slotRow tb + (start tb Slots d + k) = omega arith in
       rw (call-at k, ef, en, place)
       (same-kept (ltb k (slotCount tb d)) (eqb (slotType tb d k) 0) (eqb (callAt tb row d k) (slotOf row k)))
 
-  -- the code's way out: d is the callee, x and y the definitions of the node and of the callee's first node, z
-  pub keeps-looked : (r : Bool) (x y z : ℕ) → r ≡ every (keptBy tb (a + m) from p n row) rowSlots → d ≡ at tb (a + m) 2 → x ≡ definitionOf tb m → x ≡ d
-      → y ≡ definitionOf tb z → z ≡ start tb Nodes d → y ≡ d → r ≡ callKeeps tb row
-  unfolding callKeeps
-  keeps-looked r x y z e f g h i j l =
-      let c : callee tb (standsAt row) ≡ d = sym (f ∙ rw (ea, em)) in
-      let o : definitionOf tb (standsAt row) ≡ d = rw (← em, ← g) h in
-      let q : definitionOf tb (start tb Nodes d) ≡ d = rw (← j, ← i) l in
-      rw (c, o, q, eq-eqb d d refl) (e ∙ every-cong (keptBy tb (a + m) from p n row) (slotKept tb row d) 16 (λ k b. kept-at k))
+  pub kept-looked : (r : Bool) → r ≡ every (keptBy tb (a + m) from p n row) rowSlots → r ≡ every (slotKept tb row d) rowSlots
+  kept-looked r e = e ∙ every-cong (keptBy tb (a + m) from p n row) (slotKept tb row d) 16 (λ k b. kept-at k)
 
--- calls of another definition
-module _ (tb : Table) (row : List ℕ) (a m d x : ℕ) (ea : a ≡ nodeRow tb) (em : m ≡ standsAt row) (f : d ≡ at tb (a + m) 2) (g : x ≡ definitionOf tb m) where
-  callee-is : callee tb (standsAt row) ≡ d
-  callee-is = sym (f ∙ rw (ea, em))
+pub callee-read : (tb : Table) (r a m n : ℕ) → r ≡ at tb (a + m) 2 → a ≡ nodeRow tb → m ≡ n → r ≡ callee tb n
+callee-read tb r a m n e f g = e ∙ rw (f, g)
 
+-- the code's ways out: d is the callee, x and y the definitions of the node, m, and of the callee's first node, z
+module _ (tb : Table) (row : List ℕ) (d m x : ℕ) (f : d ≡ callee tb (standsAt row)) (em : m ≡ standsAt row) (g : x ≡ definitionOf tb m) where
   pub keeps-not : (x ≡ d → ⊥) → false ≡ callKeeps tb row
   unfolding callKeeps
-  keeps-not h = rw (callee-is, ← em, ← g, ne-eqb x d h)
+  keeps-not h = rw (← f, ← em, ← g, ne-eqb x d h)
 
-  pub keeps-odd : (y z : ℕ) → y ≡ definitionOf tb z → z ≡ start tb Nodes d → x ≡ d → (y ≡ d → ⊥) → false ≡ callKeeps tb row
-  unfolding callKeeps
-  keeps-odd y z i j h l = rw (callee-is, ← em, ← g, h, eq-eqb d d refl, ← j, ← i, ne-eqb y d l)
+  module _ (y z : ℕ) (i : y ≡ definitionOf tb z) (j : z ≡ start tb Nodes d) (h : x ≡ d) where
+    pub keeps-odd : (y ≡ d → ⊥) → false ≡ callKeeps tb row
+    unfolding callKeeps
+    keeps-odd l = rw (← f, ← em, ← g, h, eq-eqb d d refl, ← j, ← i, ne-eqb y d l)
 
-pub ruleset keeps-ways = (keeps-looked, keeps-not, keeps-odd)
+    pub keeps-own : (r : Bool) → r ≡ every (slotKept tb row d) rowSlots → y ≡ d → r ≡ callKeeps tb row
+    unfolding callKeeps
+    keeps-own r e l = rw (← f, ← em, ← g, h, eq-eqb d d refl, ← j, ← i, l, eq-eqb d d refl) e
+
+pub ruleset keeps-ways = (keeps-own, keeps-not, keeps-odd)
+
+pub call-laid : (tb : Table) (row l : List ℕ) (d : ℕ) → l ≡ tabulate rowSlots (callAt tb row d) → d ≡ callee tb (standsAt row) → l ≡ callSlots tb row
+unfolding callSlots
+call-laid tb row l d e f = e ∙ rw f
+
+pub call-entered : (tb : Table) (s s₁ : State) (l : List ℕ) (t d n : ℕ) → s₁ ≡ withThread s t (1 ∷ n ∷ l) → n ≡ start tb Nodes d → d ≡ callee tb (standsAt (thread s t))
+    → l ≡ callSlots tb (thread s t) → s₁ ≡ written tb s t Calls
+unfolding written entered callSlots callAt entryAt
+call-entered tb s s₁ l t d n e f g h = e ∙ rw (f, g, h)
 
 -- slot_keeps
-module _ (tb : Table) (r from p n : ℕ) (row : List ℕ) (k : ℕ) where
-  pub kept-past : n ≤ k → true ≡ keptBy tb r from p n row k
-  unfolding keptBy
+module _ (tb : Table) (from n : ℕ) (row : List ℕ) (k v : ℕ) where
+  pub kept-past : n ≤ k → true ≡ keptAt tb from n row k v
+  unfolding keptAt
   kept-past h = rw (le-ltb k n h)
 
   -- x is the type of the slot
   module _ (x : ℕ) (e : x ≡ at tb (from + k) 1) (h : k < n) where
-    pub kept-number : x ≡ 0 → true ≡ keptBy tb r from p n row k
-    unfolding keptBy
+    pub kept-number : x ≡ 0 → true ≡ keptAt tb from n row k v
+    unfolding keptAt
     kept-number z = rw (lt-ltb k n h, ← e, eq-eqb x 0 z)
 
-    pub kept-channel : (v w : ℕ) → v ≡ callBy tb r from p n row k → w ≡ slotOf row k → (x ≡ 0 → ⊥) → eqb v w ≡ keptBy tb r from p n row k
-    unfolding keptBy
-    kept-channel v w f g z = rw (lt-ltb k n h, ← e, ne-eqb x 0 z, f, g)
+    pub kept-channel : (w : ℕ) → w ≡ slotOf row k → (x ≡ 0 → ⊥) → eqb v w ≡ keptAt tb from n row k v
+    unfolding keptAt
+    kept-channel w g z = rw (lt-ltb k n h, ← e, ne-eqb x 0 z, g)
 
 pub ruleset kept-ways = (kept-past, kept-number, kept-channel)
 
--- slots_keep
-pub kept-all : (tb : Table) (r from p n : ℕ) (row : List ℕ) (k m : ℕ) → every (keptBy tb r from p n row) k ≡ true → m ≡ lastSlot p n → m ≤ k → k ≤ m
-    → true ≡ every (keptBy tb r from p n row) rowSlots
-kept-all tb r from p n row k m e f h i =
-    let q : k ≡ lastSlot p n = omega (arith, f) in
-    sym (every-intro (keptBy tb r from p n row) 16 (λ x b. caseB (ltb x k)
-    (λ y. every-elim (keptBy tb r from p n row) k x e (ltb-true x k y))
-    (λ z. let (u, v) = past-last p n x (rw (← q) (ltb-false x k z)) b in sym (kept-past tb r from p n row x v))))
+-- lay_call: b says whether the first k slots get what they have
+module _ (tb : Table) (r from p n : ℕ) (row : List ℕ) where
+  pub kept-none : true ≡ every (keptBy tb r from p n row) 0
+  kept-none = sym (every-none (keptBy tb r from p n row))
 
-pub kept-not : (tb : Table) (r from p n : ℕ) (row : List ℕ) (k m : ℕ) (b : Bool) → b ≡ keptBy tb r from p n row k → b ≡ false → k < m → m ≡ lastSlot p n
-    → false ≡ every (keptBy tb r from p n row) rowSlots
-kept-not tb r from p n row k m b e f h i = every-not (keptBy tb r from p n row) k 16 b e f (omega (arith, i, last-le p n))
+  pub kept-more : (k v : ℕ) (a b c : Bool) → a ≡ (b && c) → b ≡ every (keptBy tb r from p n row) k → c ≡ keptAt tb from n row k v → v ≡ callBy tb r from p n row k
+      → a ≡ every (keptBy tb r from p n row) (k + 1)
+  unfolding keptBy
+  kept-more k v a b c e f g h = e ∙ rw (f, g, h) (every-and-next (keptBy tb r from p n row) k)
+
+  -- from the last slot on there is none to be kept
+  kept-rest : (k : ℕ) → lastSlot p n ≤ k → every (keptBy tb r from p n row) k ≡ true → every (keptBy tb r from p n row) rowSlots ≡ true
+  unfolding keptBy
+  kept-rest k l e =
+      every-intro (keptBy tb r from p n row) 16 (λ x b. caseB (ltb x k)
+      (λ y. every-elim (keptBy tb r from p n row) k x e (ltb-true x k y))
+      (λ z. let (u, v) = past-last p n x (omega (arith, l, ltb-false x k z)) b in sym (kept-past tb from n row x (callBy tb r from p n row x) v)))
+
+  pub kept-all : (k m : ℕ) (b : Bool) → b ≡ every (keptBy tb r from p n row) k → m ≡ lastSlot p n → m ≤ k → k ≤ m → b ≡ every (keptBy tb r from p n row) rowSlots
+  kept-all k m b e f h i =
+      e ∙ same-truth (every (keptBy tb r from p n row) k) (every (keptBy tb r from p n row) rowSlots)
+      (λ y. kept-rest k (omega (arith, f)) y)
+      (λ y. every-intro (keptBy tb r from p n row) k (λ x l. every-elim (keptBy tb r from p n row) 16 x y (omega (arith, f, last-le p n))))
 
 pub ruleset call-ways = (call-given, call-number, call-channel, call-spare)
 

@@ -11,17 +11,15 @@ use Rattle.numbers.specs.Laid.{laid}
 use Rattle.numbers.specs.Laid.Laws.{laid-none, laid-all, laid-put}
 use Rattle.numbers.specs.Search.{tabulate}
 use Rattle.numbers.specs.Search.Laws.{getD-tabulate, length-tabulate}
-use Rattle.state.specs.State.{State, stateOf, thread, standsAt, slotOf, slotsOf, stateWords, rowSlots, withThread}
+use Rattle.state.specs.State.{State, stateOf, thread, slotOf, slotsOf, stateWords, rowSlots, withThread}
 use Rattle.state.specs.State.Laws.{length-threads, length-thread, thread-same, thread-twice}
 use Rattle.numbers.specs.Rows.{at}
-use Rattle.table.specs.Table.{Table, nodeRow}
+use Rattle.table.specs.Table.{Table}
 use Rattle.table.specs.Layout.{start}
 use Rattle.table.specs.declared.Part.the-variants.{Nodes}
-use Rattle.rules.specs.Program.{callee}
 use Rattle.rules.specs.Start.{entered}
-use Rattle.rules.specs.Moves.{stored, written}
-use Rattle.rules.specs.declared.Move.the-variants.{Calls}
-use Rattle.writes.specs.Rows.{reslotted, refilled, entryAt, callAt, portAt}
+use Rattle.rules.specs.Moves.{stored}
+use Rattle.writes.specs.Rows.{reslotted, refilled, entryAt, portAt}
 
 -- ---- two words at the head of a row
 
@@ -132,13 +130,6 @@ pub ruleset slot-laws = (slots-none, slots-more, slots-done)
 -- ---- a definition entered
 
 module _ (tb : Table) (s s₁ : State) (l : List ℕ) (n : ℕ) where
-  pub call-written : (t d m c : ℕ) → s₁ ≡ withThread s t (1 ∷ n ∷ l) → l ≡ tabulate rowSlots (callAt tb (thread s t) d) → n ≡ start tb Nodes d
-      → d ≡ at tb (c + m) 2 → c ≡ nodeRow tb → m ≡ standsAt (thread s t) → s₁ ≡ written tb s t Calls
-  unfolding written entered callAt entryAt
-  call-written t d m c e f g h i j =
-      let q : d ≡ callee tb (standsAt (thread s t)) = h ∙ rw (i, j) in
-      e ∙ rw (f, g, q)
-
   pub start-written : s₁ ≡ withThread s 0 (1 ∷ n ∷ l) → l ≡ tabulate rowSlots (portAt tb) → n ≡ start tb Nodes 0
       → s₁ ≡ withThread s 0 (entered tb 0 (λ k. k))
   unfolding entered portAt entryAt
