@@ -1,5 +1,5 @@
 -- One law for each way out of the calls. Assumes nothing.
-use Prim.Native.Nat.{ℕ, _+_, _<_, _≤_}
+use Prim.Native.Nat.{ℕ, _+_, _-_, _<_, _≤_}
 use native.Mathlib.Omega.{arith}
 use mathlib.Core.Path.{_≡_, refl, sym, _∙_, ap}
 use mathlib.Core.List.{List}
@@ -16,7 +16,7 @@ use Rattle.state.specs.State.{State, maxThreads, maxChannels, thread, standsAt,
 use Rattle.rules.specs.Holding.{settled}
 use Rattle.rules.specs.Offers.{partnerOf}
 use Rattle.rules.specs.Moves.{oneUp, move, written, perform, typed, spawnedBy, valueBy, metByBench}
-use Rattle.rules.specs.Calls.{bench, canStep, stepAnswer, Course, course, oneMore, onward, nextReady, pastTurn, turnBy, courseOf}
+use Rattle.rules.specs.Calls.{bench, canStep, stepAnswer, Course, course, oneMore, onward, isReadyThread, nextReady, pastTurn, turnBy, turned, turnEnd, courseOf}
 use Rattle.rules.specs.declared.Direction.the-variants.{Out, In}
 use Rattle.rules.specs.declared.Partner.{Partner}
 use Rattle.rules.specs.declared.Partner.the-variants as Partner
@@ -35,10 +35,14 @@ use Rattle.rules.specs.declared.Turn.the-variants.{Went, Stopped}
 use Rattle.rules.specs.declared.Ran.{Ran}
 use Rattle.rules.specs.declared.Ran.the-variants as Ran
 use Rattle.steps.specs.Made.{made}
+use Rattle.engine_laws.specs.Sound.{Sound}
+use Rattle.engine_laws.specs.Sound.Laws.{sound-settled}
 use Rattle.steps.specs.Made.Laws.{turn-ends}
+use Rattle.steps.specs.Counted.{Counted}
+use Rattle.steps.specs.Counted.Laws.{counted-start}
 use Rattle.branches.specs.Way.{wayOf, valueAlong}
 use Rattle.branches.specs.declared.Way.{Way}
-use Rattle.calls.specs.Course.{turnAt, courseBy, course-by}
+use Rattle.calls.specs.Course.{after, turnAt, courseBy, course-by, course-none, course-more}
 use Rattle.calls.specs.States.{After, afterwards, stepAfter, stepOn, givenOn, giveOn, takenOn, takeOn, runOn}
 
 pub answer-arm : (r : Stepped) (n : ℕ) (m k : Move) → m ≡ k → r ≡ stepAnswer n k → r ≡ stepAnswer n m
@@ -65,6 +69,10 @@ module _ (s : State) (t : ℕ) where
     step-is-ready = and-right (ltb t maxThreads) (isReady (thread s t)) (sym e ∙ f)
 
 -- ---- one turn, and the turn put back
+
+settled-mark : (tb : Table) (s : State) (v : ℕ) → settled tb (withMark s 2 v) ≡ withMark (settled tb s) 2 v
+unfolding settled withMark withChannels
+settled-mark tb s v = refl
 
 one-on : (tb : Table) (w : Turn) (x : State) → onward w x (courseOf tb 0) .state ≡ x
 unfolding onward oneMore courseOf
@@ -119,18 +127,18 @@ module _ (s s₁ : State) where
 
   -- the turn is put back
   module _ (tb : Table) (t : ℕ) where
-    one-turn : (i : ℕ) (r : Reason) (s₂ : State) → course i r s₂ ≡ courseBy tb 1 s t → t < 64 → s₂ ≡ pastTurn (made tb s t (move tb s t)) t
-    one-turn i r s₂ e l =
-        ap (λ (k : Course). k .state) e ∙ by-one tb s t l
+    -- s₂ after the turn, s₃ with the turn put back, s₁ with all counts settled
+    turned-back : (i v : ℕ) (r : Reason) (s₂ s₃ : State) → course i r (settled tb s₂) ≡ courseBy tb 1 s t → t < 64 → s₁ ≡ settled tb s₃ → s₃ ≡ withMark s₂ 2 v → v ≡ getD (s .marks) 2 0
+        → s₁ ≡ made tb s t (move tb s t)
+    turned-back i v r s₂ s₃ e l f k g =
+        let q : settled tb s₂ ≡ pastTurn (made tb s t (move tb s t)) t = ap (λ (k : Course). k .state) e ∙ by-one tb s t l in
+        f ∙ rw (k, settled-mark tb s₂ v, q, g) (put-back tb s t (move tb s t))
 
-    turned-back : (i v : ℕ) (r : Reason) (s₂ : State) → course i r s₂ ≡ courseBy tb 1 s t → t < 64 → s₁ ≡ withMark s₂ 2 v → v ≡ getD (s .marks) 2 0 → s₁ ≡ made tb s t (move tb s t)
-    turned-back i v r s₂ e l f g = f ∙ rw (g, one-turn i r s₂ e l) (put-back tb s t (move tb s t))
-
-    pub step-done : (i v n : ℕ) (r : Reason) (s₂ : State) (m : Move) (a : Stepped) (x : Bool) → course i r s₂ ≡ courseBy tb 1 s t → s₁ ≡ withMark s₂ 2 v → v ≡ getD (s .marks) 2 0
-        → (t < 64 → _≡_ {A = ℕ} 1 1 → m ≡ move tb s t) → a ≡ stepAnswer n m → n ≡ at (s .threads) t 1 → x ≡ canStep s t → x ≡ true → afterwards a s₁ ≡ stepOn tb s t
-    step-done i v n r s₂ m a x e f g o p q j k =
+    pub step-done : (i v n : ℕ) (r : Reason) (s₂ s₃ : State) (m : Move) (a : Stepped) (x : Bool) → course i r (settled tb s₂) ≡ courseBy tb 1 s t → s₁ ≡ settled tb s₃ → s₃ ≡ withMark s₂ 2 v
+        → v ≡ getD (s .marks) 2 0 → (t < 64 → _≡_ {A = ℕ} 1 1 → m ≡ move tb s t) → a ≡ stepAnswer n m → n ≡ at (s .threads) t 1 → x ≡ canStep s t → x ≡ true → afterwards a s₁ ≡ stepOn tb s t
+    step-done i v n r s₂ s₃ m a x e f w g o p q j k =
         let l : t < 64 = step-low s t x j k in
-        step-answered tb t n m a x (turned-back i v r s₂ e l f g) p (o l refl) q j k
+        step-answered tb t n m a x (turned-back i v r s₂ s₃ e l f w g) p (o l refl) q j k
 
 pub step-refused : (tb : Table) (s : State) (t : ℕ) (x : Bool) → x ≡ canStep s t → x ≡ false → afterwards (Stepped.Refused Thread) s ≡ stepOn tb s t
 unfolding stepOn
@@ -172,8 +180,8 @@ module _ (tb : Table) (s₀ : State) (t₀ : ℕ) where
   abbrev pub Followed : ℕ → State → ℕ → Move → Type 0
   Followed i s t m = (i ≡ 0 → (s ≡ s₀) × (t ≡ t₀)) × (i ≡ 1 → m ≡ move tb s₀ t₀)
 
-  pub followed-none : (m : Move) → Followed 0 s₀ t₀ m
-  followed-none m = (λ e. (refl, refl), λ e. absurd (omega arith))
+  pub followed-none : Sound tb s₀ → (m : Move) → Followed 0 (settled tb s₀) t₀ m
+  followed-none ok m = (λ e. (sound-settled tb s₀ ok, refl), λ e. absurd (omega arith))
 
   module _ (i : ℕ) (s : State) (t : ℕ) (m m₁ : Move) (f : Followed i s t m) (e : m₁ ≡ move tb s t) where
     first-is : i ≡ 0 → m₁ ≡ move tb s₀ t₀
@@ -193,10 +201,28 @@ module _ (tb : Table) (s₀ : State) (t₀ : ℕ) where
     pub all-last : i ≤ n → n ≤ i → t₀ < 64 → n ≡ 1 → m ≡ move tb s₀ t₀
     all-last h j l o = f .1 (omega arith)
 
+-- a sound state is settled
+module _ (tb : Table) (s : State) (ok : Sound tb s) where
+  pub sound-begins : Sound tb (settled tb s)
+  sound-begins = rw (sound-settled tb s ok) ok
+
+  pub counted-begins : Counted tb s
+  counted-begins = counted-start tb s (sound-settled tb s ok)
+
+  pub course-begins : (n t : ℕ) → courseBy tb n s t ≡ after 0 (courseBy tb (n - 0) (settled tb s) t)
+  course-begins n t = rw (sound-settled tb s ok) (course-none tb n s t)
+
+-- the next turn, in a state whose counts of waiting holders are still to be settled
+pub course-goes-on : (tb : Table) (n : ℕ) (s : State) (t i : ℕ) (s₁ s₂ : State) (u v : ℕ) (w : Turn) → courseBy tb n s t ≡ after i (courseBy tb (n - i) (settled tb s₁) u) → i < n
+    → turned w (settled tb s₂) ≡ turnEnd tb (settled tb s₁) u (turnBy u (move tb (settled tb s₁) u)) → u < 64 → w ≡ Went → v ≡ nextReady s₂
+    → courseBy tb n s t ≡ after (i + 1) (courseBy tb (n - (i + 1)) (settled tb s₂) v)
+unfolding nextReady isReadyThread settled withChannels
+course-goes-on tb n s t i s₁ s₂ u v w f h e l g j = course-more tb n s t i (settled tb s₁) u f h w (settled tb s₂) e l v g j
+
 -- ---- run
 
-pub run-done : (tb : Table) (s s₁ : State) (n i t : ℕ) (r : Reason) → course i r s₁ ≡ courseBy tb n s t → t ≡ nextReady s → afterwards (Ran.Done i r) s₁ ≡ runOn tb s n
+pub run-done : (tb : Table) (s s₁ s₂ : State) (n i t : ℕ) (r : Reason) → course i r (settled tb s₁) ≡ courseBy tb n s t → s₂ ≡ settled tb s₁ → t ≡ nextReady s → afterwards (Ran.Done i r) s₂ ≡ runOn tb s n
 unfolding runOn
-run-done tb s s₁ n i t r e f =
-    let k : courseOf tb n s ≡ course i r s₁ = sym (e ∙ rw f (course-by tb n s)) in
+run-done tb s s₁ s₂ n i t r e g f =
+    let k : courseOf tb n s ≡ course i r s₂ = sym (rw g (e ∙ rw f (course-by tb n s))) in
     rw k

@@ -7,8 +7,10 @@ ghost use Rattle.table.specs.Index.{Indexed};
 ghost use Rattle.state.specs.State.{stateOf, thread, isReady};
 ghost use Rattle.granted.specs.Granted.{Granted};
 ghost use Rattle.engine_laws.specs.Sound.{Sound};
+ghost use Rattle.rules.specs.Holding.{settled};
 ghost use Rattle.rules.specs.Moves.{move};
 ghost use Rattle.rules.specs.Calls.{canStep, stepAnswer, Course};
+ghost use Rattle.steps.specs.Counted.{Counted};
 ghost use Rattle.calls.specs.Course.{courseBy};
 ghost use Rattle.calls.specs.States.{After, stepOn, giveOn, takeOn, runOn};
 use rules::Deed;
@@ -62,14 +64,15 @@ struct Turns {
     last: Move,
 }
 
-// At most n turns, the first of them thread t's, which is ready; 64 where nobody is.
+// At most n turns, the first of them thread t's, which is ready; 64 where nobody is. The counts of waiting holders are left to be settled.
 fn take_turns(table: &[u8], index: &[u32], state: &mut [u32; state::WORDS], t: u32, n: u16) -> Turns
     requires { ⌜ Indexed (tableOf (now table)) (now index) ⌝ }
     requires { ⌜ Granted (tableOf (now table)) ⌝ }
     requires { ⌜ Sound (tableOf (now table)) (stateOf (now state)) ⌝ }
     requires { ⌜ (t < 64 → isReady (thread (stateOf (now state)) t) ≡ true) ⌝ }
-    ensures { λ r. ⌜ _≡_ {A = Course} (record { steps = r .went; reason = r .reason; state = stateOf (now (state .exit)) }) (courseBy (tableOf (now (table .entry))) n (stateOf (now (state .entry))) t) ⌝ }
+    ensures { λ r. ⌜ _≡_ {A = Course} (record { steps = r .went; reason = r .reason; state = settled (tableOf (now (table .entry))) (stateOf (now (state .exit))) }) (courseBy (tableOf (now (table .entry))) n (stateOf (now (state .entry))) t) ⌝ }
     ensures { λ r. ⌜ (t < 64 → n ≡ 1 → r .last ≡ move (tableOf (now (table .entry))) (stateOf (now (state .entry))) t) ⌝ }
+    ensures { λ _. ⌜ Counted (tableOf (now (table .entry))) (stateOf (now (state .exit))) ⌝ }
 {
     let mut top = moves::rows_used(state);
     let mut next = t;
@@ -117,6 +120,7 @@ pub fn step(table: &[u8], index: &[u32], state: &mut [u32; state::WORDS], t: u32
         let turn = state::mark(state, 2);
         let turns = take_turns(table, index, state, t, 1);
         state::put_mark(state, 2, turn);
+        steps::settle_waiting(table, index, state);
         let m = turns.last;
         return step_answer(node, m);
     }
@@ -172,6 +176,7 @@ pub fn run(table: &[u8], index: &[u32], state: &mut [u32; state::WORDS], n: u16)
 {
     let t = moves::next_ready(state, MAX_THREADS);
     let turns = take_turns(table, index, state, t, n);
+    steps::settle_waiting(table, index, state);
     let reason = turns.reason;
     Ran::Done(turns.went, reason)
 }

@@ -1,3 +1,4 @@
+pub mod Counted
 pub mod Keeping
 pub mod Made
 pub mod Top

@@ -1,12 +1,12 @@
-// A move made: what it writes, and the channel rows settled. The functions that make a move ask that the channel rows are settled before it, and
-// leave them so; a turn asks that the state is sound, and leaves it so.
+// A move made: what it writes, and the channel rows settled, but for the counts of waiting holders, which a call settles at its end. The functions that
+// make a move ask that the other words of the channel rows are right, and leave them so; a turn asks that the state is sound once settled, and leaves it so.
 ghost use mathlib.Core.Path.{_≡_};
 ghost use mathlib.Core.Logic.{_≢_};
 ghost use Prim.Native.Nat.{_<_};
 ghost use Rattle.table.specs.Table.{tableOf};
 ghost use Rattle.table.specs.Index.{Indexed};
 ghost use mathlib.Core.Bool.{true};
-ghost use Rattle.state.specs.State.{stateOf, thread, isReady};
+ghost use Rattle.state.specs.State.{stateOf, thread, isReady, withChannels};
 ghost use Rattle.rules.specs.Holding.{settled};
 ghost use Rattle.rules.specs.Moves.{move, written, perform, metByBench};
 ghost use Rattle.rules.specs.Calls.{turnBy, Turned, turnEnd};
@@ -14,6 +14,7 @@ ghost use Rattle.counts.specs.Shift.{settledTwo};
 ghost use Rattle.granted.specs.Granted.{Granted};
 ghost use Rattle.engine_laws.specs.Sound.{Sound};
 ghost use Rattle.moves.specs.Top.{UsedBelow};
+ghost use Rattle.steps.specs.Counted.{Counted, weighedTo};
 ghost use Rattle.steps.specs.Made.{Writable, Alone, Paired, Creation, made};
 ghost use Rattle.steps.specs.Top.{raisedBy};
 ghost use Rattle.rules.specs.declared.Move.the-variants.{Calls, Waits, Goes, Meets};
@@ -24,6 +25,8 @@ use rules::Reason;
 use rules::Turn;
 
 const MAX_THREADS: u32 = 64;
+
+const CHANNELS: usize = 128;
 
 // What a turn came to, by which move, and a number from which on no thread row is in use after it.
 pub struct Round {
@@ -89,9 +92,10 @@ fn write_move(table: &[u8], index: &[u32], state: &mut [u32; state::WORDS], t: u
 fn make_alone(table: &[u8], index: &[u32], state: &mut [u32; state::WORDS], t: u32, m: Move)
     requires { ⌜ Indexed (tableOf (now table)) (now index) ⌝ }
     requires { ⌜ t < 64 ⌝ }
-    requires { ⌜ settled (tableOf (now table)) (stateOf (now state)) ≡ stateOf (now state) ⌝ }
+    requires { ⌜ Counted (tableOf (now table)) (stateOf (now state)) ⌝ }
     requires { ⌜ Alone m ⌝ }
-    ensures { λ _. ⌜ stateOf (now (state .exit)) ≡ perform (tableOf (now (table .entry))) (stateOf (now (state .entry))) t m ⌝ }
+    ensures { λ _. ⌜ settled (tableOf (now (table .entry))) (stateOf (now (state .exit))) ≡ perform (tableOf (now (table .entry))) (settled (tableOf (now (table .entry))) (stateOf (now (state .entry)))) t m ⌝ }
+    ensures { λ _. ⌜ Counted (tableOf (now (table .entry))) (stateOf (now (state .exit))) ⌝ }
 {
     let mut old = [0u8; counts::LIST];
     let waits = counts::take_down(table, index, state, t, &mut old);
@@ -110,9 +114,10 @@ fn make_channel(
 )
     requires { ⌜ Indexed (tableOf (now table)) (now index) ⌝ }
     requires { ⌜ t < 64 ⌝ }
-    requires { ⌜ settled (tableOf (now table)) (stateOf (now state)) ≡ stateOf (now state) ⌝ }
+    requires { ⌜ Counted (tableOf (now table)) (stateOf (now state)) ⌝ }
     requires { ⌜ Creation c m ⌝ }
-    ensures { λ _. ⌜ stateOf (now (state .exit)) ≡ perform (tableOf (now (table .entry))) (stateOf (now (state .entry))) t m ⌝ }
+    ensures { λ _. ⌜ settled (tableOf (now (table .entry))) (stateOf (now (state .exit))) ≡ perform (tableOf (now (table .entry))) (settled (tableOf (now (table .entry))) (stateOf (now (state .entry)))) t m ⌝ }
+    ensures { λ _. ⌜ Counted (tableOf (now (table .entry))) (stateOf (now (state .exit))) ⌝ }
 {
     let mut old = [0u8; counts::LIST];
     let waits = counts::take_down(table, index, state, t, &mut old);
@@ -153,9 +158,10 @@ fn make_paired(
 )
     requires { ⌜ Indexed (tableOf (now table)) (now index) ⌝ }
     requires { ⌜ t < 64 ⌝ }
-    requires { ⌜ settled (tableOf (now table)) (stateOf (now state)) ≡ stateOf (now state) ⌝ }
+    requires { ⌜ Counted (tableOf (now table)) (stateOf (now state)) ⌝ }
     requires { ⌜ Paired t u m ⌝ }
-    ensures { λ _. ⌜ stateOf (now (state .exit)) ≡ perform (tableOf (now (table .entry))) (stateOf (now (state .entry))) t m ⌝ }
+    ensures { λ _. ⌜ settled (tableOf (now (table .entry))) (stateOf (now (state .exit))) ≡ perform (tableOf (now (table .entry))) (settled (tableOf (now (table .entry))) (stateOf (now (state .entry)))) t m ⌝ }
+    ensures { λ _. ⌜ Counted (tableOf (now (table .entry))) (stateOf (now (state .exit))) ⌝ }
 {
     let mut old = [0u8; counts::LIST];
     let mut other = [0u8; counts::LIST];
@@ -168,8 +174,9 @@ fn make_paired(
 fn make_gone(table: &[u8], index: &[u32], state: &mut [u32; state::WORDS], t: u32, i: u32)
     requires { ⌜ Indexed (tableOf (now table)) (now index) ⌝ }
     requires { ⌜ t < 64 ⌝ }
-    requires { ⌜ settled (tableOf (now table)) (stateOf (now state)) ≡ stateOf (now state) ⌝ }
-    ensures { λ _. ⌜ stateOf (now (state .exit)) ≡ perform (tableOf (now (table .entry))) (stateOf (now (state .entry))) t (Goes i) ⌝ }
+    requires { ⌜ Counted (tableOf (now table)) (stateOf (now state)) ⌝ }
+    ensures { λ _. ⌜ settled (tableOf (now (table .entry))) (stateOf (now (state .exit))) ≡ perform (tableOf (now (table .entry))) (settled (tableOf (now (table .entry))) (stateOf (now (state .entry)))) t (Goes i) ⌝ }
+    ensures { λ _. ⌜ Counted (tableOf (now (table .entry))) (stateOf (now (state .exit))) ⌝ }
 {
     if state::thread_word(state, t as usize, 0) == 1 {
         let way = branches::way_by(table, index, state, t, i);
@@ -185,8 +192,9 @@ fn make_gone(table: &[u8], index: &[u32], state: &mut [u32; state::WORDS], t: u3
 fn make_call(table: &[u8], index: &[u32], state: &mut [u32; state::WORDS], t: u32)
     requires { ⌜ Indexed (tableOf (now table)) (now index) ⌝ }
     requires { ⌜ t < 64 ⌝ }
-    requires { ⌜ settled (tableOf (now table)) (stateOf (now state)) ≡ stateOf (now state) ⌝ }
-    ensures { λ _. ⌜ stateOf (now (state .exit)) ≡ perform (tableOf (now (table .entry))) (stateOf (now (state .entry))) t Calls ⌝ }
+    requires { ⌜ Counted (tableOf (now table)) (stateOf (now state)) ⌝ }
+    ensures { λ _. ⌜ settled (tableOf (now (table .entry))) (stateOf (now (state .exit))) ≡ perform (tableOf (now (table .entry))) (settled (tableOf (now (table .entry))) (stateOf (now (state .entry)))) t Calls ⌝ }
+    ensures { λ _. ⌜ Counted (tableOf (now (table .entry))) (stateOf (now (state .exit))) ⌝ }
 {
     if state::thread_word(state, t as usize, 0) == 1 {
         let mut slots = [0u32; writes::SLOTS];
@@ -198,16 +206,16 @@ fn make_call(table: &[u8], index: &[u32], state: &mut [u32; state::WORDS], t: u3
     make_alone(table, index, state, t, Move::Calls);
 }
 
-// Thread t waits. Where it was ready, its channels have one waiting holder more, and no other count changes.
+// Thread t waits. Where it was ready, no count of holders changes.
 fn make_waiting(table: &[u8], index: &[u32], state: &mut [u32; state::WORDS], t: u32)
     requires { ⌜ Indexed (tableOf (now table)) (now index) ⌝ }
     requires { ⌜ t < 64 ⌝ }
-    requires { ⌜ settled (tableOf (now table)) (stateOf (now state)) ≡ stateOf (now state) ⌝ }
-    ensures { λ _. ⌜ stateOf (now (state .exit)) ≡ perform (tableOf (now (table .entry))) (stateOf (now (state .entry))) t Waits ⌝ }
+    requires { ⌜ Counted (tableOf (now table)) (stateOf (now state)) ⌝ }
+    ensures { λ _. ⌜ settled (tableOf (now (table .entry))) (stateOf (now (state .exit))) ≡ perform (tableOf (now (table .entry))) (settled (tableOf (now (table .entry))) (stateOf (now (state .entry)))) t Waits ⌝ }
+    ensures { λ _. ⌜ Counted (tableOf (now (table .entry))) (stateOf (now (state .exit))) ⌝ }
 {
     if state::thread_word(state, t as usize, 0) == 1 {
         writes::write_waiting(state, t);
-        counts::weigh(table, index, state, t, 1);
         return;
     }
     make_alone(table, index, state, t, Move::Waits);
@@ -236,7 +244,7 @@ fn meeting_keeps(
     false
 }
 
-// Threads t and u meet by their branches i and j. Where they will hold what they hold, u's channels have one waiting holder less.
+// Threads t and u meet by their branches i and j. Where they will hold what they hold, no count of holders changes.
 fn make_meeting(
     table: &[u8],
     index: &[u32],
@@ -248,16 +256,16 @@ fn make_meeting(
 )
     requires { ⌜ Indexed (tableOf (now table)) (now index) ⌝ }
     requires { ⌜ t < 64 ⌝ }
-    requires { ⌜ settled (tableOf (now table)) (stateOf (now state)) ≡ stateOf (now state) ⌝ }
+    requires { ⌜ Counted (tableOf (now table)) (stateOf (now state)) ⌝ }
     requires { ⌜ u < 64 ⌝ }
     requires { ⌜ u ≢ t ⌝ }
-    ensures { λ _. ⌜ stateOf (now (state .exit)) ≡ perform (tableOf (now (table .entry))) (stateOf (now (state .entry))) t (Meets i u j) ⌝ }
+    ensures { λ _. ⌜ settled (tableOf (now (table .entry))) (stateOf (now (state .exit))) ≡ perform (tableOf (now (table .entry))) (settled (tableOf (now (table .entry))) (stateOf (now (state .entry)))) t (Meets i u j) ⌝ }
+    ensures { λ _. ⌜ Counted (tableOf (now (table .entry))) (stateOf (now (state .exit))) ⌝ }
 {
     let own = branches::way_by(table, index, state, t, i);
     let other = branches::way_by(table, index, state, u, j);
     if meeting_keeps(table, index, state, t, own, u, other) {
         branches::write_meeting(table, index, state, t, own, u, other);
-        counts::weigh(table, index, state, u, MINUS_ONE);
         return;
     }
     make_paired(table, index, state, t, u, Move::Meets(i, u, j));
@@ -267,9 +275,10 @@ fn make_meeting(
 fn make_move(table: &[u8], index: &[u32], state: &mut [u32; state::WORDS], t: u32, m: Move)
     requires { ⌜ Indexed (tableOf (now table)) (now index) ⌝ }
     requires { ⌜ t < 64 ⌝ }
-    requires { ⌜ settled (tableOf (now table)) (stateOf (now state)) ≡ stateOf (now state) ⌝ }
+    requires { ⌜ Counted (tableOf (now table)) (stateOf (now state)) ⌝ }
     requires { ⌜ Writable t m ⌝ }
-    ensures { λ _. ⌜ stateOf (now (state .exit)) ≡ made (tableOf (now (table .entry))) (stateOf (now (state .entry))) t m ⌝ }
+    ensures { λ _. ⌜ settled (tableOf (now (table .entry))) (stateOf (now (state .exit))) ≡ made (tableOf (now (table .entry))) (settled (tableOf (now (table .entry))) (stateOf (now (state .entry)))) t m ⌝ }
+    ensures { λ _. ⌜ Counted (tableOf (now (table .entry))) (stateOf (now (state .exit))) ⌝ }
 {
     match m {
         Move::Ends => make_alone(table, index, state, t, m),
@@ -341,11 +350,13 @@ fn step_ready(
     requires { ⌜ Indexed (tableOf (now table)) (now index) ⌝ }
     requires { ⌜ t < 64 ⌝ }
     requires { ⌜ Granted (tableOf (now table)) ⌝ }
-    requires { ⌜ Sound (tableOf (now table)) (stateOf (now state)) ⌝ }
+    requires { ⌜ Sound (tableOf (now table)) (settled (tableOf (now table)) (stateOf (now state))) ⌝ }
+    requires { ⌜ Counted (tableOf (now table)) (stateOf (now state)) ⌝ }
     requires { ⌜ isReady (thread (stateOf (now state)) t) ≡ true ⌝ }
     requires { ⌜ UsedBelow (stateOf (now state)) top ⌝ }
-    ensures { λ r. ⌜ r ≡ move (tableOf (now (table .entry))) (stateOf (now (state .entry))) t ⌝ }
-    ensures { λ _. ⌜ stateOf (now (state .exit)) ≡ made (tableOf (now (table .entry))) (stateOf (now (state .entry))) t (move (tableOf (now (table .entry))) (stateOf (now (state .entry))) t) ⌝ }
+    ensures { λ r. ⌜ r ≡ move (tableOf (now (table .entry))) (settled (tableOf (now (table .entry))) (stateOf (now (state .entry)))) t ⌝ }
+    ensures { λ _. ⌜ settled (tableOf (now (table .entry))) (stateOf (now (state .exit))) ≡ made (tableOf (now (table .entry))) (settled (tableOf (now (table .entry))) (stateOf (now (state .entry)))) t (move (tableOf (now (table .entry))) (settled (tableOf (now (table .entry))) (stateOf (now (state .entry)))) t) ⌝ }
+    ensures { λ _. ⌜ Counted (tableOf (now (table .entry))) (stateOf (now (state .exit))) ⌝ }
 {
     let m = moves::decide(table, index, state, t, top);
     make_move(table, index, state, t, m);
@@ -403,13 +414,15 @@ pub fn turn_of(
     requires { ⌜ Indexed (tableOf (now table)) (now index) ⌝ }
     requires { ⌜ t < 64 ⌝ }
     requires { ⌜ Granted (tableOf (now table)) ⌝ }
-    requires { ⌜ Sound (tableOf (now table)) (stateOf (now state)) ⌝ }
+    requires { ⌜ Sound (tableOf (now table)) (settled (tableOf (now table)) (stateOf (now state))) ⌝ }
+    requires { ⌜ Counted (tableOf (now table)) (stateOf (now state)) ⌝ }
     requires { ⌜ isReady (thread (stateOf (now state)) t) ≡ true ⌝ }
     requires { ⌜ UsedBelow (stateOf (now state)) top ⌝ }
-    ensures { λ r. ⌜ _≡_ {A = Turned} (record { turn = r .turn; state = stateOf (now (state .exit)) }) (turnEnd (tableOf (now (table .entry))) (stateOf (now (state .entry))) t (turnBy t (move (tableOf (now (table .entry))) (stateOf (now (state .entry))) t))) ⌝ }
-    ensures { λ _. ⌜ Sound (tableOf (now (table .entry))) (stateOf (now (state .exit))) ⌝ }
+    ensures { λ r. ⌜ _≡_ {A = Turned} (record { turn = r .turn; state = settled (tableOf (now (table .entry))) (stateOf (now (state .exit))) }) (turnEnd (tableOf (now (table .entry))) (settled (tableOf (now (table .entry))) (stateOf (now (state .entry)))) t (turnBy t (move (tableOf (now (table .entry))) (settled (tableOf (now (table .entry))) (stateOf (now (state .entry)))) t))) ⌝ }
+    ensures { λ _. ⌜ Sound (tableOf (now (table .entry))) (settled (tableOf (now (table .entry))) (stateOf (now (state .exit)))) ⌝ }
     ensures { λ r. ⌜ UsedBelow (stateOf (now (state .exit))) (r .top) ⌝ }
-    ensures { λ r. ⌜ r .by ≡ move (tableOf (now (table .entry))) (stateOf (now (state .entry))) t ⌝ }
+    ensures { λ r. ⌜ r .by ≡ move (tableOf (now (table .entry))) (settled (tableOf (now (table .entry))) (stateOf (now (state .entry)))) t ⌝ }
+    ensures { λ _. ⌜ Counted (tableOf (now (table .entry))) (stateOf (now (state .exit))) ⌝ }
 {
     let m = step_ready(table, index, state, t, top);
     state::put_mark(state, 2, moves::one_up(MAX_THREADS, t));
@@ -419,4 +432,34 @@ pub fn turn_of(
         by: m,
         top: raised(t, m, top),
     }
+}
+
+// A count of a list as a word.
+fn word_of(n: u8) -> u32
+    ensures { λ r. ⌜ r ≡ n ⌝ }
+{
+    n as u32
+}
+
+// The counts of waiting holders of all channels are those of a list.
+fn put_waiting(state: &mut [u32; state::WORDS], waiting: &[u8; CHANNELS])
+    ensures { λ _. ⌜ stateOf (now (state .exit)) ≡ withChannels (stateOf (now (state .entry))) (weighedTo (now (waiting .entry)) (stateOf (now (state .entry)) .channels) 128) ⌝ }
+{
+    for c in 0..CHANNELS {
+        state::put_channel(state, c, 2, word_of(waiting[c]));
+    }
+}
+
+// The counts of waiting holders, which no move has kept, are settled.
+pub fn settle_waiting(table: &[u8], index: &[u32], state: &mut [u32; state::WORDS])
+    requires { ⌜ Indexed (tableOf (now table)) (now index) ⌝ }
+    requires { ⌜ Counted (tableOf (now table)) (stateOf (now state)) ⌝ }
+    ensures { λ _. ⌜ stateOf (now (state .exit)) ≡ settled (tableOf (now (table .entry))) (stateOf (now (state .entry))) ⌝ }
+{
+    // as a slice the state tells its length
+    let words: &[u32] = state;
+    let mut held = [0u8; CHANNELS];
+    let mut waiting = [0u8; CHANNELS];
+    tally::tally(table, index, state, &mut held, &mut waiting);
+    put_waiting(state, &waiting);
 }

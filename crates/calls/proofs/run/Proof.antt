@@ -11,4 +11,5 @@ run-spec =
     (tie.spec
     (λ c κs. search used-all)
     (λ c κs. (search, (search, (search, search next-is-ready))))
+    (λ c κs. search needs)
     (λ c. search run-done))

@@ -1,4 +1,5 @@
-use Rattle.steps.specs.Made.Laws.{alone-made, alone-writable}
+use Rattle.steps.specs.Counted.Laws.{alone-made, alone-counted}
+use Rattle.steps.specs.Made.Laws.{alone-writable}
 use borrow.Author.Needs.{needs}
 use Rattle.steps.proofs.make_alone.Statement.{statement}
 use Rattle.steps.proofs.make_alone.Tie as tie
@@ -10,4 +11,4 @@ make-alone-spec =
     (λ c κs. search needs)
     (λ c κs. (search, (search, search alone-writable)))
     (λ c κs. search needs)
-    (λ c. search alone-made))
+    (λ c. (search alone-made, search alone-counted)))

@@ -1,4 +1,4 @@
-use Rattle.steps.specs.Keeping.Laws.{calls-made}
+use Rattle.steps.specs.Keeping.Laws.{calls-made, calls-counted}
 use Rattle.steps.specs.Made.{Alone}
 use borrow.Author.Needs.{needs}
 use Rattle.steps.proofs.make_call.Statement.{statement}
@@ -12,6 +12,6 @@ make-call-spec =
     (λ c κs. search needs)
     (λ c κs. search needs)
     (λ c κs. search needs)
-    (λ c. search calls-made)
+    (λ c. (search calls-made, search calls-counted))
     (λ c κs. (search, (search, (search, tt))))
     (λ c. search needs))

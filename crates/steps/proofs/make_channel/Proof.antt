@@ -1,4 +1,5 @@
-use Rattle.steps.specs.Made.Laws.{creation-made, creation-writable}
+use Rattle.steps.specs.Counted.Laws.{creation-made, creation-counted}
+use Rattle.steps.specs.Made.Laws.{creation-writable}
 use borrow.Author.Needs.{needs}
 use Rattle.steps.proofs.make_channel.Statement.{statement}
 use Rattle.steps.proofs.make_channel.Tie as tie
@@ -10,4 +11,4 @@ make-channel-spec =
     (λ c κs. search needs)
     (λ c κs. (search, (search, search creation-writable)))
     (λ c κs. search needs)
-    (λ c. search creation-made))
+    (λ c. (search creation-made, search creation-counted)))

@@ -1,4 +1,4 @@
-use Rattle.steps.specs.Keeping.Laws.{gone-made}
+use Rattle.steps.specs.Keeping.Laws.{gone-made, gone-counted}
 use Rattle.steps.specs.Made.{Alone}
 use borrow.Author.Needs.{needs}
 use Rattle.steps.proofs.make_gone.Statement.{statement}
@@ -13,8 +13,9 @@ make-gone-spec =
     (λ c κs. search needs)
     (λ c κs. search needs)
     (λ c κs. search needs)
-    (λ c. gone-made _ _ (search) _ (search) _ _ _ _ _ (c .write-gone .ensures) (c .before .before .before .before .before .way-by .ensures)
-    (c .before .before .before .gone-keeps .ensures) (search)
-    (c .before .before .before .before .before .before .before .before .thread-word .ensures) (search))
+    (λ c. (
+      search gone-made,
+      gone-counted _ _ (search) _ _ (search) _ _ _ (c .write-gone .ensures) (c .before .before .before .gone-keeps .ensures) (search) (c .before .before .before .before .before .before .before .before .thread-word .ensures) (search),
+    ))
     (λ c κs. (search, (search, (search, tt))))
     (λ c. search needs))

@@ -1,4 +1,4 @@
-use Rattle.steps.specs.Keeping.Laws.{meets-made}
+use Rattle.steps.specs.Keeping.Laws.{meets-made, meets-counted}
 use Rattle.steps.specs.Made.{Paired}
 use mathlib.Core.Path.{refl}
 use borrow.Author.Needs.{needs}
@@ -14,14 +14,9 @@ make-meeting-spec =
     (λ c κs. search needs)
     (λ c κs. search needs)
     (λ c κs. (search, (search, (search, search))))
-    (λ c κs. search needs)
-    (λ c. meets-made _ _ (c .before .before .before .before .before .before .before .before .before .before .before .before .before .pre .1 .1 .0) _
-    (c .before .before .before .before .before .before .before .before .before .before .before .before .before .pre .1 .0) _ _ _ _ _ _ _ _
-    (c .weigh .ensures) (c .before .before .write-meeting .ensures)
-    (c .before .before .before .before .before .before .before .before .before .way-by .ensures)
-    (c .before .before .before .before .before .before .before .way-by2 .ensures) (c .before .before .before .before .before .meeting-keeps .ensures)
-    (c .before .before .before .before .if1 .taken)
-    (c .before .before .before .before .before .before .before .before .before .before .before .before .before .pre .1 .1 .1 .0)
-    (c .before .before .before .before .before .before .before .before .before .before .before .before .before .pre .1 .1 .1 .1))
+    (λ c. (
+      meets-made _ _ (c .before .before .before .before .before .before .before .before .before .before .before .pre .1 .1 .0) _ _ _ _ _ _ _ (c .write-meeting .ensures) (c .before .before .before .before .before .before .before .way-by .ensures) (c .before .before .before .before .before .way-by2 .ensures),
+      meets-counted _ _ (c .before .before .before .before .before .before .before .before .before .before .before .pre .1 .1 .0) _ _ (c .before .before .before .before .before .before .before .before .before .before .before .pre .1 .0) _ _ _ _ (c .write-meeting .ensures) (c .before .before .before .meeting-keeps .ensures) (c .before .before .if1 .taken) (c .before .before .before .before .before .before .before .before .before .before .before .pre .1 .1 .1 .0) (c .before .before .before .before .before .before .before .before .before .before .before .pre .1 .1 .1 .1),
+    ))
     (λ c κs. (search, (search, (search, (refl, search, search)))))
     (λ c. search needs))

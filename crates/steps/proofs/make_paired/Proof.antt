@@ -1,4 +1,4 @@
-use Rattle.steps.specs.Made.Laws.{paired-made}
+use Rattle.steps.specs.Counted.Laws.{paired-made, paired-counted}
 use borrow.Author.Needs.{needs}
 use Rattle.steps.proofs.make_paired.Statement.{statement}
 use Rattle.steps.proofs.make_paired.Tie as tie
@@ -10,4 +10,4 @@ make-paired-spec =
     (λ c κs. search needs)
     (λ c κs. search needs)
     (λ c κs. search needs)
-    (λ c. search paired-made))
+    (λ c. (search paired-made, search paired-counted)))

@@ -1,4 +1,4 @@
-use Rattle.steps.specs.Keeping.Laws.{waits-made}
+use Rattle.steps.specs.Keeping.Laws.{waits-made, waits-counted}
 use Rattle.steps.specs.Made.{Alone}
 use borrow.Author.Needs.{needs}
 use Rattle.steps.proofs.make_waiting.Statement.{statement}
@@ -11,7 +11,6 @@ make-waiting-spec =
     (tie.spec
     (λ c κs. search needs)
     (λ c κs. search needs)
-    (λ c κs. search needs)
-    (λ c. search waits-made)
+    (λ c. (search waits-made, search waits-counted))
     (λ c κs. (search, (search, (search, tt))))
     (λ c. search needs))

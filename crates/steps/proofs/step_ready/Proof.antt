@@ -1,5 +1,5 @@
-use Rattle.engine_laws.specs.Sound.Laws.{sound-settled, sound-apart}
-use Rattle.steps.specs.Made.Laws.{move-writable, made-read}
+use Rattle.steps.specs.Counted.Laws.{apart-alike, move-read, step-made}
+use Rattle.steps.specs.Made.Laws.{move-writable}
 use Rattle.steps.proofs.step_ready.Statement.{statement}
 use Rattle.steps.proofs.step_ready.Tie as tie
 
@@ -7,6 +7,6 @@ pub step-ready-spec : {M : Type 1} → statement M
 step-ready-spec =
     tie.close
     (tie.spec
-    (λ c κs. (search, (search, search sound-apart)))
-    (λ c κs. (search, (search, (search sound-settled, search move-writable))))
-    (λ c. (search, search made-read)))
+    (λ c κs. (search, (search, search apart-alike)))
+    (λ c κs. (search, (search, (search, search move-writable))))
+    (λ c. (search move-read, (search step-made, search))))

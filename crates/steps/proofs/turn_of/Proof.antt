@@ -1,8 +1,7 @@
 use borrow.Author.Needs.{needs}
 use Rattle.steps.proofs.turn_of.Statement.{statement}
 use Rattle.steps.proofs.turn_of.Tie as tie
-use Rattle.steps.specs.Top.{turn-used}
-use Rattle.steps.specs.Made.Laws.{move-writable, turn-ends, turn-sound}
+use Rattle.steps.specs.Counted.Laws.{writable-alike, turn-made, turn-lasts, turn-below, counted-mark}
 
 pub turn-of-spec : {M : Type 1} → statement M
 turn-of-spec =
@@ -12,5 +11,5 @@ turn-of-spec =
     (λ c κs. search needs)
     (λ c κs. search needs)
     (λ c κs. search needs)
-    (λ c κs. search move-writable)
-    (λ c. (search turn-ends, (search turn-sound, (search turn-used, search)))))
+    (λ c κs. search writable-alike)
+    (λ c. (search turn-made, (search turn-lasts, (search turn-below, (search, search counted-mark))))))

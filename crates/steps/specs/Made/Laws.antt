@@ -4,6 +4,7 @@ use mathlib.Core.Path.{_≡_, refl, sym, _∙_}
 use mathlib.Core.Logic.{_≢_}
 use mathlib.Core.List.{List}
 use mathlib.Core.Bool.{true}
+use lib.ListN.{length}
 use borrow.Author.Tests.{lt-ltb, le-ltb}
 use Rattle.numbers.specs.Count.{bit}
 use Rattle.table.specs.Table.{Table}
@@ -39,11 +40,11 @@ module _ (tb : Table) (s : State) (i v : ℕ) where
       → settledTwo tb (withMark s i v) t x l w l′ w′ ≡ settled tb (withMark s i v)
   two-marked t x l w l′ w′ e = two-mark tb s i v t x l w l′ w′ ∙ rw e (sym (settled-mark tb s i v))
 
-module _ (tb : Table) (b : List ℕ) (e : settled tb (stateOf b) ≡ stateOf b) (t : ℕ) (h : t < 64) where
-  one : (row : List ℕ) → settledOne tb (withThread (stateOf b) t row) t (ownList tb (thread (stateOf b) t)) (bit (isWaiting (thread (stateOf b) t))) ≡ settled tb (withThread (stateOf b) t row)
-  one row = one-settled tb (stateOf b) (length-threads b) e t h row
+module _ (tb : Table) (s : State) (long : length (s .threads) ≡ 64) (e : settled tb s ≡ s) (t : ℕ) (h : t < 64) where
+  one : (row : List ℕ) → settledOne tb (withThread s t row) t (ownList tb (thread s t)) (bit (isWaiting (thread s t))) ≡ settled tb (withThread s t row)
+  one row = one-settled tb s long e t h row
 
-  alone-settled : (m : Move) → Alone m → settledOne tb (written tb (stateOf b) t m) t (ownList tb (thread (stateOf b) t)) (bit (isWaiting (thread (stateOf b) t))) ≡ settled tb (written tb (stateOf b) t m)
+  pub alone-settled : (m : Move) → Alone m → settledOne tb (written tb s t m) t (ownList tb (thread s t)) (bit (isWaiting (thread s t))) ≡ settled tb (written tb s t m)
   unfolding written Alone
   alone-settled Ends a = one _
   alone-settled Calls a = one _
@@ -55,23 +56,23 @@ module _ (tb : Table) (b : List ℕ) (e : settled tb (stateOf b) ≡ stateOf b) 
   alone-settled LacksThread a = absurd a
   alone-settled LacksChannel a = absurd a
 
-  creation-settled : (x : ℕ) (m : Move) → Creation x m
-      → settledNew tb (written tb (stateOf b) t m) t x (ownList tb (thread (stateOf b) t)) (bit (isWaiting (thread (stateOf b) t))) ≡ settled tb (written tb (stateOf b) t m)
+  pub creation-settled : (x : ℕ) (m : Move) → Creation x m
+      → settledNew tb (written tb s t m) t x (ownList tb (thread s t)) (bit (isWaiting (thread s t))) ≡ settled tb (written tb s t m)
   unfolding written Creation
   creation-settled x Ends a = absurd a
   creation-settled x Calls a = absurd a
   creation-settled x Waits a = absurd a
   creation-settled x (Goes i) a = absurd a
   creation-settled x (Creates i c) (q, a) =
-      rw q (new-marked tb _ 1 _ t x _ _ (new-settled tb (stateOf b) (length-threads b) e t h _ x _ a))
+      rw q (new-marked tb _ 1 _ t x _ _ (new-settled tb s long e t h _ x _ a))
   creation-settled x (Spawns i u) a = absurd a
   creation-settled x (Meets i u j) a = absurd a
   creation-settled x LacksThread a = absurd a
   creation-settled x LacksChannel a = absurd a
 
-  paired-settled : (x : ℕ) (m : Move) → Paired t x m
-      → settledTwo tb (written tb (stateOf b) t m) t x (ownList tb (thread (stateOf b) t)) (bit (isWaiting (thread (stateOf b) t))) (ownList tb (thread (stateOf b) x)) (bit (isWaiting (thread (stateOf b) x)))
-      ≡ settled tb (written tb (stateOf b) t m)
+  pub paired-settled : (x : ℕ) (m : Move) → Paired t x m
+      → settledTwo tb (written tb s t m) t x (ownList tb (thread s t)) (bit (isWaiting (thread s t))) (ownList tb (thread s x)) (bit (isWaiting (thread s x)))
+      ≡ settled tb (written tb s t m)
   unfolding written spawnedBy Paired
   paired-settled x Ends a = absurd a
   paired-settled x Calls a = absurd a
@@ -79,36 +80,20 @@ module _ (tb : Table) (b : List ℕ) (e : settled tb (stateOf b) ≡ stateOf b) 
   paired-settled x (Goes i) a = absurd a
   paired-settled x (Creates i c) a = absurd a
   paired-settled x (Spawns i u) (q, l, n) =
-      rw q (two-marked tb _ 0 _ t x _ _ _ _ (two-settled tb (stateOf b) (length-threads b) e t h _ x l n _))
-  paired-settled x (Meets i u j) (q, l, n) = rw q (two-settled tb (stateOf b) (length-threads b) e t h _ x l n _)
+      rw q (two-marked tb _ 0 _ t x _ _ _ _ (two-settled tb s long e t h _ x l n _))
+  paired-settled x (Meets i u j) (q, l, n) = rw q (two-settled tb s long e t h _ x l n _)
   paired-settled x LacksThread a = absurd a
   paired-settled x LacksChannel a = absurd a
 
-  -- ---- the code's way out: s₁ after the writes, s₂ after the upkeep
+-- ---- a thread that the bench meets: s₁ after the write, s₂ after the upkeep
 
-  module _ (m : Move) (s₁ s₂ : State) (l : List ℕ) (w : ℕ) where
-    pub alone-made : s₂ ≡ settledOne tb s₁ t l w → s₁ ≡ written tb (stateOf b) t m → l ≡ ownList tb (thread (stateOf b) t) → w ≡ bit (isWaiting (thread (stateOf b) t)) → Alone m
-        → s₂ ≡ perform tb (stateOf b) t m
-    unfolding perform
-    alone-made f g i j a = f ∙ rw (g, i, j) (alone-settled m a)
-
-    pub creation-made : (x : ℕ) → s₂ ≡ settledNew tb s₁ t x l w → s₁ ≡ written tb (stateOf b) t m → l ≡ ownList tb (thread (stateOf b) t) → w ≡ bit (isWaiting (thread (stateOf b) t)) → Creation x m
-        → s₂ ≡ perform tb (stateOf b) t m
-    unfolding perform
-    creation-made x f g i j a = f ∙ rw (g, i, j) (creation-settled x m a)
-
-  pub paired-made : (m : Move) (s₁ : State) (x : ℕ) (l : List ℕ) (w : ℕ) (l′ : List ℕ) (w′ : ℕ) → s₁ ≡ settledTwo tb (written tb (stateOf b) t m) t x l w l′ w′
-      → l ≡ ownList tb (thread (stateOf b) t) → w ≡ bit (isWaiting (thread (stateOf b) t)) → l′ ≡ ownList tb (thread (stateOf b) x) → w′ ≡ bit (isWaiting (thread (stateOf b) x)) → Paired t x m
-      → s₁ ≡ perform tb (stateOf b) t m
-  unfolding perform
-  paired-made m s₁ x l w l′ w′ f i j k n a = f ∙ rw (i, j, k, n) (paired-settled x m a)
-
+module _ (tb : Table) (b : List ℕ) (e : settled tb (stateOf b) ≡ stateOf b) (t : ℕ) (h : t < 64) where
   pub met-made : (s₁ s₂ : State) (l : List ℕ) (way : Way) (w j v : ℕ) → s₂ ≡ settledOne tb s₁ t l w → s₁ ≡ withThread (stateOf b) t (metAlong tb (thread (stateOf b) t) way v)
       → way ≡ wayOf tb (thread (stateOf b) t) j → l ≡ ownList tb (thread (stateOf b) t) → w ≡ bit (isWaiting (thread (stateOf b) t)) → s₂ ≡ metByBench tb (stateOf b) t j v
   unfolding metByBench
   met-made s₁ s₂ l way w j v f g p i k =
       let q : metAlong tb (thread (stateOf b) t) way v ≡ metBy tb (thread (stateOf b) t) j v = rw p (met-way tb (thread (stateOf b) t) j v) in
-      f ∙ rw (g, i, k, q) (one _)
+      f ∙ rw (g, i, k, q) (one tb (stateOf b) (length-threads b) e t h _)
 
 -- ---- what is written along the ways of branches
 
