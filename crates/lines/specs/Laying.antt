@@ -1,6 +1,7 @@
 -- The steps by which the code lays a listing into its buffer. These definitions serve the proofs alone: the files in `Laying` show that they come to
 -- `listing`.
 pub mod Lines
+pub mod Turns
 pub mod Steps
 pub mod Ends
 pub mod Whole

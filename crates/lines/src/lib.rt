@@ -129,11 +129,18 @@ fn list_turn(
     let t = moves::next_ready(state, THREADS);
     if t < THREADS {
         let node = state::thread_word(state, t as usize, 1);
-        let m = steps::step_ready(table, index, state, t, THREADS);
-        state::put_mark(state, 2, moves::one_up(THREADS, t));
-        let answer = calls::step_answer(node, m);
-        put_step(out, STEP + i as usize * STEP, i + 1, t, answer);
-        return steps::turn_by(t, m);
+        let round = steps::turn_of(table, index, state, t, THREADS);
+        steps::settle_waiting(table, index, state);
+        let by = round.by;
+        put_step(
+            out,
+            STEP + i as usize * STEP,
+            i + 1,
+            t,
+            calls::step_answer(node, by),
+        );
+        let turn = round.turn;
+        return turn;
     }
     Turn::Stopped(Reason::NoneReady)
 }

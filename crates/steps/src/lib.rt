@@ -364,7 +364,7 @@ fn step_ready(
 }
 
 // What a move of thread t comes to in a run.
-pub fn turn_by(t: u32, m: Move) -> Turn
+fn turn_by(t: u32, m: Move) -> Turn
     ensures { λ r. ⌜ r ≡ turnBy t m ⌝ }
 {
     match m {

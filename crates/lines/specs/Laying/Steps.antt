@@ -14,8 +14,9 @@ use Rattle.numbers.specs.Bytes.{joined}
 use Rattle.numbers.specs.Search.{tabulate}
 use Rattle.numbers.specs.Search.Laws.{caseB, tabulate-none, tabulate-suc}
 use Rattle.table.specs.Table.{Table}
-use Rattle.state.specs.State.{State, maxThreads, thread, standsAt, withMark}
-use Rattle.rules.specs.Moves.{oneUp, move}
+use Rattle.state.specs.State.{State, maxThreads, thread, standsAt}
+use Rattle.rules.specs.Holding.{settled}
+use Rattle.rules.specs.Moves.{move}
 use Rattle.rules.specs.Calls.{stepAnswer, nextReady, turnBy, Course, course, Turned, turned, turnEnd, takeTurn, courseOf}
 use Rattle.rules.specs.declared.Move.{Move}
 use Rattle.rules.specs.declared.Move.the-variants.{Ends, Calls, Waits, Goes, Creates, Spawns, Meets, LacksThread, LacksChannel}
@@ -27,15 +28,16 @@ use Rattle.rules.specs.declared.Reason.{Reason}
 use Rattle.rules.specs.declared.Reason.the-variants.{AllDone, NoneReady}
 use Rattle.rules.specs.declared.Turn.{Turn}
 use Rattle.rules.specs.declared.Turn.the-variants.{Went, Stopped}
-use Rattle.granted.specs.Granted.{Granted}
 use Rattle.granted.specs.Codes.{clash}
 use Rattle.engine_laws.specs.Sound.{Sound}
-use Rattle.steps.specs.Made.{made}
-use Rattle.steps.specs.Made.Laws.{turn-sound, next-is-ready}
+use Rattle.engine_laws.specs.Sound.Laws.{sound-settled}
+use Rattle.steps.specs.Made.Laws.{next-turn}
+use Rattle.steps.specs.Counted.{Counted}
+use Rattle.steps.specs.Counted.Laws.{counted-start}
 use Rattle.engine.specs.Numbers.{actNumber, branchNumber, partnerNumber}
-use Rattle.calls.specs.Course.{after, course-none, course-more, course-stopped, course-all}
 use Rattle.lines.specs.Listing.{line, stepLine, maxSteps, turnLine, stepLines}
 use Rattle.lines.specs.Laying.{shown, Come, linesTo}
+use Rattle.lines.specs.Laying.Turns.{course-none, course-more, course-stopped, course-all}
 use Rattle.lines.specs.Laying.Lines.{sets-append, joined-snoc, length-line}
 
 -- ---- a step
@@ -65,28 +67,50 @@ shown-is k t n (Meets i u j) = refl
 shown-is k t n LacksThread = refl
 shown-is k t n LacksChannel = refl
 
+pub turn-keeps : (tb : Table) (x s₂ : State) → s₂ ≡ settled tb x → Sound tb (settled tb x) → Sound tb s₂
+turn-keeps tb x s₂ f ok = rw f ok
+
 module _ (tb : Table) (s : State) where
-  pub turn-laid : (l l₁ : List ℕ) (p i t n : ℕ) (m : Move) (w : Turn) (x : Stepped) → l₁ ≡ sets l p (stepLine (i + 1) t x) → x ≡ stepAnswer n m → w ≡ turnBy t m → m ≡ move tb s t
-      → n ≡ at (s .threads) t 1 → t ≡ nextReady s → l₁ ≡ sets l p (shown w (turnLine tb (suc i) s))
-  unfolding turnLine
-  turn-laid l l₁ p i t n m w x e f g h j o =
-      let q : standsAt (thread s (nextReady s)) ≡ n = rw (← o) (sym j) in
-      let y : move tb s (nextReady s) ≡ m = rw (← o) (sym h) in
-      e ∙ rw (f, add-one i, ← shown-is (suc i) t n m, g, q, y, ← o)
-
-  -- the state after it
-  pub turn-keeps : Granted tb → Sound tb s → (s₁ s₂ : State) (t v : ℕ) → s₂ ≡ withMark s₁ 2 v → s₁ ≡ made tb s t (move tb s t) → v ≡ oneUp maxThreads t → t ≡ nextReady s → t < 64
-      → Sound tb s₂
-  turn-keeps g ok s₁ s₂ t v e f h i l = turn-sound tb g s ok t l (next-is-ready s t i l) s₁ s₂ v e f h
-
-  pub turn-left : (l : List ℕ) (p k : ℕ) (r : Reason) → l ≡ sets l p (shown (Stopped r) (turnLine tb k s))
-  unfolding shown
-  turn-left l p k r = refl
-
   pub end-turn : (t : ℕ) (w : Turn) → turnEnd tb s t w .turn ≡ w
   unfolding turnEnd
   end-turn t Went = refl
   end-turn t (Stopped r) = refl
+
+  -- a sound state is settled, and so a turn may begin
+  module _ (ok : Sound tb s) where
+    same : settled tb s ≡ s
+    same = sound-settled tb s ok
+
+    pub turn-begins : Sound tb (settled tb s)
+    turn-begins = rw same ok
+
+    pub turn-counted : Counted tb s
+    turn-counted = counted-start tb s same
+
+    -- thread t's turn came to w and left state x, which is settled then
+    module _ (t : ℕ) (w : Turn) (x : State) (e : turned w (settled tb x) ≡ turnEnd tb (settled tb s) t (turnBy t (move tb (settled tb s) t))) where
+      taken : turned w (settled tb x) ≡ turnEnd tb s t (turnBy t (move tb s t))
+      taken = rw same at e
+
+      says : w ≡ turnBy t (move tb s t)
+      says = ap (λ (k : Turned). k .turn) taken ∙ end-turn t (turnBy t (move tb s t))
+
+      pub turn-taken : (s₂ : State) → s₂ ≡ settled tb x → t ≡ nextReady s → t < 64 → turned w s₂ ≡ takeTurn tb s
+      turn-taken s₂ f i l = rw f (next-turn tb s t i (turned w (settled tb x)) taken l)
+
+      pub turn-laid : (l l₁ : List ℕ) (p i n : ℕ) (m : Move) (y : Stepped) → l₁ ≡ sets l p (stepLine (i + 1) t y) → y ≡ stepAnswer n m → m ≡ move tb (settled tb s) t
+          → n ≡ at (s .threads) t 1 → t ≡ nextReady s → l₁ ≡ sets l p (shown w (turnLine tb (suc i) s))
+      unfolding turnLine
+      turn-laid l l₁ p i n m y f g h j o =
+          let k : m ≡ move tb s t = h ∙ rw same in
+          let q : standsAt (thread s (nextReady s)) ≡ n = rw (← o) (sym j) in
+          let z : move tb s (nextReady s) ≡ m = rw (← o) (sym k) in
+          let v : w ≡ turnBy t m = says ∙ rw k in
+          f ∙ rw (g, add-one i, ← shown-is (suc i) t n m, v, q, z, ← o)
+
+  pub turn-left : (l : List ℕ) (p k : ℕ) (r : Reason) → l ≡ sets l p (shown (Stopped r) (turnLine tb k s))
+  unfolding shown
+  turn-left l p k r = refl
 
   step-long : (k t n : ℕ) (m : Move) → turnBy t m ≡ Went → length (stepLine k t (stepAnswer n m)) ≡ 37
   unfolding turnBy stepAnswer stepLine
