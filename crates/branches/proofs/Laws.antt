@@ -4,6 +4,8 @@ use native.Mathlib.Omega.{arith}
 use mathlib.Core.Path.{_≡_, _∙_, ap}
 use mathlib.Core.Logic.{_≢_}
 use mathlib.Core.List.{List}
+use mathlib.Core.Bool.{Bool, true, false}
+use Rattle.numbers.specs.Search.Laws.{contra}
 use Rattle.numbers.specs.Rows.{at}
 use Rattle.table.specs.Table.{Table}
 use Rattle.state.specs.State.{State, stateOf, thread, standsAt, withThread}
@@ -14,6 +16,7 @@ use Rattle.rules.specs.declared.Direction.{Direction}
 use Rattle.rules.specs.declared.Direction.the-variants.{Out, In}
 use Rattle.rules.specs.declared.Act.{Act}
 use Rattle.rules.specs.declared.Act.the-variants.{Tau, Meeting, New, Spawn, Assignment}
+use Rattle.branches.specs.Keeping.{assigns?}
 use Rattle.branches.specs.Way.{valueAlong, metAlong, metAlongBoth}
 use Rattle.branches.specs.declared.Way.{Way}
 
@@ -34,32 +37,27 @@ module _ (b : List ℕ) (t n k v : ℕ) (s₁ : State) (e : s₁ ≡ withThread 
   unfolding met
   sender-goes d f = rw f e
 
-  -- an act of its own
-  module _ (a : Act) where
-    pub tau-goes : a ≡ Tau → s₁ ≡ withThread (stateOf b) t (gone a (thread (stateOf b) t) n k v)
-    unfolding gone
-    tau-goes f = rw f e
-
-    pub meeting-goes : (d : Direction) → a ≡ Meeting d → s₁ ≡ withThread (stateOf b) t (gone a (thread (stateOf b) t) n k v)
-    unfolding gone
-    meeting-goes d f = rw f e
-
-    pub new-goes : a ≡ New → s₁ ≡ withThread (stateOf b) t (gone a (thread (stateOf b) t) n k v)
-    unfolding gone
-    new-goes f = rw f e
-
-    pub spawn-goes : a ≡ Spawn → s₁ ≡ withThread (stateOf b) t (gone a (thread (stateOf b) t) n k v)
-    unfolding gone
-    spawn-goes f = rw f e
+  -- an act of its own: x says whether it is an assignment
+  pub act-passes : (a : Act) (x : Bool) → x ≡ assigns? a → x ≡ false → s₁ ≡ withThread (stateOf b) t (gone a (thread (stateOf b) t) n k v)
+  unfolding gone assigns?
+  act-passes Tau x p q = e
+  act-passes (Meeting d) x p q = e
+  act-passes New x p q = e
+  act-passes Spawn x p q = e
+  act-passes Assignment x p q = contra p q
 
   module _ (s₂ : State) (g : s₂ ≡ withThread s₁ t (stored (thread s₁ t) k v)) (h : t < 64) where
     pub receiver-goes : (d : Direction) → d ≡ In → s₂ ≡ withThread (stateOf b) t (met d (thread (stateOf b) t) n k v)
     unfolding met
     receiver-goes d f = rw f (stored-after b t (resumed (thread (stateOf b) t) n) s₁ s₂ k v g e h)
 
-    pub assignment-goes : (a : Act) → a ≡ Assignment → s₂ ≡ withThread (stateOf b) t (gone a (thread (stateOf b) t) n k v)
-    unfolding gone
-    assignment-goes a f = rw f (stored-after b t (resumed (thread (stateOf b) t) n) s₁ s₂ k v g e h)
+    pub act-stores : (a : Act) (x : Bool) → x ≡ assigns? a → x ≡ true → s₂ ≡ withThread (stateOf b) t (gone a (thread (stateOf b) t) n k v)
+    unfolding gone assigns?
+    act-stores Tau x p q = contra q p
+    act-stores (Meeting d) x p q = contra q p
+    act-stores New x p q = contra q p
+    act-stores Spawn x p q = contra q p
+    act-stores Assignment x p q = stored-after b t (resumed (thread (stateOf b) t) n) s₁ s₂ k v g e h
 
     -- a new channel v in slot k
     pub holder-goes : (tb : Table) (i m r : ℕ) → k ≡ at tb r 5 → n ≡ nextOf tb m r → r ≡ branchAt tb m i → m ≡ standsAt (thread (stateOf b) t)
@@ -68,7 +66,7 @@ module _ (b : List ℕ) (t n k v : ℕ) (s₁ : State) (e : s₁ ≡ withThread 
     holder-goes tb i m r p q x y =
         stored-after b t (resumed (thread (stateOf b) t) n) s₁ s₂ k v g e h ∙ rw (p, q, x, y)
 
-pub ruleset goings = (sender-goes, receiver-goes, tau-goes, meeting-goes, new-goes, spawn-goes, assignment-goes)
+pub ruleset goings = (sender-goes, receiver-goes, act-passes, act-stores)
 
 -- ---- two rows
 

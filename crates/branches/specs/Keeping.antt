@@ -1,7 +1,7 @@
 -- Branches after which a thread's row holds the channels that it held before: it goes on within its definition, and no channel slot is written.
 pub mod Laws
 use Prim.Native.Nat.{ℕ}
-use mathlib.Core.Bool.{Bool, _&&_}
+use mathlib.Core.Bool.{Bool, true, false, _&&_}
 use lib.Dec.{eqb}
 use Rattle.table.specs.Table.{Table}
 use Rattle.table.specs.Layout.{definitionOf, slotType}
@@ -9,6 +9,14 @@ use Rattle.rules.specs.declared.Direction.{Direction}
 use Rattle.rules.specs.declared.Direction.the-variants.{Out, In}
 use Rattle.rules.specs.declared.Act.{Act}
 use Rattle.rules.specs.declared.Act.the-variants.{Tau, Meeting, New, Spawn, Assignment}
+
+-- an act is an assignment
+unfoldable pub assigns? : Act → Bool
+assigns? Tau = false
+assigns? (Meeting e) = false
+assigns? New = false
+assigns? Spawn = false
+assigns? Assignment = true
 
 module _ (tb : Table) where
   -- node n is a node of definition d

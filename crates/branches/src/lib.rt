@@ -8,7 +8,7 @@ ghost use Rattle.state.specs.State.{stateOf, thread, withThread};
 ghost use Rattle.rules.specs.Program.{actOf};
 ghost use Rattle.rules.specs.Moves.{met, gone, createdBy, typeBy, sideOf, typed, spawnedBy, written};
 ghost use Rattle.rules.specs.declared.Move.the-variants.{Creates, Spawns};
-ghost use Rattle.branches.specs.Keeping.{within, spares, actKeeps, sideKeeps};
+ghost use Rattle.branches.specs.Keeping.{assigns?, within, spares, actKeeps, sideKeeps};
 ghost use Rattle.branches.specs.Way.{wayOf, valueAlong, metAlong, metAlongBoth, goneAlong, metKeeps, goneKeeps};
 use rules::Act;
 use rules::Direction;
@@ -27,6 +27,19 @@ fn side_of(act: Act) -> Direction
         Act::New => Direction::Out,
         Act::Spawn => Direction::Out,
         Act::Assignment => Direction::Out,
+    }
+}
+
+// Whether an act is an assignment.
+fn is_assignment(act: Act) -> bool
+    ensures { λ r. ⌜ r ≡ assigns? act ⌝ }
+{
+    match act {
+        Act::Tau => false,
+        Act::Meeting(_) => false,
+        Act::New => false,
+        Act::Spawn => false,
+        Act::Assignment => true,
     }
 }
 
@@ -138,13 +151,10 @@ fn go_alone(state: &mut [u32; state::WORDS], t: u32, act: Act, node: u32, slot: 
     ensures { λ _. ⌜ stateOf (now (state .exit)) ≡ withThread (stateOf (now (state .entry))) t (gone act (thread (stateOf (now (state .entry))) t) node slot v) ⌝ }
 {
     writes::resume(state, t, node);
-    match act {
-        Act::Tau => {}
-        Act::Meeting(_) => {}
-        Act::New => {}
-        Act::Spawn => {}
-        Act::Assignment => writes::store(state, t, slot, v),
+    if !is_assignment(act) {
+        return;
     }
+    writes::store(state, t, slot, v);
 }
 
 // Thread t goes on after a tau or an assignment.
@@ -183,13 +193,10 @@ fn act_keeps(table: &[u8], index: &[u32], act: Act, d: u32, n: u32, k: u32) -> b
     requires { ⌜ Indexed (tableOf (now table)) (now index) ⌝ }
     ensures { λ r. ⌜ r ≡ actKeeps (tableOf (now (table .entry))) act d n k ⌝ }
 {
-    match act {
-        Act::Tau => is_within(table, index, d, n),
-        Act::Meeting(_) => is_within(table, index, d, n),
-        Act::New => is_within(table, index, d, n),
-        Act::Spawn => is_within(table, index, d, n),
-        Act::Assignment => spares_slot(table, index, d, n, k),
+    if is_assignment(act) {
+        return spares_slot(table, index, d, n, k);
     }
+    is_within(table, index, d, n)
 }
 
 // ... after a side of a meeting: the receiver writes slot k.

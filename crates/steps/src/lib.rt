@@ -11,11 +11,12 @@ ghost use Rattle.rules.specs.Holding.{settled};
 ghost use Rattle.rules.specs.Moves.{move, written, perform, metByBench};
 ghost use Rattle.rules.specs.Calls.{turnBy, Turned, turnEnd};
 ghost use Rattle.counts.specs.Shift.{settledTwo};
+ghost use Rattle.writes.specs.Calling.{callSlots};
 ghost use Rattle.granted.specs.Granted.{Granted};
 ghost use Rattle.engine_laws.specs.Sound.{Sound};
 ghost use Rattle.moves.specs.Top.{UsedBelow};
 ghost use Rattle.steps.specs.Counted.{Counted, weighedTo};
-ghost use Rattle.steps.specs.Made.{Writable, Alone, Paired, Creation, made};
+ghost use Rattle.steps.specs.Made.{Writable, Rewritten, Alone, Paired, Creation, made};
 ghost use Rattle.steps.specs.Top.{raisedBy};
 ghost use Rattle.rules.specs.declared.Move.the-variants.{Calls, Waits, Goes, Meets};
 ghost use Rattle.steps.specs.Keeping.{meetingKeeps};
@@ -68,16 +69,16 @@ fn write_meets(
     branches::write_meeting(table, index, state, t, own, u, other);
 }
 
-// What a move of thread t writes.
+// What a move of thread t writes, if it is no call.
 fn write_move(table: &[u8], index: &[u32], state: &mut [u32; state::WORDS], t: u32, m: Move)
     requires { ⌜ Indexed (tableOf (now table)) (now index) ⌝ }
     requires { ⌜ t < 64 ⌝ }
-    requires { ⌜ Writable t m ⌝ }
+    requires { ⌜ Rewritten t m ⌝ }
     ensures { λ _. ⌜ stateOf (now (state .exit)) ≡ written (tableOf (now (table .entry))) (stateOf (now (state .entry))) t m ⌝ }
 {
     match m {
         Move::Ends => writes::write_free(state, t),
-        Move::Calls => writes::write_call(table, index, state, t),
+        Move::Calls => {}
         Move::Waits => writes::write_waiting(state, t),
         Move::Goes(i) => write_goes(table, index, state, t, i),
         Move::Creates(i, c) => branches::write_creation(table, index, state, t, i, c),
@@ -88,12 +89,13 @@ fn write_move(table: &[u8], index: &[u32], state: &mut [u32; state::WORDS], t: u
     }
 }
 
-// A move that changes the row of thread t alone.
+// A move, no call, that changes the row of thread t alone.
 fn make_alone(table: &[u8], index: &[u32], state: &mut [u32; state::WORDS], t: u32, m: Move)
     requires { ⌜ Indexed (tableOf (now table)) (now index) ⌝ }
     requires { ⌜ t < 64 ⌝ }
     requires { ⌜ Counted (tableOf (now table)) (stateOf (now state)) ⌝ }
     requires { ⌜ Alone m ⌝ }
+    requires { ⌜ Rewritten t m ⌝ }
     ensures { λ _. ⌜ settled (tableOf (now (table .entry))) (stateOf (now (state .exit))) ≡ perform (tableOf (now (table .entry))) (settled (tableOf (now (table .entry))) (stateOf (now (state .entry)))) t m ⌝ }
     ensures { λ _. ⌜ Counted (tableOf (now (table .entry))) (stateOf (now (state .exit))) ⌝ }
 {
@@ -188,6 +190,27 @@ fn make_gone(table: &[u8], index: &[u32], state: &mut [u32; state::WORDS], t: u3
     make_alone(table, index, state, t, Move::Goes(i));
 }
 
+// Thread t makes the call at its node with its slots: with the upkeep in full.
+fn make_called(
+    table: &[u8],
+    index: &[u32],
+    state: &mut [u32; state::WORDS],
+    t: u32,
+    slots: &[u32; writes::SLOTS],
+)
+    requires { ⌜ Indexed (tableOf (now table)) (now index) ⌝ }
+    requires { ⌜ t < 64 ⌝ }
+    requires { ⌜ Counted (tableOf (now table)) (stateOf (now state)) ⌝ }
+    requires { ⌜ now slots ≡ callSlots (tableOf (now table)) (thread (stateOf (now state)) t) ⌝ }
+    ensures { λ _. ⌜ settled (tableOf (now (table .entry))) (stateOf (now (state .exit))) ≡ perform (tableOf (now (table .entry))) (settled (tableOf (now (table .entry))) (stateOf (now (state .entry)))) t Calls ⌝ }
+    ensures { λ _. ⌜ Counted (tableOf (now (table .entry))) (stateOf (now (state .exit))) ⌝ }
+{
+    let mut old = [0u8; counts::LIST];
+    let waits = counts::take_down(table, index, state, t, &mut old);
+    writes::enter_call(table, index, state, t, slots);
+    counts::settle_one(table, index, state, t, &old, waits);
+}
+
 // Thread t makes the call at its node. Where it is ready and will hold what it holds, no count changes.
 fn make_call(table: &[u8], index: &[u32], state: &mut [u32; state::WORDS], t: u32)
     requires { ⌜ Indexed (tableOf (now table)) (now index) ⌝ }
@@ -196,14 +219,14 @@ fn make_call(table: &[u8], index: &[u32], state: &mut [u32; state::WORDS], t: u3
     ensures { λ _. ⌜ settled (tableOf (now (table .entry))) (stateOf (now (state .exit))) ≡ perform (tableOf (now (table .entry))) (settled (tableOf (now (table .entry))) (stateOf (now (state .entry)))) t Calls ⌝ }
     ensures { λ _. ⌜ Counted (tableOf (now (table .entry))) (stateOf (now (state .exit))) ⌝ }
 {
-    if state::thread_word(state, t as usize, 0) == 1 {
-        let mut slots = [0u32; writes::SLOTS];
-        if writes::prepare_call(table, index, state, t, &mut slots) {
+    let mut slots = [0u32; writes::SLOTS];
+    if writes::prepare_call(table, index, state, t, &mut slots) {
+        if state::thread_word(state, t as usize, 0) == 1 {
             writes::enter_call(table, index, state, t, &slots);
             return;
         }
     }
-    make_alone(table, index, state, t, Move::Calls);
+    make_called(table, index, state, t, &slots);
 }
 
 // Thread t waits. Where it was ready, no count of holders changes.

@@ -324,17 +324,6 @@ fn port_slots(table: &[u8], index: &[u32], slots: &mut [u32; SLOTS])
     }
 }
 
-// Thread t makes the call at its node.
-pub fn write_call(table: &[u8], index: &[u32], state: &mut [u32; state::WORDS], t: u32)
-    requires { ⌜ Indexed (tableOf (now table)) (now index) ⌝ }
-    requires { ⌜ t < 64 ⌝ }
-    ensures { λ _. ⌜ stateOf (now (state .exit)) ≡ written (tableOf (now (table .entry))) (stateOf (now (state .entry))) t Calls ⌝ }
-{
-    let mut slots = [0u32; SLOTS];
-    prepare_call(table, index, state, t, &mut slots);
-    enter_call(table, index, state, t, &slots);
-}
-
 // Thread 0 enters definition 0 with the ports.
 pub fn write_start(table: &[u8], index: &[u32], state: &mut [u32; state::WORDS])
     requires { ⌜ Indexed (tableOf (now table)) (now index) ⌝ }

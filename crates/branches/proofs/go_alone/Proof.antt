@@ -1,4 +1,5 @@
-use Rattle.branches.proofs.Laws.{goings}
+use Rattle.branches.proofs.Laws.{act-passes, act-stores}
+use borrow.Author.Tests.{not-true, not-false}
 use borrow.Author.Needs.{needs}
 use Rattle.branches.proofs.go_alone.Statement.{statement}
 use Rattle.branches.proofs.go_alone.Tie as tie
@@ -8,14 +9,7 @@ go-alone-spec =
     tie.close
     (tie.spec
     (λ c κs. search needs)
-    (λ c. search needs)
-    (λ c. search needs)
-    (λ c. search needs)
-    (λ c. search needs)
-    (λ c. search needs)
     (λ c κs. search needs)
-    (λ c. search goings)
-    (λ c. search goings)
-    (λ c. search goings)
-    (λ c. search goings)
-    (λ c. search goings))
+    (λ c. search (act-passes, not-true))
+    (λ c κs. search needs)
+    (λ c. search (act-stores, not-false)))

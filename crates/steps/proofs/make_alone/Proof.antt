@@ -1,5 +1,4 @@
 use Rattle.steps.specs.Counted.Laws.{alone-made, alone-counted}
-use Rattle.steps.specs.Made.Laws.{alone-writable}
 use borrow.Author.Needs.{needs}
 use Rattle.steps.proofs.make_alone.Statement.{statement}
 use Rattle.steps.proofs.make_alone.Tie as tie
@@ -9,6 +8,6 @@ make-alone-spec =
     tie.close
     (tie.spec
     (λ c κs. search needs)
-    (λ c κs. (search, (search, search alone-writable)))
+    (λ c κs. search needs)
     (λ c κs. search needs)
     (λ c. (search alone-made, search alone-counted)))

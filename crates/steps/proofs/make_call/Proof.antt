@@ -1,11 +1,9 @@
 use Rattle.steps.specs.Keeping.Laws.{calls-made, calls-counted}
-use Rattle.steps.specs.Made.{Alone}
 use borrow.Author.Needs.{needs}
 use Rattle.steps.proofs.make_call.Statement.{statement}
 use Rattle.steps.proofs.make_call.Tie as tie
 
 pub make-call-spec : {M : Type 1} → statement M
-unfolding Alone
 make-call-spec =
     tie.close
     (tie.spec
@@ -13,5 +11,5 @@ make-call-spec =
     (λ c κs. search needs)
     (λ c κs. search needs)
     (λ c. (search calls-made, search calls-counted))
-    (λ c κs. (search, (search, (search, tt))))
+    (λ c κs. search needs)
     (λ c. search needs))

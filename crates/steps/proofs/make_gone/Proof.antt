@@ -1,11 +1,11 @@
 use Rattle.steps.specs.Keeping.Laws.{gone-made, gone-counted}
-use Rattle.steps.specs.Made.{Alone}
+use Rattle.steps.specs.Made.{Alone, Rewritten}
 use borrow.Author.Needs.{needs}
 use Rattle.steps.proofs.make_gone.Statement.{statement}
 use Rattle.steps.proofs.make_gone.Tie as tie
 
 pub make-gone-spec : {M : Type 1} → statement M
-unfolding Alone
+unfolding Alone Rewritten
 make-gone-spec =
     tie.close
     (tie.spec
@@ -17,5 +17,5 @@ make-gone-spec =
       search gone-made,
       gone-counted _ _ (search) _ _ (search) _ _ _ (c .write-gone .ensures) (c .before .before .before .gone-keeps .ensures) (search) (c .before .before .before .before .before .before .before .before .thread-word .ensures) (search),
     ))
-    (λ c κs. (search, (search, (search, tt))))
+    (λ c κs. (search, (search, (search, (tt, tt)))))
     (λ c. search needs))

@@ -29,7 +29,7 @@ use Rattle.branches.specs.declared.Way.{Way}
 use Rattle.granted.specs.Granted.{Granted}
 use Rattle.engine_laws.specs.Sound.{Sound}
 use Rattle.engine_laws.specs.Lasting.{move-kept, turn-kept}
-use Rattle.steps.specs.Made.{Writable, Alone, Paired, Creation, made}
+use Rattle.steps.specs.Made.{Writable, Rewritten, Alone, Paired, Creation, made}
 
 -- a mark that is moved besides changes nothing in this
 module _ (tb : Table) (s : State) (i v : ℕ) where
@@ -133,20 +133,27 @@ module _ (t : ℕ) (m : Move) where
   pub alone-from : (n : Move) → m ≡ n → Alone n → Alone m
   alone-from n e a = rw e a
 
-pub alone-writable : (t : ℕ) (m : Move) → Alone m → Writable t m
-unfolding Writable Alone
-alone-writable t Ends a = tt
-alone-writable t Calls a = tt
-alone-writable t Waits a = tt
-alone-writable t (Goes i) a = tt
-alone-writable t (Creates i c) a = absurd a
-alone-writable t (Spawns i u) a = absurd a
-alone-writable t (Meets i u j) a = absurd a
-alone-writable t LacksThread a = absurd a
-alone-writable t LacksChannel a = absurd a
+pub rewritten-writable : (t : ℕ) (m : Move) → Rewritten t m → Writable t m
+unfolding Writable Rewritten
+rewritten-writable t Ends a = tt
+rewritten-writable t Calls a = absurd a
+rewritten-writable t Waits a = tt
+rewritten-writable t (Goes i) a = tt
+rewritten-writable t (Creates i c) a = a
+rewritten-writable t (Spawns i u) a = a
+rewritten-writable t (Meets i u j) a = a
+rewritten-writable t LacksThread a = tt
+rewritten-writable t LacksChannel a = tt
 
-pub creation-writable : (t x : ℕ) (m : Move) → Creation x m → Writable t m
-unfolding Writable Creation
+pub rewritten-from : (t : ℕ) (m n : Move) → m ≡ n → Rewritten t n → Rewritten t m
+rewritten-from t m n e a = rw e a
+
+pub no-call : (tb : Table) (s s₁ : State) (t : ℕ) (m : Move) → m ≡ Calls → Rewritten t m → s₁ ≡ written tb s t m
+unfolding Rewritten
+no-call tb s s₁ t m e a = absurd (let z : Rewritten t Calls = rw e at a in z)
+
+pub creation-writable : (t x : ℕ) (m : Move) → Creation x m → Rewritten t m
+unfolding Rewritten Creation
 creation-writable t x Ends a = absurd a
 creation-writable t x Calls a = absurd a
 creation-writable t x Waits a = absurd a
@@ -157,8 +164,8 @@ creation-writable t x (Meets i u j) a = absurd a
 creation-writable t x LacksThread a = absurd a
 creation-writable t x LacksChannel a = absurd a
 
-pub paired-writable : (t x : ℕ) (m : Move) → Paired t x m → Writable t m
-unfolding Writable Paired
+pub paired-writable : (t x : ℕ) (m : Move) → Paired t x m → Rewritten t m
+unfolding Rewritten Paired
 paired-writable t x Ends a = absurd a
 paired-writable t x Calls a = absurd a
 paired-writable t x Waits a = absurd a
