@@ -110,8 +110,10 @@ Bare A = (t : Thread) → t ∈ A → t .commitments ≡ []
 bare-polar : (A : List Thread) → Bare A → Polar A
 bare-polar [] h = tt
 bare-polar (t ∷ A) h = (
-  (λ u i. ((λ ĉ v x Q R m n. absurd (let z : gives ĉ v Q ∈ [] = rw (h t (inl refl)) at m in z)),
-  (λ ĉ v x Q R m n. absurd (let z : takes ĉ x R ∈ [] = rw (h t (inl refl)) at n in z)))),
+  (λ u i. (
+    (λ ĉ v x Q R m n. absurd (let z : gives ĉ v Q ∈ [] = rw (h t (inl refl)) at m in z)),
+    (λ ĉ v x Q R m n. absurd (let z : takes ĉ x R ∈ [] = rw (h t (inl refl)) at n in z)),
+  )),
   bare-polar A (λ u i. h u (inr i)),
 )
 

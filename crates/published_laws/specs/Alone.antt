@@ -110,8 +110,11 @@ module _ (tb : Table) (g : Granted tb) (rd : Readable tb) (s : State) (o : Order
       let node = waiting-node row in
       let slots = waiting-slot row in
       waiting-thread tb (waitingRow row) (waiting-waits row)
-      ∙ rw (node, env-same tb row (waitingRow row) (rw node) slots,
-      commitments-same tb row (waitingRow row) node slots (waiting-guard row tb) (branchCount tb (standsAt row)) 0)
+      ∙ rw (
+        node,
+        env-same tb row (waitingRow row) (rw node) slots,
+        commitments-same tb row (waitingRow row) node slots (waiting-guard row tb) (branchCount tb (standsAt row)) 0,
+      )
 
   module _ (More : Agent → Agent → Type 0)
       (skips : (i : ℕ) → i < branchCount tb (standsAt (thread s t)) → guardHolds tb (branchAt tb (standsAt (thread s t)) i) (thread s t) ≡ false

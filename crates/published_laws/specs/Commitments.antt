@@ -105,17 +105,23 @@ module _ (tb : Table) (row : List ℕ) where
       caseB (isWaiting row)
       (λ w. let h : k ∈ commitmentsFrom tb row 0 (branchCount tb (standsAt row)) = rw w at i in
       let (j, a, b, g, (d, e, q)) = pledged-from k (branchCount tb (standsAt row)) 0 h in
-      let r = branchAt tb (standsAt row) j in
-      (d, fieldB tb r, processAt tb (nextOf tb (standsAt row) r), slotOf row (fieldA tb r), q, w,
-      λ l. offers-intro tb row d (slotOf row (fieldA tb r)) (record {
-        waits = w;
-        channel-in = l;
-        branch = j;
-        branch-in = omega arith;
-        passes = g;
-        does = e;
-        is = refl;
-      })))
+      let r = branchAt tb (standsAt row) j in (
+        d,
+        fieldB tb r,
+        processAt tb (nextOf tb (standsAt row) r),
+        slotOf row (fieldA tb r),
+        q,
+        w,
+        λ l. offers-intro tb row d (slotOf row (fieldA tb r)) (record {
+          waits = w;
+          channel-in = l;
+          branch = j;
+          branch-in = omega arith;
+          passes = g;
+          does = e;
+          is = refl;
+        }),
+      ))
       (λ w. absurd (let h : k ∈ [] = rw w at i in h))
 
   pub pledge-offers : (d : Direction) (c v : ℕ) (Q : Process) → pledge d c v Q ∈ threadOf tb row .commitments → c < maxChannels → offers tb row d c ≡ true

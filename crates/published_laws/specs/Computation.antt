@@ -86,9 +86,13 @@ module _ (table : List ℕ) (ok : accepted table ≡ true) (fit : (i : ℕ) → 
     stepped-by : (t : ℕ) (a : Stepped) → stepCall table state t .answer ≡ a → Leads state (stepCall table state t .state) E′ E′
     stepped-by t (Stepped.Done n d) e = record {
       acts-first = w;
-      from = λ o h. (o, h, stepped-reaches (bodyOf tb) Ours (agentOf tb (benchAt o E′) (view state)) (threadOf tb (thread (view state) t))
-          (agentOf tb (benchAt o E′) (view (stepCall table state t .state)))
-          (step-call-reduced table ok fit state sb (benchAt o E′) (bench-is tb o (own-refers o h) E′ w) t n d e));
+      from = λ o h. (
+        o,
+        h,
+        stepped-reaches (bodyOf tb) Ours (agentOf tb (benchAt o E′) (view state)) (threadOf tb (thread (view state) t))
+            (agentOf tb (benchAt o E′) (view (stepCall table state t .state)))
+            (step-call-reduced table ok fit state sb (benchAt o E′) (bench-is tb o (own-refers o h) E′ w) t n d e),
+      );
     }
     stepped-by t (Stepped.Refused r) e = nothing-happens state (stepCall table state t .state) (step-refused-keeps table state t r e) E′ w
 
@@ -128,9 +132,10 @@ module _ (table : List ℕ) (ok : accepted table ≡ true) (fit : (i : ℕ) → 
         (benchAt (some (Agents.number v)) (sending p))
         (agentOf tb (benchAt (some (Agents.number v)) E′) (view (giveCall table state p v .state)))
         (give-call-reduced table ok fit state sb (bodyOf tb) Ours p δ p (ports tb) E′ nothing (look-port tb (some (Agents.number v)) p (given-port p v u e)) v l
-        (look-own tb (some (Agents.number v))) (bench-is tb (some (Agents.number v)) (own-refers (some (Agents.number v)) (a-number v)) E′ w) u e) in
-        (choice (branch always (assign (ports tb) (constant v)) (sending p) nothing),
-        record { acts-first = refl; from = λ o h. (some (Agents.number v), a-number v, many-on (Reduces (bodyOf tb) Ours) (set-first p v o) last) })
+        (look-own tb (some (Agents.number v))) (bench-is tb (some (Agents.number v)) (own-refers (some (Agents.number v)) (a-number v)) E′ w) u e) in (
+          choice (branch always (assign (ports tb) (constant v)) (sending p) nothing),
+          record { acts-first = refl; from = λ o h. (some (Agents.number v), a-number v, many-on (Reduces (bodyOf tb) Ours) (set-first p v o) last) },
+        )
     given-by p v l Given.Nobody e = (E′, nothing-happens state (giveCall table state p v .state) (give-nobody-keeps table state p v e) E′ w)
     given-by p v l (Given.Refused r) e = (E′, nothing-happens state (giveCall table state p v .state) (give-refused-keeps table state p v r e) E′ w)
 
@@ -146,10 +151,13 @@ module _ (table : List ℕ) (ok : accepted table ≡ true) (fit : (i : ℕ) → 
 
     taken-by : (p : ℕ) (a : Taken) → takeCall table state p .answer ≡ a → (E : Process) × Leads state (takeCall table state p .state) E E′
     unfolding waiting someWait
-    taken-by p (Taken.Met u v) e = (receiving p, record {
-      acts-first = refl;
-      from = λ o h. (some (Agents.number v), a-number v, received o);
-    })
+    taken-by p (Taken.Met u v) e = (
+      receiving p,
+      record {
+        acts-first = refl;
+        from = λ o h. (some (Agents.number v), a-number v, received o);
+      },
+    )
       where
         received : (o : Option Value) → Reaches (bodyOf tb) Ours (agentOf tb (benchAt o (receiving p)) (view state))
             (agentOf tb (benchAt (some (Agents.number v)) E′) (view (takeCall table state p .state)))
@@ -219,6 +227,8 @@ module _ (table : List ℕ) (ok : accepted table ≡ true) (fit : (i : ℕ) → 
   reached-polarity state long ks E′ w =
       let (E, h) = computation state long ks E′ w in
       let (o′, i, p) = h .from none no-number in
-      let p′ = rw (start-view state long) at p in
-      (o′, our-proposition-2 (bodyOf tb) (agentOf tb (benchAt none E) (started tb)) (agentOf tb (benchAt o′ E′) (view (reachedBy table state ks)))
-      (start-bare none E) p′)
+      let p′ = rw (start-view state long) at p in (
+        o′,
+        our-proposition-2 (bodyOf tb) (agentOf tb (benchAt none E) (started tb)) (agentOf tb (benchAt o′ E′) (view (reachedBy table state ks)))
+            (start-bare none E) p′,
+      )

@@ -101,10 +101,12 @@ module _ (tb : Table) (row : List ℕ) where
 
   held-env : (c : ℕ) → holds tb row c ≡ true → (x : ℕ) × (look (envOf tb row) x ≡ some (Agents.channel c))
   held-env c e =
-      let h = holds-elim tb row c e in
-      (h .slot, look-env (h .slot) (h .slot-in) ∙ slot-value (h .slot) (h .slot-own)
-      ∙ ap (λ v. valueAs (slotType tb (definitionOf tb (standsAt row)) (h .slot)) v) (h .is)
-      ∙ channel-value (slotType tb (definitionOf tb (standsAt row)) (h .slot)) c (h .typed) (h .channel-in))
+      let h = holds-elim tb row c e in (
+        h .slot,
+        look-env (h .slot) (h .slot-in) ∙ slot-value (h .slot) (h .slot-own)
+            ∙ ap (λ v. valueAs (slotType tb (definitionOf tb (standsAt row)) (h .slot)) v) (h .is)
+            ∙ channel-value (slotType tb (definitionOf tb (standsAt row)) (h .slot)) c (h .typed) (h .channel-in),
+      )
 
   -- a thread with this environment knows just what the row holds
   pub knows-held : inUse row ≡ true → (c : ℕ) (t : Thread) → t .env ≡ envOf tb row → knows c t ≡ holds tb row c
@@ -185,8 +187,14 @@ module _ (tb : Table) (g : Granted tb) (rd : Readable tb) (ty : ℕ → ℕ) (ro
         (λ f. caseB (eqb (at tb b 4) 3) (λ j. clash (let q = rw (e, f, j) at m in cc))
         (λ j. caseB (eqb (at tb b 4) 4) (λ k. clash (let q = rw (e, f, j, k) at m in cc))
         (λ k. caseB (eqb (at tb b 4) 0) (λ z. clash (let q = rw (e, f, j, k, z) at m in cc))
-        (λ z. omega (arith, eqb-false (at tb b 4) 0 z, eqb-false (at tb b 4) 1 e, eqb-false (at tb b 4) 2 f,
-        eqb-false (at tb b 4) 3 j, eqb-false (at tb b 4) 4 k))))))
+        (λ z. omega (
+          arith,
+          eqb-false (at tb b 4) 0 z,
+          eqb-false (at tb b 4) 1 e,
+          eqb-false (at tb b 4) 2 f,
+          eqb-false (at tb b 4) 3 j,
+          eqb-false (at tb b 4) 4 k,
+        ))))))
 
     -- what is assigned
     pub assigned-same : actOf tb (branchAt tb (standsAt row) i) ≡ Assignment

@@ -200,7 +200,6 @@ module _ (tb : Table) (g : Granted tb) (rd : Readable tb) (s : State) (o : Order
       (skips : (i : ℕ) → i < branchCount tb (standsAt (thread s t)) → guardHolds tb (branchAt tb (standsAt (thread s t)) i) (thread s t) ≡ false
       → (A C : Agent) → Ours A C → More A C)
       (B : List Thread) (among : (x : Thread) → x ∈ B → x ∈ others) (Δ : Channels) where
-
     -- what branch i leaves
     unfoldable pub left-by : ℕ → List Commitment
     left-by i =

@@ -41,10 +41,14 @@ module _ (tb : Table) (g : Granted tb) (d : Readable tb) where
   unfolding nodeProcess
   node-same f f′ n l h =
       caseB (eqb (kindOf tb n) 1)
-      (λ e. rw (e, sum-same tb f f′ nothing n 0 (branchCount tb n) (λ j a b. let x = g .branch n j l (omega arith) in
-      let y = d .reading n j l (omega arith) in
-      (h (nextOf tb n (branchAt tb n j)) (y .next-later) (x .next .inside),
-      λ s. h (childOf tb n (branchAt tb n j)) (y .child-later s) (x .child s .inside)))))
+      (λ e. rw (
+        e,
+        sum-same tb f f′ nothing n 0 (branchCount tb n) (λ j a b. let x = g .branch n j l (omega arith) in
+            let y = d .reading n j l (omega arith) in (
+              h (nextOf tb n (branchAt tb n j)) (y .next-later) (x .next .inside),
+              λ s. h (childOf tb n (branchAt tb n j)) (y .child-later s) (x .child s .inside),
+            )),
+      ))
       (λ e. rw e)
 
   -- two depths that are enough give the same
