@@ -39,9 +39,15 @@ median() {
 
 echo "nanoseconds for one rendezvous, medians of $rounds rounds; $(go version); $(nproc) processors"
 printf '%-12s%10s%18s%8s%18s%8s\n' load archive "Go on one" ratio "Go on all" ratio
-for load in ping-pong select; do
-    ours=$(median archive "$load") one=$(median go-one "$load") all=$(median go-all "$load")
-    awk -v load="$load" -v ours="$ours" -v one="$one" -v all="$all" 'BEGIN {
+# line LOAD GO_LOAD: goroutines have no calls between their rounds, so that a rally is their ping-pong too.
+line() {
+    local ours one all
+    ours=$(median archive "$1") one=$(median go-one "$2") all=$(median go-all "$2")
+    awk -v load="$1" -v ours="$ours" -v one="$one" -v all="$all" 'BEGIN {
         printf "%-12s%10.1f%18.1f%8.2f%18.1f%8.2f\n", load, ours, one, one / ours, all, all / ours
     }'
-done
+}
+
+line rally ping-pong
+line ping-pong ping-pong
+line select select

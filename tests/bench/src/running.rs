@@ -2,7 +2,7 @@
 
 use std::hint::black_box;
 
-use generate::procedures::{crowd, ping_pong, reckoner, selecting};
+use generate::procedures::{crowd, ping_pong, rally, reckoner, selecting};
 use generate::{table_of, File, Words, WAITING};
 use interface::{Engine, STATE_BYTES};
 
@@ -29,7 +29,7 @@ pub fn report() {
 /// Prints, for each load that other languages have too, its name and the archive's nanoseconds for one
 /// rendezvous.
 pub fn report_meetings() {
-    for (name, file) in [("ping-pong", ping_pong()), ("select", selecting())] {
+    for (name, file) in [("rally", rally()), ("ping-pong", ping_pong()), ("select", selecting())] {
         println!("{name} {:.1}", times(&file, meetings(&file)).archive * 1e9);
     }
 }

@@ -157,6 +157,7 @@ fn hand_made() -> Vec<(&'static str, File)> {
         ("64 in a clique at a port", clique(0)),
     ];
     files.extend(standstills::all());
+    files.push(("rally", procedures::rally()));
     files
 }
 

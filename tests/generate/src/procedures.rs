@@ -20,6 +20,22 @@ pub fn ping_pong() -> File {
     compose(&[0], 0, &[opening, first, second])
 }
 
+/// The same, forty times to and fro between one call and the next.
+pub fn rally() -> File {
+    let opening = definition(
+        0,
+        &[1, 0],
+        vec![one(go(new(0), 1)), one(go(set(1, 7), 2)), one(spawn(3, 4)), call(1, &[0, 1]), call(2, &[0, 1])],
+    );
+    let side = |own: i16, begins: bool| {
+        let turn = |place: i16| if (place % 2 == 0) == begins { send(0, 1) } else { receive(0, 1) };
+        let mut nodes: Vec<_> = (0..80).map(|place| one(go(turn(place), place + 1))).collect();
+        nodes.push(call(own, &[0, 1]));
+        definition(2, &[1, 0], nodes)
+    };
+    compose(&[0], 0, &[opening, side(1, true), side(2, false)])
+}
+
 /// One thread sends on two channels in turn, the other receives from whichever it can, for ever.
 pub fn selecting() -> File {
     let nodes = vec![
