@@ -51,12 +51,13 @@ endless() {
     (yes || true) | timeout 10 "$program" >"$scratch/printed" && cmp "$scratch/wanted" "$scratch/printed"
 }
 
-# Nothing is printed, and standard error begins with what could not be read or written.
+# A folder cannot be read: nothing is printed, and standard error says so.
 cannot_read() {
     "$program" <"$root" >"$scratch/printed" 2>"$scratch/said" || true
     [ ! -s "$scratch/printed" ] && grep -q '^standard input: ' "$scratch/said"
 }
 
+# Nothing more can be written to a full device.
 cannot_write() {
     "$program" <examples/listing.txt >/dev/full 2>"$scratch/said" || true
     grep -q '^standard output: ' "$scratch/said"

@@ -24,25 +24,26 @@ use Rattle.collector.specs.Collect.{taken, collected, takenCount}
 
 -- ---- characters, columns and lines
 
--- the characters of a text, each as its number
+-- the characters of a quoted text, each as its number
 unfoldable pub characters : String → List ℕ
 characters ends = []
 characters (c then s) = code c ∷ characters s
 
--- the column of a number, given by its 32-bit pattern: the six characters of the same number's 16-bit pattern. Every number of a listing is within 16 bits
--- (`worked/specs/Shown.antt`)
+-- the column of a number that is given by its 32-bit pattern: the six characters of the same number's 16-bit pattern. Every number of a listing is within
+-- 16 bits (`worked/specs/Shown.antt`)
 unfoldable pub column : ℕ → List ℕ
 column v = text (v % 65536)
 
+-- a line: columns and a newline
 unfoldable pub line : List ℕ → List ℕ
 line vs = joined (map column vs) ++ (10 ∷ [])
 
 unfoldable pub heading : List ℕ
 heading = characters "  STEPTHREAD  NODE   ACTBRANCH  WITH\n"
 
--- ---- a run
+-- ---- a run, and a collection after it
 
--- step k, of thread t; a step that is refused has no line
+-- the line of step k, by thread t and what the step answers; a step that is refused has none
 unfoldable pub stepLine : ℕ → ℕ → Stepped → List ℕ
 stepLine k t (Done n d) = line (k ∷ t ∷ n ∷ actNumber d ∷ branchNumber d ∷ partnerNumber d ∷ [])
 stepLine k t (Refused r) = []
@@ -55,26 +56,27 @@ abbrev pub maxSteps : ℕ
 maxSteps = 1000
 
 module _ (tb : Table) where
-  -- step k of a run that has come to state s
+  -- the line of step k, which the next ready thread of state s makes
   unfoldable pub turnLine : ℕ → State → List ℕ
   turnLine k s = stepLine k (nextReady s) (stepAnswer (standsAt (thread s (nextReady s))) (move tb s (nextReady s)))
 
-  -- the steps of the run from state s: before the step after i others it has come to the state in which a run of i steps ends
+  -- the lines of the steps of the run from state s: i of them lead to the state in which a run of i steps ends, and there the next one is made
   unfoldable pub stepLines : State → List ℕ
   stepLines s = joined (tabulate (courseOf tb maxSteps s .steps) (λ i. turnLine (suc i) (courseOf tb i s .state)))
 
-  -- how the run ended, and what a collection after it takes and leaves
+  -- the closing line: how the run ended, and what a collection then takes and leaves
   unfoldable pub closingLine : Course → List ℕ
   closingLine k =
       line (k .steps ∷ reasonNumber (k .reason) ∷ heldUpNumber (k .reason) ∷ takenCount tb (k .state) ∷ channelsInUse (collected tb (k .state)) ∷ [])
 
-  -- the threads that a collection in state s takes, and the nodes at which they waited
+  -- the lines of the threads that a collection in state s takes, lowest first: the thread and the node at which it waited
   unfoldable pub takenLine : State → ℕ → List ℕ
   takenLine s t = cond (taken tb s t) (line (t ∷ standsAt (thread s t) ∷ [])) []
 
   unfoldable pub takenLines : State → List ℕ
   takenLines s = joined (tabulate maxThreads (takenLine s))
 
+  -- all of it, from the start of a table
   unfoldable pub runLines : List ℕ
   runLines =
       heading
@@ -82,7 +84,9 @@ module _ (tb : Table) where
       ++ (closingLine (courseOf tb maxSteps (started tb))
       ++ takenLines (courseOf tb maxSteps (started tb) .state)))
 
--- ---- a file: a refused one has one line, the ground and the line at fault
+-- ---- a file
+
+-- a refused one has one line alone: the ground and the line at fault
 unfoldable pub listingBy : Verdict → List ℕ → List ℕ
 listingBy (Fault g l) file = line (groundNumber g ∷ l ∷ [])
 listingBy Sound file = runLines (fileTable file)

@@ -2,9 +2,6 @@
 ghost use mathlib.Core.Path.{_≡_};
 ghost use Prim.Native.Nat.{_≤_};
 ghost use Rattle.loader.specs.Load.{refusalNumber, lineNumber};
-ghost use Prim.Native.Nat.{_<_};
-ghost use mir.Syntax.{w32};
-ghost use mir.Val.{ofZ};
 ghost use Rattle.pithread.specs.Interface.{LoadResult, loadResult, StateResult, startFields, startNumbers, startResult, stepNumbers, stepFields, stepResult, giveNumbers, giveFields, giveResult, takeNumbers, takeFields, takeResult, runNumbers, runFields, runResult, collectNumbers, collectFields, collectResult};
 use collector::Collected;
 use loader::Loaded;

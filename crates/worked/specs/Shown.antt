@@ -9,7 +9,7 @@ use mathlib.Core.Bool.{Bool, true, not}
 use mathlib.Core.List.{List, [], _∷_}
 use lib.Dec.{ltb}
 use lib.ListN.{getD}
-use borrow.Author.Tests.{le-ltb, ltb-true}
+use borrow.Author.Tests.{lt-ltb, le-ltb, ltb-true}
 use Rattle.numbers.specs.Bytes.{joined}
 use Rattle.numbers.specs.Bytes.Laws.{encode-below}
 use Rattle.numbers.specs.Count.{bit}
@@ -31,8 +31,8 @@ use Rattle.loading.specs.Printed.{sound-read, sound-bytes}
 use Rattle.loading.specs.Yields.{file-shaped, length-bytes, bytes-hold, sound-loads, accepted-iff}
 use Rattle.state.specs.State.{State, minusOne, maxThreads, maxChannels, thread, standsAt, inUse, isReady}
 use Rattle.rules.specs.Start.{started}
-use Rattle.rules.specs.Moves.{isFreeChannel, move}
-use Rattle.rules.specs.Calls.{stepAnswer, nextReady, turnBy, Course, oneMore, onward, takeTurn, courseOf}
+use Rattle.rules.specs.Moves.{isFreeChannel, move, perform}
+use Rattle.rules.specs.Calls.{stepAnswer, nextReady, pastTurn, turnBy, Course, oneMore, onward, turnEnd, takeTurn, courseOf}
 use Rattle.rules.specs.declared.Move.{Move}
 use Rattle.rules.specs.declared.Move.the-variants.{Ends, Calls, Waits, Goes, Creates, Spawns, Meets, LacksThread, LacksChannel}
 use Rattle.rules.specs.declared.Deed.{Deed}
@@ -108,21 +108,24 @@ module _ (tb : Table) (s : State) (n : ℕ) where
       let e : courseOf tb n s .steps ≡ i + courseOf tb (n - i) s₁ .steps = ap (λ (k : Course). k .steps) (c n l) in
       went-first tb (n - i) s₁ (omega arith)
 
+  -- and its next turn leads on
+  comes : (i : ℕ) → Come tb s i (courseOf tb i s .state) → i < courseOf tb n s .steps → Come tb s (suc i) (takeTurn tb (courseOf tb i s .state) .state)
+  comes i c h =
+      let s₁ : State = courseOf tb i s .state in
+      rw (add-one i) at (come-more tb s i s₁ (takeTurn tb s₁ .state) (takeTurn tb s₁ .turn) c refl (went-after i s₁ c h))
+
   -- the run comes to the state in which a run of i steps ends
   came : (i : ℕ) → i ≤ courseOf tb n s .steps → Come tb s i (courseOf tb i s .state)
   unfolding courseOf
   came zero h = come-none tb s
-  came (suc i) h =
-      let s₁ : State = courseOf tb i s .state in
-      let c : Come tb s i s₁ = came i (omega arith) in
-      let w : takeTurn tb s₁ .turn ≡ Went = went-after i s₁ c (omega arith) in
-      let m : Come tb s (i + 1) (takeTurn tb s₁ .state) = come-more tb s i s₁ (takeTurn tb s₁ .state) (takeTurn tb s₁ .turn) c refl w in
-      let q : Come tb s (suc i) (takeTurn tb s₁ .state) = rw (add-one i) at m in
-      rw (come-state tb s (suc i) (takeTurn tb s₁ .state) q) q
+  came (suc i) h = let c = comes i (came i (omega arith)) (omega arith) in rw (come-state tb s (suc i) _ c) c
 
-  -- each step before the last is one
+  -- each of its turns is a step, and leads to the state of the next
   went : (i : ℕ) → i < courseOf tb n s .steps → takeTurn tb (courseOf tb i s .state) .turn ≡ Went
   went i h = went-after i (courseOf tb i s .state) (came i (omega arith)) h
+
+  leads : (i : ℕ) → i < courseOf tb n s .steps → courseOf tb (suc i) s .state ≡ takeTurn tb (courseOf tb i s .state) .state
+  leads i h = come-state tb s (suc i) _ (comes i (came i (omega arith)) h)
 
 -- ---- a step
 
@@ -169,6 +172,10 @@ module _ (tb : Table) (g : Granted tb) (few : (n : ℕ) → n < nodes tb → bra
       caseB (ltb (nextReady s) maxThreads)
       (λ y. (ltb-true (nextReady s) maxThreads y, sym (end-turn tb s (nextReady s) (turnBy (nextReady s) (move tb s (nextReady s)))) ∙ rw y at w))
       (λ y. clash (let z : _≡_ {A = Turn} (Stopped NoneReady) Went = rw y at w in cc))
+
+  turn-leads : takeTurn tb s .turn ≡ Went → takeTurn tb s .state ≡ pastTurn (perform tb s (nextReady s) (move tb s (nextReady s))) (nextReady s)
+  unfolding takeTurn turnEnd
+  turn-leads w = let (l, b) = ready-next w in rw (lt-ltb (nextReady s) maxThreads l, b)
 
   turn-shown : (k : ℕ) → k ≤ maxSteps → takeTurn tb s .turn ≡ Went
       → (n : ℕ) × (d : Deed) × (stepAnswer (standsAt (thread s (nextReady s))) (move tb s (nextReady s)) ≡ Done n d)
@@ -279,6 +286,13 @@ module _ (file : List ℕ) (e : verdict file ≡ Verdict.Sound) where
   step-shown i h =
       turn-shown tb grants few-branches (courseOf tb i (started tb) .state) (sound-after i) (suc i) (omega (arith, course-few tb maxSteps (started tb)))
       (went tb (started tb) maxSteps i h)
+
+  -- and the steps are those of one run: each leads to the state in which the next is made
+  pub step-leads : (i : ℕ) → i < run .steps → let s : State = courseOf tb i (started tb) .state in
+      courseOf tb (suc i) (started tb) .state ≡ pastTurn (perform tb s (nextReady s) (move tb s (nextReady s))) (nextReady s)
+  step-leads i h =
+      leads tb (started tb) maxSteps i h
+      ∙ turn-leads tb grants few-branches (courseOf tb i (started tb) .state) (sound-after i) (went tb (started tb) maxSteps i h)
 
   pub closing-shown :
       AllShown (run .steps ∷ reasonNumber (run .reason) ∷ heldUpNumber (run .reason) ∷ takenCount tb (run .state) ∷ channelsInUse (collected tb (run .state)) ∷ [])

@@ -1,5 +1,5 @@
 -- `lines::list_gone` meets its contract. The loop: the lines of the threads before the t-th are laid. Assumes nothing.
-use Prim.Native.Nat.{_+_, _*_, _≤_, _-_}
+use Prim.Native.Nat.{_+_, _≤_, _-_}
 use mathlib.Core.Path.{_≡_}
 use lib.ListN.{length}
 use lib.Seq.{sets}

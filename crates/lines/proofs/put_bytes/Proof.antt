@@ -1,5 +1,5 @@
 -- `lines::put_bytes` meets its contract. The loop: the first i bytes are laid. Assumes nothing.
-use Prim.Native.Nat.{_+_, _≤_, _-_}
+use Prim.Native.Nat.{_≤_, _-_}
 use mathlib.Core.Path.{_≡_}
 use lib.ListN.{length, take, length-set}
 use lib.Seq.{sets}

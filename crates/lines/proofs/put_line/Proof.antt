@@ -1,5 +1,5 @@
 -- `lines::put_line` meets its contract. The loop: the columns of the first i numbers are laid. Assumes nothing.
-use Prim.Native.Nat.{_+_, _≤_, _-_}
+use Prim.Native.Nat.{_≤_, _-_}
 use mathlib.Core.Path.{_≡_}
 use lib.ListN.{length}
 use lib.Seq.{sets}

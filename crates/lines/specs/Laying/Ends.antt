@@ -2,8 +2,8 @@
 use Prim.Native.Nat.{ℕ, zero, suc, _+_, _*_, _%_, _<_, _≤_}
 use native.Mathlib.Omega.{arith}
 use native.Mathlib.Numerals.{add-one}
-use mathlib.Core.Path.{_≡_, refl, sym, _∙_, ap}
-use mathlib.Core.Bool.{Bool, true, false, not, _&&_, cond}
+use mathlib.Core.Path.{_≡_, sym, _∙_}
+use mathlib.Core.Bool.{false, not, _&&_}
 use mathlib.Core.List.{List, [], _∷_, _++_}
 use lib.Dec.{eqb}
 use lib.ListN.{length, length-append}
@@ -20,7 +20,7 @@ use Rattle.state.specs.State.{State, maxThreads, thread, standsAt, status, inUs
 use Rattle.rules.specs.Calls.{course}
 use Rattle.rules.specs.declared.Reason.{Reason}
 use Rattle.engine.specs.Numbers.{reasonNumber, heldUpNumber}
-use Rattle.collector.specs.Collect.{taken, collected, takenCount}
+use Rattle.collector.specs.Collect.{collected, takenCount}
 use Rattle.collector.specs.Collect.Laws.{taken-shows}
 use Rattle.lines.specs.Listing.{line, channelsInUse, closingLine, takenLine, takenLines}
 use Rattle.lines.specs.Laying.{goneLine, goneLines, endLines}

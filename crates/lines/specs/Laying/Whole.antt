@@ -1,8 +1,8 @@
 -- The listing of an accepted table and of a file, laid as a whole. Assumes nothing.
-use Prim.Native.Nat.{ℕ, zero, suc, _+_, _*_, _<_, _≤_}
+use Prim.Native.Nat.{ℕ, zero, suc, _+_, _*_, _≤_}
 use native.Mathlib.Omega.{arith}
-use mathlib.Core.Path.{_≡_, refl, sym, _∙_, ap}
-use mathlib.Core.Bool.{Bool, true, false, cond}
+use mathlib.Core.Path.{_≡_, sym, _∙_, ap}
+use mathlib.Core.Bool.{Bool, true}
 use mathlib.Core.List.{List, [], _∷_, _++_}
 use mir.Syntax.{w8}
 use mir.Val.{Fits}
@@ -29,8 +29,7 @@ use Rattle.loading.specs.Yields.{file-shaped, bytes-hold, done-sound, accepted-
 use Rattle.state.specs.State.{State, maxThreads, thread, standsAt}
 use Rattle.rules.specs.Holding.{settled}
 use Rattle.rules.specs.Start.{started}
-use Rattle.rules.specs.Moves.{move}
-use Rattle.rules.specs.Calls.{stepAnswer, nextReady, Course, course, oneMore, onward, takeTurn, courseOf}
+use Rattle.rules.specs.Calls.{Course, course, oneMore, onward, takeTurn, courseOf}
 use Rattle.rules.specs.declared.Reason.{Reason}
 use Rattle.rules.specs.declared.Turn.{Turn}
 use Rattle.rules.specs.declared.Turn.the-variants.{Went, Stopped}
@@ -44,7 +43,7 @@ use Rattle.engine_laws.specs.Sound as Sound
 use Rattle.engine_laws.specs.Started.{started-sound}
 use Rattle.collector.specs.Collect.{taken}
 use Rattle.lines.specs.Listing.{characters, line, heading, stepLine, maxSteps, turnLine, stepLines, closingLine, takenLine, takenLines, runLines, listingBy, listing}
-use Rattle.lines.specs.Laying.{longest, linesTo, endLines}
+use Rattle.lines.specs.Laying.{longest, endLines}
 use Rattle.lines.specs.Laying.Lines.{sets-append, joined-snoc, take-sets, drop-sets, length-line}
 
 -- ---- an accepted table

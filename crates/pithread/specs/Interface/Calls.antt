@@ -7,7 +7,7 @@ use mir.Syntax.{w32}
 use mir.Val.{Fits, SFits, toZ, ofZ}
 use mir.Facts.{toZ-ofZ, ofZ-toZ}
 use Rattle.state.specs.State.{minusOne}
-use Rattle.rules.specs.Calls.{Outcome, outcome, startCall, stepCall, giveCall, takeCall, runCall}
+use Rattle.rules.specs.Calls.{outcome, startCall, stepCall, giveCall, takeCall, runCall}
 use Rattle.rules.specs.declared.Refusal.{Refusal}
 use Rattle.rules.specs.declared.Deed.{Deed}
 use Rattle.rules.specs.declared.Reason.{Reason}
