@@ -8,7 +8,7 @@ use mathlib.Core.Bool.{Bool, true, false}
 use Rattle.numbers.specs.Search.Laws.{contra}
 use Rattle.numbers.specs.Rows.{at}
 use Rattle.table.specs.Table.{Table}
-use Rattle.state.specs.State.{State, stateOf, thread, standsAt, withThread}
+use Rattle.state.specs.State.{State, stateOf, thread, standsAt, slotOf, withThread}
 use Rattle.state.specs.State.Laws.{length-threads, thread-same, thread-other, thread-twice}
 use Rattle.rules.specs.Program.{branchAt, nextOf}
 use Rattle.rules.specs.Moves.{resumed, stored, met, gone, sideOf, createdBy}
@@ -16,9 +16,11 @@ use Rattle.rules.specs.declared.Direction.{Direction}
 use Rattle.rules.specs.declared.Direction.the-variants.{Out, In}
 use Rattle.rules.specs.declared.Act.{Act}
 use Rattle.rules.specs.declared.Act.the-variants.{Tau, Meeting, New, Spawn, Assignment}
-use Rattle.branches.specs.Keeping.{assigns?}
-use Rattle.branches.specs.Way.{valueAlong, metAlong, metAlongBoth}
-use Rattle.branches.specs.declared.Way.{Way}
+use Rattle.branches.specs.Passed.{passed}
+use Rattle.branches.specs.Way.{assigns?}
+
+pub assigns-arm : (r : Bool) (a b : Act) → a ≡ b → r ≡ assigns? b → r ≡ assigns? a
+assigns-arm r a b e f = rw e f
 
 pub side-arm : (r : Direction) (a b : Act) → a ≡ b → r ≡ sideOf b → r ≡ sideOf a
 side-arm r a b e f = rw e f
@@ -68,17 +70,12 @@ module _ (b : List ℕ) (t n k v : ℕ) (s₁ : State) (e : s₁ ≡ withThread 
 
 pub ruleset goings = (sender-goes, receiver-goes, act-passes, act-stores)
 
--- ---- two rows
+-- ---- two rows: thread t sends, and thread u receives
 
-module _ (tb : Table) (s s₁ s₂ : State) (t : ℕ) (own : Way) (x u : ℕ) (other : Way) (y : ℕ) where
-  pub both-go : s₂ ≡ withThread s₁ u (metAlong tb (thread s₁ u) other y) → s₁ ≡ withThread s t (metAlong tb (thread s t) own x)
-      → u ≢ t → s₂ ≡ withThread (withThread s t (metAlong tb (thread s t) own x)) u (metAlong tb (thread s u) other y)
-  both-go e f n =
-      let w : thread s₁ u ≡ thread s u = ap (λ (z : State). thread z u) f ∙ thread-other s t (metAlong tb (thread s t) own x) u n in
-      e ∙ rw (w, f)
-
-module _ (tb : Table) (s s₁ : State) (t : ℕ) (own : Way) (x u : ℕ) (other : Way) (y : ℕ) where
-  pub meeting-goes-on : s₁ ≡ withThread (withThread s t (metAlong tb (thread s t) own x)) u (metAlong tb (thread s u) other y)
-      → x ≡ valueAlong tb (thread s u) other → y ≡ valueAlong tb (thread s t) own → s₁ ≡ metAlongBoth tb s t own u other
-  unfolding metAlongBoth
-  meeting-goes-on e f g = e ∙ rw (f, g)
+pub passed-on : (tb : Table) (s s₁ s₂ : State) (t a u b n m k v x y z : ℕ) → s₂ ≡ withThread s₁ u (met In (thread s₁ u) m k v) → s₁ ≡ withThread s t (resumed (thread s t) n)
+    → u ≢ t → n ≡ nextOf tb y a → y ≡ standsAt (thread s t) → m ≡ nextOf tb z b → z ≡ standsAt (thread s u) → k ≡ at tb b 6 → x ≡ at tb a 6 → v ≡ slotOf (thread s t) x
+    → s₂ ≡ passed tb s t a u b
+unfolding passed
+passed-on tb s s₁ s₂ t a u b n m k v x y z e f o p i q j g h l =
+    let w : thread s₁ u ≡ thread s u = ap (λ (r : State). thread r u) f ∙ thread-other s t (resumed (thread s t) n) u o in
+    e ∙ rw (w, f, p, i, q, j, g, l, h)

@@ -1,2 +1,2 @@
-pub mod Keeping
+pub mod Passed
 pub mod Way

@@ -8,8 +8,8 @@ ghost use Rattle.state.specs.State.{stateOf, thread, withThread};
 ghost use Rattle.rules.specs.Program.{actOf};
 ghost use Rattle.rules.specs.Moves.{met, gone, createdBy, typeBy, sideOf, typed, spawnedBy, written};
 ghost use Rattle.rules.specs.declared.Move.the-variants.{Creates, Spawns};
-ghost use Rattle.branches.specs.Keeping.{assigns?, within, spares, actKeeps, sideKeeps};
-ghost use Rattle.branches.specs.Way.{wayOf, valueAlong, metAlong, metAlongBoth, goneAlong, metKeeps, goneKeeps};
+ghost use Rattle.branches.specs.Way.{assigns?, wayOf, valueAlong, metAlong, goneAlong};
+ghost use Rattle.branches.specs.Passed.{passed};
 use rules::Act;
 use rules::Direction;
 
@@ -102,47 +102,28 @@ pub fn write_met(
     go_on(state, t, side_of(act), way.next, slot, v);
 }
 
-// Threads t and u go on after their meeting, at which t is given x and u is given y.
-fn write_both(
+// Thread t goes on after the send in a row, and thread u after the receive in another, with what t gives in its slot.
+pub fn write_passed(
     table: &[u8],
     index: &[u32],
     state: &mut [u32; state::WORDS],
     t: u32,
-    own: Way,
-    x: u32,
+    send: usize,
     u: u32,
-    other: Way,
-    y: u32,
+    receive: usize,
 )
     requires { ⌜ Indexed (tableOf (now table)) (now index) ⌝ }
     requires { ⌜ t < 64 ⌝ }
     requires { ⌜ u < 64 ⌝ }
     requires { ⌜ u ≢ t ⌝ }
-    ensures { λ _. ⌜ stateOf (now (state .exit)) ≡ withThread (withThread (stateOf (now (state .entry))) t (metAlong (tableOf (now (table .entry))) (thread (stateOf (now (state .entry))) t) own x)) u (metAlong (tableOf (now (table .entry))) (thread (stateOf (now (state .entry))) u) other y) ⌝ }
+    ensures { λ _. ⌜ stateOf (now (state .exit)) ≡ passed (tableOf (now (table .entry))) (stateOf (now (state .entry))) t send u receive ⌝ }
 {
-    write_met(table, index, state, t, own, x);
-    write_met(table, index, state, u, other, y);
-}
-
-// The same, with what they give each other.
-pub fn write_meeting(
-    table: &[u8],
-    index: &[u32],
-    state: &mut [u32; state::WORDS],
-    t: u32,
-    own: Way,
-    u: u32,
-    other: Way,
-)
-    requires { ⌜ Indexed (tableOf (now table)) (now index) ⌝ }
-    requires { ⌜ t < 64 ⌝ }
-    requires { ⌜ u < 64 ⌝ }
-    requires { ⌜ u ≢ t ⌝ }
-    ensures { λ _. ⌜ stateOf (now (state .exit)) ≡ metAlongBoth (tableOf (now (table .entry))) (stateOf (now (state .entry))) t own u other ⌝ }
-{
-    let x = value_by(table, index, state, u, other);
-    let y = value_by(table, index, state, t, own);
-    write_both(table, index, state, t, own, x, u, other, y);
+    let slot = table::cell_of(table, index, receive, 6);
+    let v = program::slot(state, t, table::cell_of(table, index, send, 6));
+    let next = program::next_of(table, index, writes::stands_at(state, t), send);
+    let after = program::next_of(table, index, writes::stands_at(state, u), receive);
+    writes::resume(state, t, next);
+    go_on(state, u, Direction::In, after, slot, v);
 }
 
 // Thread t goes on after an act of its own: an assignment stores v in its slot.
@@ -167,75 +148,6 @@ pub fn write_gone(table: &[u8], index: &[u32], state: &mut [u32; state::WORDS], 
     let v = program::assigned_value(table, index, way.row, state, t);
     let act = way.act;
     go_alone(state, t, act, way.next, slot, v);
-}
-
-// Whether node n is a node of definition d.
-fn is_within(table: &[u8], index: &[u32], d: u32, n: u32) -> bool
-    requires { ⌜ Indexed (tableOf (now table)) (now index) ⌝ }
-    ensures { λ r. ⌜ r ≡ within (tableOf (now (table .entry))) d n ⌝ }
-{
-    program::definition_of(table, index, n) == d
-}
-
-// ... and slot k of the definition is of type 0.
-fn spares_slot(table: &[u8], index: &[u32], d: u32, n: u32, k: u32) -> bool
-    requires { ⌜ Indexed (tableOf (now table)) (now index) ⌝ }
-    ensures { λ r. ⌜ r ≡ spares (tableOf (now (table .entry))) d n k ⌝ }
-{
-    if is_within(table, index, d, n) {
-        return program::slot_type(table, index, d, k) == 0;
-    }
-    false
-}
-
-// Whether a thread's row holds what it held after an act in definition d that leads to node n: an assignment writes slot k.
-fn act_keeps(table: &[u8], index: &[u32], act: Act, d: u32, n: u32, k: u32) -> bool
-    requires { ⌜ Indexed (tableOf (now table)) (now index) ⌝ }
-    ensures { λ r. ⌜ r ≡ actKeeps (tableOf (now (table .entry))) act d n k ⌝ }
-{
-    if is_assignment(act) {
-        return spares_slot(table, index, d, n, k);
-    }
-    is_within(table, index, d, n)
-}
-
-// ... after a side of a meeting: the receiver writes slot k.
-fn side_keeps(table: &[u8], index: &[u32], side: Direction, d: u32, n: u32, k: u32) -> bool
-    requires { ⌜ Indexed (tableOf (now table)) (now index) ⌝ }
-    ensures { λ r. ⌜ r ≡ sideKeeps (tableOf (now (table .entry))) side d n k ⌝ }
-{
-    match side {
-        Direction::Out => is_within(table, index, d, n),
-        Direction::In => spares_slot(table, index, d, n, k),
-    }
-}
-
-// ... after a branch of thread t, alone.
-pub fn gone_keeps(
-    table: &[u8],
-    index: &[u32],
-    state: &[u32; state::WORDS],
-    t: u32,
-    way: Way,
-) -> bool
-    requires { ⌜ Indexed (tableOf (now table)) (now index) ⌝ }
-    ensures { λ r. ⌜ r ≡ goneKeeps (tableOf (now (table .entry))) (thread (stateOf (now (state .entry))) t) way ⌝ }
-{
-    let d = program::definition_of(table, index, writes::stands_at(state, t));
-    let slot = table::cell_of(table, index, way.row, 5);
-    let act = way.act;
-    act_keeps(table, index, act, d, way.next, slot)
-}
-
-// ... after a meeting by a branch of thread t.
-pub fn met_keeps(table: &[u8], index: &[u32], state: &[u32; state::WORDS], t: u32, way: Way) -> bool
-    requires { ⌜ Indexed (tableOf (now table)) (now index) ⌝ }
-    ensures { λ r. ⌜ r ≡ metKeeps (tableOf (now (table .entry))) (thread (stateOf (now (state .entry))) t) way ⌝ }
-{
-    let d = program::definition_of(table, index, writes::stands_at(state, t));
-    let slot = table::cell_of(table, index, way.row, 6);
-    let act = way.act;
-    side_keeps(table, index, side_of(act), d, way.next, slot)
 }
 
 // Thread t's branch i has made channel c.

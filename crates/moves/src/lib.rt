@@ -27,7 +27,7 @@ const THREADS: u32 = 64;
 const CHANNELS: u32 = 128;
 
 // Whether the branch in a row is a meeting of direction d.
-fn is_meeting(table: &[u8], index: &[u32], row: usize, d: Direction) -> bool
+pub fn is_meeting(table: &[u8], index: &[u32], row: usize, d: Direction) -> bool
     requires { ⌜ Indexed (tableOf (now table)) (now index) ⌝ }
     ensures { λ r. ⌜ r ≡ meets? (actOf (tableOf (now (table .entry))) row) d ⌝ }
 {

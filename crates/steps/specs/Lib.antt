@@ -1,4 +1,5 @@
 pub mod Counted
+pub mod Held
 pub mod Keeping
 pub mod Made
 pub mod Top

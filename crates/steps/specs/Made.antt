@@ -21,18 +21,6 @@ Writable t (Meets i u j) = (u < maxThreads) × (u ≢ t)
 Writable t LacksThread = Unit
 Writable t LacksChannel = Unit
 
--- ... and it is no call, whose slots are read beforehand
-unfoldable pub Rewritten : ℕ → Move → Type 0
-Rewritten t Ends = Unit
-Rewritten t Calls = ⊥
-Rewritten t Waits = Unit
-Rewritten t (Goes i) = Unit
-Rewritten t (Creates i c) = c < maxChannels
-Rewritten t (Spawns i u) = (u < maxThreads) × (u ≢ t)
-Rewritten t (Meets i u j) = (u < maxThreads) × (u ≢ t)
-Rewritten t LacksThread = Unit
-Rewritten t LacksChannel = Unit
-
 -- a move that changes one thread row alone
 unfoldable pub Alone : Move → Type 0
 Alone Ends = Unit

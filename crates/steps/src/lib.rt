@@ -10,17 +10,16 @@ ghost use Rattle.state.specs.State.{stateOf, thread, isReady, withChannels};
 ghost use Rattle.rules.specs.Holding.{settled};
 ghost use Rattle.rules.specs.Moves.{move, written, perform, metByBench};
 ghost use Rattle.rules.specs.Calls.{turnBy, Turned, turnEnd};
-ghost use Rattle.counts.specs.Shift.{settledTwo};
 ghost use Rattle.writes.specs.Calling.{callSlots};
 ghost use Rattle.granted.specs.Granted.{Granted};
 ghost use Rattle.engine_laws.specs.Sound.{Sound};
 ghost use Rattle.moves.specs.Top.{UsedBelow};
 ghost use Rattle.steps.specs.Counted.{Counted, weighedTo};
-ghost use Rattle.steps.specs.Made.{Writable, Rewritten, Alone, Paired, Creation, made};
+ghost use Rattle.steps.specs.Made.{Writable, made};
 ghost use Rattle.steps.specs.Top.{raisedBy};
-ghost use Rattle.rules.specs.declared.Move.the-variants.{Calls, Waits, Goes, Meets};
-ghost use Rattle.steps.specs.Keeping.{meetingKeeps};
-use branches::Way;
+ghost use Rattle.rules.specs.declared.Move.the-variants.{Ends, Calls, Waits, Goes, Creates, Spawns, Meets};
+ghost use Rattle.steps.specs.Keeping.{Facing, numberBy, AtPort};
+use rules::Direction;
 use rules::Move;
 use rules::Reason;
 use rules::Turn;
@@ -36,158 +35,81 @@ pub struct Round {
     pub top: u32,
 }
 
-const MINUS_ONE: u32 = 4294967295;
-
-// Thread t goes on after its branch i, a tau or an assignment.
-fn write_goes(table: &[u8], index: &[u32], state: &mut [u32; state::WORDS], t: u32, i: u32)
+// Thread t comes to its end.
+fn make_end(table: &[u8], index: &[u32], state: &mut [u32; state::WORDS], t: u32)
     requires { ⌜ Indexed (tableOf (now table)) (now index) ⌝ }
     requires { ⌜ t < 64 ⌝ }
-    ensures { λ _. ⌜ stateOf (now (state .exit)) ≡ written (tableOf (now (table .entry))) (stateOf (now (state .entry))) t (Goes i) ⌝ }
+    requires { ⌜ Counted (tableOf (now table)) (stateOf (now state)) ⌝ }
+    ensures { λ _. ⌜ settled (tableOf (now (table .entry))) (stateOf (now (state .exit))) ≡ perform (tableOf (now (table .entry))) (settled (tableOf (now (table .entry))) (stateOf (now (state .entry)))) t Ends ⌝ }
+    ensures { λ _. ⌜ Counted (tableOf (now (table .entry))) (stateOf (now (state .exit))) ⌝ }
 {
-    let way = branches::way_by(table, index, state, t, i);
-    branches::write_gone(table, index, state, t, way);
+    let mut old = [0u8; counts::LIST];
+    let waits = counts::take_down(table, index, state, t, &mut old);
+    writes::write_free(state, t);
+    counts::settle_one(table, index, state, t, &old, waits);
 }
 
-// Threads t and u go on after the meeting of their branches i and j.
-fn write_meets(
+// Thread t makes channel c by its branch i.
+fn make_channel(
+    table: &[u8],
+    index: &[u32],
+    state: &mut [u32; state::WORDS],
+    t: u32,
+    i: u32,
+    c: u32,
+)
+    requires { ⌜ Indexed (tableOf (now table)) (now index) ⌝ }
+    requires { ⌜ t < 64 ⌝ }
+    requires { ⌜ Counted (tableOf (now table)) (stateOf (now state)) ⌝ }
+    requires { ⌜ c < 128 ⌝ }
+    ensures { λ _. ⌜ settled (tableOf (now (table .entry))) (stateOf (now (state .exit))) ≡ perform (tableOf (now (table .entry))) (settled (tableOf (now (table .entry))) (stateOf (now (state .entry)))) t (Creates i c) ⌝ }
+    ensures { λ _. ⌜ Counted (tableOf (now (table .entry))) (stateOf (now (state .exit))) ⌝ }
+{
+    let mut old = [0u8; counts::LIST];
+    let waits = counts::take_down(table, index, state, t, &mut old);
+    branches::write_creation(table, index, state, t, i, c);
+    counts::settle_new(table, index, state, t, c, &old, waits);
+}
+
+// Thread t makes the child u by its branch i.
+fn make_child(
     table: &[u8],
     index: &[u32],
     state: &mut [u32; state::WORDS],
     t: u32,
     i: u32,
     u: u32,
-    j: u32,
 )
     requires { ⌜ Indexed (tableOf (now table)) (now index) ⌝ }
     requires { ⌜ t < 64 ⌝ }
+    requires { ⌜ Counted (tableOf (now table)) (stateOf (now state)) ⌝ }
     requires { ⌜ u < 64 ⌝ }
     requires { ⌜ u ≢ t ⌝ }
-    ensures { λ _. ⌜ stateOf (now (state .exit)) ≡ written (tableOf (now (table .entry))) (stateOf (now (state .entry))) t (Meets i u j) ⌝ }
-{
-    let own = branches::way_by(table, index, state, t, i);
-    let other = branches::way_by(table, index, state, u, j);
-    branches::write_meeting(table, index, state, t, own, u, other);
-}
-
-// What a move of thread t writes, if it is no call.
-fn write_move(table: &[u8], index: &[u32], state: &mut [u32; state::WORDS], t: u32, m: Move)
-    requires { ⌜ Indexed (tableOf (now table)) (now index) ⌝ }
-    requires { ⌜ t < 64 ⌝ }
-    requires { ⌜ Rewritten t m ⌝ }
-    ensures { λ _. ⌜ stateOf (now (state .exit)) ≡ written (tableOf (now (table .entry))) (stateOf (now (state .entry))) t m ⌝ }
-{
-    match m {
-        Move::Ends => writes::write_free(state, t),
-        Move::Calls => {}
-        Move::Waits => writes::write_waiting(state, t),
-        Move::Goes(i) => write_goes(table, index, state, t, i),
-        Move::Creates(i, c) => branches::write_creation(table, index, state, t, i, c),
-        Move::Spawns(i, u) => branches::write_spawn(table, index, state, t, i, u),
-        Move::Meets(i, u, j) => write_meets(table, index, state, t, i, u, j),
-        Move::LacksThread => {}
-        Move::LacksChannel => {}
-    }
-}
-
-// A move, no call, that changes the row of thread t alone.
-fn make_alone(table: &[u8], index: &[u32], state: &mut [u32; state::WORDS], t: u32, m: Move)
-    requires { ⌜ Indexed (tableOf (now table)) (now index) ⌝ }
-    requires { ⌜ t < 64 ⌝ }
-    requires { ⌜ Counted (tableOf (now table)) (stateOf (now state)) ⌝ }
-    requires { ⌜ Alone m ⌝ }
-    requires { ⌜ Rewritten t m ⌝ }
-    ensures { λ _. ⌜ settled (tableOf (now (table .entry))) (stateOf (now (state .exit))) ≡ perform (tableOf (now (table .entry))) (settled (tableOf (now (table .entry))) (stateOf (now (state .entry)))) t m ⌝ }
-    ensures { λ _. ⌜ Counted (tableOf (now (table .entry))) (stateOf (now (state .exit))) ⌝ }
-{
-    let mut old = [0u8; counts::LIST];
-    let waits = counts::take_down(table, index, state, t, &mut old);
-    write_move(table, index, state, t, m);
-    counts::settle_one(table, index, state, t, &old, waits);
-}
-
-// A move that also makes channel c.
-fn make_channel(
-    table: &[u8],
-    index: &[u32],
-    state: &mut [u32; state::WORDS],
-    t: u32,
-    c: u32,
-    m: Move,
-)
-    requires { ⌜ Indexed (tableOf (now table)) (now index) ⌝ }
-    requires { ⌜ t < 64 ⌝ }
-    requires { ⌜ Counted (tableOf (now table)) (stateOf (now state)) ⌝ }
-    requires { ⌜ Creation c m ⌝ }
-    ensures { λ _. ⌜ settled (tableOf (now (table .entry))) (stateOf (now (state .exit))) ≡ perform (tableOf (now (table .entry))) (settled (tableOf (now (table .entry))) (stateOf (now (state .entry)))) t m ⌝ }
-    ensures { λ _. ⌜ Counted (tableOf (now (table .entry))) (stateOf (now (state .exit))) ⌝ }
-{
-    let mut old = [0u8; counts::LIST];
-    let waits = counts::take_down(table, index, state, t, &mut old);
-    write_move(table, index, state, t, m);
-    counts::settle_new(table, index, state, t, c, &old, waits);
-}
-
-// A move that changes the rows of threads t and u, which have been taken down.
-fn make_noted(
-    table: &[u8],
-    index: &[u32],
-    state: &mut [u32; state::WORDS],
-    t: u32,
-    u: u32,
-    m: Move,
-    old: &[u8; counts::LIST],
-    waits: u32,
-    other: &[u8; counts::LIST],
-    awaits: u32,
-)
-    requires { ⌜ Indexed (tableOf (now table)) (now index) ⌝ }
-    requires { ⌜ t < 64 ⌝ }
-    requires { ⌜ Paired t u m ⌝ }
-    ensures { λ _. ⌜ stateOf (now (state .exit)) ≡ settledTwo (tableOf (now (table .entry))) (written (tableOf (now (table .entry))) (stateOf (now (state .entry))) t m) t u (now (old .entry)) waits (now (other .entry)) awaits ⌝ }
-{
-    write_move(table, index, state, t, m);
-    counts::settle_two(table, index, state, t, u, old, waits, other, awaits);
-}
-
-// A move that changes the rows of threads t and u.
-fn make_paired(
-    table: &[u8],
-    index: &[u32],
-    state: &mut [u32; state::WORDS],
-    t: u32,
-    u: u32,
-    m: Move,
-)
-    requires { ⌜ Indexed (tableOf (now table)) (now index) ⌝ }
-    requires { ⌜ t < 64 ⌝ }
-    requires { ⌜ Counted (tableOf (now table)) (stateOf (now state)) ⌝ }
-    requires { ⌜ Paired t u m ⌝ }
-    ensures { λ _. ⌜ settled (tableOf (now (table .entry))) (stateOf (now (state .exit))) ≡ perform (tableOf (now (table .entry))) (settled (tableOf (now (table .entry))) (stateOf (now (state .entry)))) t m ⌝ }
+    ensures { λ _. ⌜ settled (tableOf (now (table .entry))) (stateOf (now (state .exit))) ≡ perform (tableOf (now (table .entry))) (settled (tableOf (now (table .entry))) (stateOf (now (state .entry)))) t (Spawns i u) ⌝ }
     ensures { λ _. ⌜ Counted (tableOf (now (table .entry))) (stateOf (now (state .exit))) ⌝ }
 {
     let mut old = [0u8; counts::LIST];
     let mut other = [0u8; counts::LIST];
     let waits = counts::take_down(table, index, state, t, &mut old);
     let awaits = counts::take_down(table, index, state, u, &mut other);
-    make_noted(table, index, state, t, u, m, &old, waits, &other, awaits);
+    branches::write_spawn(table, index, state, t, i, u);
+    counts::settle_two(table, index, state, t, u, &old, waits, &other, awaits);
 }
 
-// Thread t goes on after its branch i. Where it is ready and will hold what it holds, no count changes.
+// Thread t goes on after its branch i, a tau or an assignment. It holds what it held, since a channel slot is not assigned to: no count changes.
 fn make_gone(table: &[u8], index: &[u32], state: &mut [u32; state::WORDS], t: u32, i: u32)
     requires { ⌜ Indexed (tableOf (now table)) (now index) ⌝ }
     requires { ⌜ t < 64 ⌝ }
     requires { ⌜ Counted (tableOf (now table)) (stateOf (now state)) ⌝ }
+    requires { ⌜ Granted (tableOf (now table)) ⌝ }
+    requires { ⌜ Sound (tableOf (now table)) (settled (tableOf (now table)) (stateOf (now state))) ⌝ }
+    requires { ⌜ isReady (thread (stateOf (now state)) t) ≡ true ⌝ }
+    requires { ⌜ move (tableOf (now table)) (stateOf (now state)) t ≡ Goes i ⌝ }
     ensures { λ _. ⌜ settled (tableOf (now (table .entry))) (stateOf (now (state .exit))) ≡ perform (tableOf (now (table .entry))) (settled (tableOf (now (table .entry))) (stateOf (now (state .entry)))) t (Goes i) ⌝ }
     ensures { λ _. ⌜ Counted (tableOf (now (table .entry))) (stateOf (now (state .exit))) ⌝ }
 {
-    if state::thread_word(state, t as usize, 0) == 1 {
-        let way = branches::way_by(table, index, state, t, i);
-        if branches::gone_keeps(table, index, state, t, way) {
-            branches::write_gone(table, index, state, t, way);
-            return;
-        }
-    }
-    make_alone(table, index, state, t, Move::Goes(i));
+    let way = branches::way_by(table, index, state, t, i);
+    branches::write_gone(table, index, state, t, way);
 }
 
 // Thread t makes the call at its node with its slots: with the upkeep in full.
@@ -211,64 +133,63 @@ fn make_called(
     counts::settle_one(table, index, state, t, &old, waits);
 }
 
-// Thread t makes the call at its node. Where it is ready and will hold what it holds, no count changes.
+// Thread t, which is ready, makes the call at its node. Where it will hold what it holds, no count changes.
 fn make_call(table: &[u8], index: &[u32], state: &mut [u32; state::WORDS], t: u32)
     requires { ⌜ Indexed (tableOf (now table)) (now index) ⌝ }
     requires { ⌜ t < 64 ⌝ }
     requires { ⌜ Counted (tableOf (now table)) (stateOf (now state)) ⌝ }
+    requires { ⌜ isReady (thread (stateOf (now state)) t) ≡ true ⌝ }
     ensures { λ _. ⌜ settled (tableOf (now (table .entry))) (stateOf (now (state .exit))) ≡ perform (tableOf (now (table .entry))) (settled (tableOf (now (table .entry))) (stateOf (now (state .entry)))) t Calls ⌝ }
     ensures { λ _. ⌜ Counted (tableOf (now (table .entry))) (stateOf (now (state .exit))) ⌝ }
 {
     let mut slots = [0u32; writes::SLOTS];
     if writes::prepare_call(table, index, state, t, &mut slots) {
-        if state::thread_word(state, t as usize, 0) == 1 {
-            writes::enter_call(table, index, state, t, &slots);
-            return;
-        }
+        writes::enter_call(table, index, state, t, &slots);
+        return;
     }
     make_called(table, index, state, t, &slots);
 }
 
-// Thread t waits. Where it was ready, no count of holders changes.
+// Thread t, which is ready, waits: no count of holders changes.
 fn make_waiting(table: &[u8], index: &[u32], state: &mut [u32; state::WORDS], t: u32)
     requires { ⌜ Indexed (tableOf (now table)) (now index) ⌝ }
     requires { ⌜ t < 64 ⌝ }
     requires { ⌜ Counted (tableOf (now table)) (stateOf (now state)) ⌝ }
+    requires { ⌜ isReady (thread (stateOf (now state)) t) ≡ true ⌝ }
     ensures { λ _. ⌜ settled (tableOf (now (table .entry))) (stateOf (now (state .exit))) ≡ perform (tableOf (now (table .entry))) (settled (tableOf (now (table .entry))) (stateOf (now (state .entry)))) t Waits ⌝ }
     ensures { λ _. ⌜ Counted (tableOf (now (table .entry))) (stateOf (now (state .exit))) ⌝ }
 {
-    if state::thread_word(state, t as usize, 0) == 1 {
-        writes::write_waiting(state, t);
-        return;
-    }
-    make_alone(table, index, state, t, Move::Waits);
+    writes::write_waiting(state, t);
 }
 
-// Whether thread t is ready, u waits, and both will hold what they hold after their meeting.
-fn meeting_keeps(
+// Threads t and u go on after the meeting of their branches i and j, of which one sends and the other receives.
+fn write_meets(
     table: &[u8],
     index: &[u32],
-    state: &[u32; state::WORDS],
+    state: &mut [u32; state::WORDS],
     t: u32,
-    own: Way,
+    i: u32,
     u: u32,
-    other: Way,
-) -> bool
+    j: u32,
+)
     requires { ⌜ Indexed (tableOf (now table)) (now index) ⌝ }
-    ensures { λ r. ⌜ r ≡ meetingKeeps (tableOf (now (table .entry))) (stateOf (now (state .entry))) t own u other ⌝ }
+    requires { ⌜ t < 64 ⌝ }
+    requires { ⌜ u < 64 ⌝ }
+    requires { ⌜ u ≢ t ⌝ }
+    requires { ⌜ Facing (tableOf (now table)) (stateOf (now state)) t i u j ⌝ }
+    ensures { λ _. ⌜ stateOf (now (state .exit)) ≡ written (tableOf (now (table .entry))) (stateOf (now (state .entry))) t (Meets i u j) ⌝ }
 {
-    if state::thread_word(state, t as usize, 0) == 1 {
-        if state::thread_word(state, u as usize, 0) == 2 {
-            if branches::met_keeps(table, index, state, t, own) {
-                return branches::met_keeps(table, index, state, u, other);
-            }
-        }
+    let own = program::branch_at(table, index, writes::stands_at(state, t), i);
+    let other = program::branch_at(table, index, writes::stands_at(state, u), j);
+    if moves::is_meeting(table, index, own, Direction::Out) {
+        branches::write_passed(table, index, state, t, own, u, other);
+        return;
     }
-    false
+    branches::write_passed(table, index, state, u, other, t, own);
 }
 
-// Threads t and u meet by their branches i and j. Where they will hold what they hold, no count of holders changes.
-fn make_meeting(
+// Threads t and u meet by their branches i and j: with the upkeep in full.
+fn make_joined(
     table: &[u8],
     index: &[u32],
     state: &mut [u32; state::WORDS],
@@ -282,62 +203,81 @@ fn make_meeting(
     requires { ⌜ Counted (tableOf (now table)) (stateOf (now state)) ⌝ }
     requires { ⌜ u < 64 ⌝ }
     requires { ⌜ u ≢ t ⌝ }
+    requires { ⌜ Facing (tableOf (now table)) (stateOf (now state)) t i u j ⌝ }
     ensures { λ _. ⌜ settled (tableOf (now (table .entry))) (stateOf (now (state .exit))) ≡ perform (tableOf (now (table .entry))) (settled (tableOf (now (table .entry))) (stateOf (now (state .entry)))) t (Meets i u j) ⌝ }
     ensures { λ _. ⌜ Counted (tableOf (now (table .entry))) (stateOf (now (state .exit))) ⌝ }
 {
-    let own = branches::way_by(table, index, state, t, i);
-    let other = branches::way_by(table, index, state, u, j);
-    if meeting_keeps(table, index, state, t, own, u, other) {
-        branches::write_meeting(table, index, state, t, own, u, other);
-        return;
-    }
-    make_paired(table, index, state, t, u, Move::Meets(i, u, j));
+    let mut old = [0u8; counts::LIST];
+    let mut other = [0u8; counts::LIST];
+    let waits = counts::take_down(table, index, state, t, &mut old);
+    let awaits = counts::take_down(table, index, state, u, &mut other);
+    write_meets(table, index, state, t, i, u, j);
+    counts::settle_two(table, index, state, t, u, &old, waits, &other, awaits);
 }
 
-// A move of thread t; one that lacks a row changes nothing.
+// Whether thread t's branch i, a meeting, gives or receives a number.
+fn is_number(table: &[u8], index: &[u32], state: &[u32; state::WORDS], t: u32, i: u32) -> bool
+    requires { ⌜ Indexed (tableOf (now table)) (now index) ⌝ }
+    ensures { λ r. ⌜ r ≡ numberBy (tableOf (now (table .entry))) (thread (stateOf (now (state .entry))) t) i ⌝ }
+{
+    let node = writes::stands_at(state, t);
+    let row = program::branch_at(table, index, node, i);
+    program::type_at(table, index, node, table::cell_of(table, index, row, 6)) == 0
+}
+
+// Threads t and u meet by their branches i and j. Where a number is given, both hold what they held, and no count of holders changes.
+fn make_meeting(
+    table: &[u8],
+    index: &[u32],
+    state: &mut [u32; state::WORDS],
+    t: u32,
+    i: u32,
+    u: u32,
+    j: u32,
+)
+    requires { ⌜ Indexed (tableOf (now table)) (now index) ⌝ }
+    requires { ⌜ t < 64 ⌝ }
+    requires { ⌜ Counted (tableOf (now table)) (stateOf (now state)) ⌝ }
+    requires { ⌜ Granted (tableOf (now table)) ⌝ }
+    requires { ⌜ Sound (tableOf (now table)) (settled (tableOf (now table)) (stateOf (now state))) ⌝ }
+    requires { ⌜ isReady (thread (stateOf (now state)) t) ≡ true ⌝ }
+    requires { ⌜ move (tableOf (now table)) (stateOf (now state)) t ≡ Meets i u j ⌝ }
+    ensures { λ _. ⌜ settled (tableOf (now (table .entry))) (stateOf (now (state .exit))) ≡ perform (tableOf (now (table .entry))) (settled (tableOf (now (table .entry))) (stateOf (now (state .entry)))) t (Meets i u j) ⌝ }
+    ensures { λ _. ⌜ Counted (tableOf (now (table .entry))) (stateOf (now (state .exit))) ⌝ }
+{
+    if is_number(table, index, state, t, i) {
+        write_meets(table, index, state, t, i, u, j);
+        return;
+    }
+    make_joined(table, index, state, t, i, u, j);
+}
+
+// Thread t, which is ready, makes its move; one that lacks a row changes nothing.
 fn make_move(table: &[u8], index: &[u32], state: &mut [u32; state::WORDS], t: u32, m: Move)
     requires { ⌜ Indexed (tableOf (now table)) (now index) ⌝ }
     requires { ⌜ t < 64 ⌝ }
     requires { ⌜ Counted (tableOf (now table)) (stateOf (now state)) ⌝ }
-    requires { ⌜ Writable t m ⌝ }
+    requires { ⌜ Granted (tableOf (now table)) ⌝ }
+    requires { ⌜ Sound (tableOf (now table)) (settled (tableOf (now table)) (stateOf (now state))) ⌝ }
+    requires { ⌜ isReady (thread (stateOf (now state)) t) ≡ true ⌝ }
+    requires { ⌜ m ≡ move (tableOf (now table)) (stateOf (now state)) t ⌝ }
     ensures { λ _. ⌜ settled (tableOf (now (table .entry))) (stateOf (now (state .exit))) ≡ made (tableOf (now (table .entry))) (settled (tableOf (now (table .entry))) (stateOf (now (state .entry)))) t m ⌝ }
     ensures { λ _. ⌜ Counted (tableOf (now (table .entry))) (stateOf (now (state .exit))) ⌝ }
 {
     match m {
-        Move::Ends => make_alone(table, index, state, t, m),
+        Move::Ends => make_end(table, index, state, t),
         Move::Calls => make_call(table, index, state, t),
         Move::Waits => make_waiting(table, index, state, t),
         Move::Goes(i) => make_gone(table, index, state, t, i),
-        Move::Creates(i, c) => make_channel(table, index, state, t, c, Move::Creates(i, c)),
-        Move::Spawns(i, u) => make_paired(table, index, state, t, u, Move::Spawns(i, u)),
+        Move::Creates(i, c) => make_channel(table, index, state, t, i, c),
+        Move::Spawns(i, u) => make_child(table, index, state, t, i, u),
         Move::Meets(i, u, j) => make_meeting(table, index, state, t, i, u, j),
         Move::LacksThread => {}
         Move::LacksChannel => {}
     }
 }
 
-// Thread u, met through its branch j by somebody who gives v, goes on: with the upkeep in full.
-fn make_met_anew(
-    table: &[u8],
-    index: &[u32],
-    state: &mut [u32; state::WORDS],
-    u: u32,
-    j: u32,
-    v: u32,
-)
-    requires { ⌜ Indexed (tableOf (now table)) (now index) ⌝ }
-    requires { ⌜ u < 64 ⌝ }
-    requires { ⌜ settled (tableOf (now table)) (stateOf (now state)) ≡ stateOf (now state) ⌝ }
-    ensures { λ _. ⌜ stateOf (now (state .exit)) ≡ metByBench (tableOf (now (table .entry))) (stateOf (now (state .entry))) u j v ⌝ }
-{
-    let mut old = [0u8; counts::LIST];
-    let waits = counts::take_down(table, index, state, u, &mut old);
-    let way = branches::way_by(table, index, state, u, j);
-    branches::write_met(table, index, state, u, way, v);
-    counts::settle_one(table, index, state, u, &old, waits);
-}
-
-// The same. Where u waits and will hold what it holds, its channels have one waiting holder less, and no other count changes.
+// Thread u, which the bench meets through its branch j at a port and which is given v, goes on. A port carries numbers, so that u holds what it held.
 pub fn make_met(
     table: &[u8],
     index: &[u32],
@@ -348,18 +288,14 @@ pub fn make_met(
 )
     requires { ⌜ Indexed (tableOf (now table)) (now index) ⌝ }
     requires { ⌜ u < 64 ⌝ }
-    requires { ⌜ settled (tableOf (now table)) (stateOf (now state)) ≡ stateOf (now state) ⌝ }
+    requires { ⌜ Granted (tableOf (now table)) ⌝ }
+    requires { ⌜ Sound (tableOf (now table)) (stateOf (now state)) ⌝ }
+    requires { ⌜ AtPort (tableOf (now table)) (stateOf (now state)) u j ⌝ }
     ensures { λ _. ⌜ stateOf (now (state .exit)) ≡ metByBench (tableOf (now (table .entry))) (stateOf (now (state .entry))) u j v ⌝ }
 {
-    if state::thread_word(state, u as usize, 0) == 2 {
-        let way = branches::way_by(table, index, state, u, j);
-        if branches::met_keeps(table, index, state, u, way) {
-            branches::write_met(table, index, state, u, way, v);
-            counts::weigh(table, index, state, u, MINUS_ONE);
-            return;
-        }
-    }
-    make_met_anew(table, index, state, u, j, v);
+    let way = branches::way_by(table, index, state, u, j);
+    branches::write_met(table, index, state, u, way, v);
+    settle_waiting(table, index, state);
 }
 
 // Thread t, which is ready, makes its move; the move is answered.

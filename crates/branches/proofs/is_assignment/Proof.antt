@@ -1,5 +1,5 @@
-use Rattle.branches.proofs.Keepings.{assigns-arm}
-use Rattle.branches.specs.Keeping.{assigns?}
+use Rattle.branches.proofs.Laws.{assigns-arm}
+use Rattle.branches.specs.Way.{assigns?}
 use borrow.Author.Needs.{needs}
 use Rattle.branches.proofs.is_assignment.Statement.{statement}
 use Rattle.branches.proofs.is_assignment.Tie as tie

@@ -9,7 +9,6 @@ make-call-spec =
     (tie.spec
     (λ c κs. search needs)
     (λ c κs. search needs)
-    (λ c κs. search needs)
     (λ c. (search calls-made, search calls-counted))
     (λ c κs. search needs)
     (λ c. search needs))

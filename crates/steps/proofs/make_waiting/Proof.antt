@@ -1,16 +1,11 @@
 use Rattle.steps.specs.Keeping.Laws.{waits-made, waits-counted}
-use Rattle.steps.specs.Made.{Alone, Rewritten}
 use borrow.Author.Needs.{needs}
 use Rattle.steps.proofs.make_waiting.Statement.{statement}
 use Rattle.steps.proofs.make_waiting.Tie as tie
 
 pub make-waiting-spec : {M : Type 1} → statement M
-unfolding Alone Rewritten
 make-waiting-spec =
     tie.close
     (tie.spec
     (λ c κs. search needs)
-    (λ c κs. search needs)
-    (λ c. (search waits-made, search waits-counted))
-    (λ c κs. (search, (search, (search, (tt, tt)))))
-    (λ c. search needs))
+    (λ c. (search waits-made, search waits-counted)))

@@ -1,5 +1,4 @@
 use Rattle.steps.specs.Counted.Laws.{apart-alike, move-read, step-made}
-use Rattle.steps.specs.Made.Laws.{move-writable}
 use Rattle.steps.proofs.step_ready.Statement.{statement}
 use Rattle.steps.proofs.step_ready.Tie as tie
 
@@ -8,5 +7,5 @@ step-ready-spec =
     tie.close
     (tie.spec
     (λ c κs. (search, (search, search apart-alike)))
-    (λ c κs. (search, (search, (search, search move-writable))))
+    (λ c κs. (search, (search, (search, (search, (search, (search, search)))))))
     (λ c. (search move-read, (search step-made, search))))

@@ -1,4 +1,4 @@
-use Rattle.steps.specs.Made.Laws.{meets-written}
+use Rattle.steps.specs.Keeping.Laws.{sent, got, turned-about}
 use borrow.Author.Needs.{needs}
 use Rattle.steps.proofs.write_meets.Statement.{statement}
 use Rattle.steps.proofs.write_meets.Tie as tie
@@ -10,4 +10,9 @@ write-meets-spec =
     (λ c κs. search needs)
     (λ c κs. search needs)
     (λ c κs. search needs)
-    (λ c. search meets-written))
+    (λ c κs. search needs)
+    (λ c κs. search needs)
+    (λ c κs. search needs)
+    (λ c. search sent)
+    (λ c κs. (search, (search, (search, search turned-about))))
+    (λ c. search got))

@@ -282,14 +282,14 @@ module _ (tb : Table) (b : List ℕ) (e : Counted tb (stateOf b)) (t : ℕ) (h :
     pub creation-counted : (x : ℕ) → s₂ ≡ settledNew tb s₁ t x l w → Creation x m → Counted tb s₂
     creation-counted x f a = rw (f, g, i, j) (creation-kept tb (stateOf b) e (length-threads b) t h m x a .1)
 
-module _ (tb : Table) (b : List ℕ) (e : Counted tb (stateOf b)) (t : ℕ) (h : t < 64) (m : Move) (s₁ : State) (x : ℕ) (l : List ℕ) (w : ℕ) (l′ : List ℕ) (w′ : ℕ)
-    (f : s₁ ≡ settledTwo tb (written tb (stateOf b) t m) t x l w l′ w′) (i : l ≡ ownList tb (thread (stateOf b) t)) (j : w ≡ bit (isWaiting (thread (stateOf b) t)))
+module _ (tb : Table) (b : List ℕ) (e : Counted tb (stateOf b)) (t : ℕ) (h : t < 64) (m : Move) (s₁ s₂ : State) (x : ℕ) (l : List ℕ) (w : ℕ) (l′ : List ℕ) (w′ : ℕ)
+    (g : s₁ ≡ written tb (stateOf b) t m) (f : s₂ ≡ settledTwo tb s₁ t x l w l′ w′) (i : l ≡ ownList tb (thread (stateOf b) t)) (j : w ≡ bit (isWaiting (thread (stateOf b) t)))
     (k : l′ ≡ ownList tb (thread (stateOf b) x)) (n : w′ ≡ bit (isWaiting (thread (stateOf b) x))) (a : Paired t x m) where
-  pub paired-made : settled tb s₁ ≡ perform tb (settled tb (stateOf b)) t m
-  paired-made = rw (f, i, j, k, n) (paired-kept tb (stateOf b) e (length-threads b) t h m x a .0)
+  pub paired-made : settled tb s₂ ≡ perform tb (settled tb (stateOf b)) t m
+  paired-made = rw (f, g, i, j, k, n) (paired-kept tb (stateOf b) e (length-threads b) t h m x a .0)
 
-  pub paired-counted : Counted tb s₁
-  paired-counted = rw (f, i, j, k, n) (paired-kept tb (stateOf b) e (length-threads b) t h m x a .1)
+  pub paired-counted : Counted tb s₂
+  paired-counted = rw (f, g, i, j, k, n) (paired-kept tb (stateOf b) e (length-threads b) t h m x a .1)
 
 -- ---- a step and a turn
 

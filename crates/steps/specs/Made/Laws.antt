@@ -11,7 +11,7 @@ use Rattle.table.specs.Table.{Table}
 use Rattle.state.specs.State.{State, stateOf, thread, maxThreads, isReady, isWaiting, withMark, withThread}
 use Rattle.state.specs.State.Laws.{length-threads}
 use Rattle.rules.specs.Holding.{settled}
-use Rattle.rules.specs.Moves.{oneUp, move, written, perform, spawnedBy, metBy, metByBench}
+use Rattle.rules.specs.Moves.{oneUp, move, written, perform, spawnedBy}
 use Rattle.rules.specs.declared.Move.{Move}
 use Rattle.rules.specs.declared.Move.the-variants.{Ends, Calls, Waits, Goes, Creates, Spawns, Meets, LacksThread, LacksChannel}
 use Rattle.rules.specs.Calls.{nextReady, pastTurn, turnBy, Turned, turned, turnEnd, takeTurn}
@@ -23,13 +23,10 @@ use Rattle.moves.specs.Decided.{meets-partner, spawns-free, spawns-other, creat
 use Rattle.counts.specs.Own.{ownList}
 use Rattle.counts.specs.Shift.{settledOne, settledTwo, settledNew}
 use Rattle.counts.specs.Upkeep.{one-settled, two-settled, new-settled, settled-mark, two-mark, new-mark}
-use Rattle.branches.specs.Way.{wayOf, metAlong, metAlongBoth, goneAlong}
-use Rattle.branches.specs.Way.Laws.{met-way, gone-way, meeting-way}
-use Rattle.branches.specs.declared.Way.{Way}
 use Rattle.granted.specs.Granted.{Granted}
 use Rattle.engine_laws.specs.Sound.{Sound}
 use Rattle.engine_laws.specs.Lasting.{move-kept, turn-kept}
-use Rattle.steps.specs.Made.{Writable, Rewritten, Alone, Paired, Creation, made}
+use Rattle.steps.specs.Made.{Writable, Alone, Paired, Creation, made}
 
 -- a mark that is moved besides changes nothing in this
 module _ (tb : Table) (s : State) (i v : ℕ) where
@@ -85,27 +82,6 @@ module _ (tb : Table) (s : State) (long : length (s .threads) ≡ 64) (e : settl
   paired-settled x LacksThread a = absurd a
   paired-settled x LacksChannel a = absurd a
 
--- ---- a thread that the bench meets: s₁ after the write, s₂ after the upkeep
-
-module _ (tb : Table) (b : List ℕ) (e : settled tb (stateOf b) ≡ stateOf b) (t : ℕ) (h : t < 64) where
-  pub met-made : (s₁ s₂ : State) (l : List ℕ) (way : Way) (w j v : ℕ) → s₂ ≡ settledOne tb s₁ t l w → s₁ ≡ withThread (stateOf b) t (metAlong tb (thread (stateOf b) t) way v)
-      → way ≡ wayOf tb (thread (stateOf b) t) j → l ≡ ownList tb (thread (stateOf b) t) → w ≡ bit (isWaiting (thread (stateOf b) t)) → s₂ ≡ metByBench tb (stateOf b) t j v
-  unfolding metByBench
-  met-made s₁ s₂ l way w j v f g p i k =
-      let q : metAlong tb (thread (stateOf b) t) way v ≡ metBy tb (thread (stateOf b) t) j v = rw p (met-way tb (thread (stateOf b) t) j v) in
-      f ∙ rw (g, i, k, q) (one tb (stateOf b) (length-threads b) e t h _)
-
--- ---- what is written along the ways of branches
-
-module _ (tb : Table) (s s₁ : State) (t i : ℕ) where
-  pub goes-written : (way : Way) → s₁ ≡ withThread s t (goneAlong tb (thread s t) way) → way ≡ wayOf tb (thread s t) i → s₁ ≡ written tb s t (Goes i)
-  unfolding written
-  goes-written way e p = e ∙ rw (p, gone-way tb (thread s t) i)
-
-  pub meets-written : (u j : ℕ) (own other : Way) → s₁ ≡ metAlongBoth tb s t own u other → own ≡ wayOf tb (thread s t) i → other ≡ wayOf tb (thread s u) j
-      → s₁ ≡ written tb s t (Meets i u j)
-  meets-written u j own other e p q = e ∙ rw (p, q) (meeting-way tb s t i u j)
-
 -- ---- arms
 
 module _ (t : ℕ) (m : Move) where
@@ -129,58 +105,8 @@ module _ (t : ℕ) (m : Move) where
   unfolding Writable
   writable-aside i u e a = let z : Writable t (Spawns i u) = rw e at a in z .1
 
-  -- a move of one row, from the arm of a match
-  pub alone-from : (n : Move) → m ≡ n → Alone n → Alone m
-  alone-from n e a = rw e a
-
-pub rewritten-writable : (t : ℕ) (m : Move) → Rewritten t m → Writable t m
-unfolding Writable Rewritten
-rewritten-writable t Ends a = tt
-rewritten-writable t Calls a = absurd a
-rewritten-writable t Waits a = tt
-rewritten-writable t (Goes i) a = tt
-rewritten-writable t (Creates i c) a = a
-rewritten-writable t (Spawns i u) a = a
-rewritten-writable t (Meets i u j) a = a
-rewritten-writable t LacksThread a = tt
-rewritten-writable t LacksChannel a = tt
-
-pub rewritten-from : (t : ℕ) (m n : Move) → m ≡ n → Rewritten t n → Rewritten t m
-rewritten-from t m n e a = rw e a
-
-pub no-call : (tb : Table) (s s₁ : State) (t : ℕ) (m : Move) → m ≡ Calls → Rewritten t m → s₁ ≡ written tb s t m
-unfolding Rewritten
-no-call tb s s₁ t m e a = absurd (let z : Rewritten t Calls = rw e at a in z)
-
-pub creation-writable : (t x : ℕ) (m : Move) → Creation x m → Rewritten t m
-unfolding Rewritten Creation
-creation-writable t x Ends a = absurd a
-creation-writable t x Calls a = absurd a
-creation-writable t x Waits a = absurd a
-creation-writable t x (Goes i) a = absurd a
-creation-writable t x (Creates i c) (q, l) = rw q l
-creation-writable t x (Spawns i u) a = absurd a
-creation-writable t x (Meets i u j) a = absurd a
-creation-writable t x LacksThread a = absurd a
-creation-writable t x LacksChannel a = absurd a
-
-pub paired-writable : (t x : ℕ) (m : Move) → Paired t x m → Rewritten t m
-unfolding Rewritten Paired
-paired-writable t x Ends a = absurd a
-paired-writable t x Calls a = absurd a
-paired-writable t x Waits a = absurd a
-paired-writable t x (Goes i) a = absurd a
-paired-writable t x (Creates i c) a = absurd a
-paired-writable t x (Spawns i u) (q, l, n) = rw q (l, n)
-paired-writable t x (Meets i u j) (q, l, n) = rw q (l, n)
-paired-writable t x LacksThread a = absurd a
-paired-writable t x LacksChannel a = absurd a
-
--- an arm of the match that writes, and of the one that makes
+-- an arm of the match that makes a move
 module _ (tb : Table) (s s₁ : State) (t : ℕ) (m n : Move) (e : m ≡ n) where
-  pub written-arm : s₁ ≡ written tb s t n → s₁ ≡ written tb s t m
-  written-arm f = rw e f
-
   pub made-arm : s₁ ≡ perform tb s t m → perform tb s t n ≡ made tb s t n → s₁ ≡ made tb s t m
   made-arm f g = f ∙ rw e g
 
@@ -225,9 +151,6 @@ module _ (tb : Table) (g : Granted tb) (s : State) (ok : Sound tb s) (t : ℕ) (
   pub turn-sound : (s₁ s₂ : State) (v : ℕ) → s₂ ≡ withMark s₁ 2 v → s₁ ≡ made tb s t (move tb s t) → v ≡ oneUp maxThreads t → Sound tb s₂
   unfolding pastTurn
   turn-sound s₁ s₂ v f h i = rw (f, h, i) (turn-kept tb (made tb s t (move tb s t)) (made-sound (move tb s t) refl) t l)
-
-pub made-read : (tb : Table) (s s₁ : State) (t : ℕ) (m : Move) → s₁ ≡ made tb s t m → m ≡ move tb s t → s₁ ≡ made tb s t (move tb s t)
-made-read tb s s₁ t m e f = e ∙ rw f
 
 -- ---- a turn
 
