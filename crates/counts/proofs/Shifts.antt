@@ -17,7 +17,7 @@ use Rattle.rules.specs.Holding.{channelRow}
 use Rattle.counts.specs.Own.{ownList}
 use Rattle.counts.specs.Own.Listing.{ownRoom}
 use Rattle.counts.specs.Own.Rest.{rest-shifted}
-use Rattle.counts.specs.Shift.{rowCounted, shiftRow, shiftTo, channelShifted, shiftedTo, shifted, rowEntered, rowWeighed, rowLeft, settledOne, settledTwo, settledNew}
+use Rattle.counts.specs.Shift.{rowCounted, shiftRow, shiftTo, channelShifted, shiftedTo, shifted, rowEntered, rowLeft, settledOne, settledTwo, settledNew}
 
 -- put_counts: three stores, and two, make a row
 three : (r : List ℕ) (a n w : ℕ) → length r ≡ 3 → set (set (set r 0 a) 1 n) 2 w ≡ a ∷ n ∷ w ∷ []
@@ -94,14 +94,10 @@ unfolding shifted shiftedTo withChannels
 own-shifted tb b s₂ t dn dw n l f e g =
     f ∙ rw (e, g, rest-shifted tb (thread (stateOf b) t) dn dw (stateOf b .channels) (length-channels b))
 
--- enter, weigh, leave
+-- enter, leave
 pub enter-is : (tb : Table) (s s₂ : State) (t w x : ℕ) → s₂ ≡ shifted s (ownList tb (thread s t)) 1 w → w ≡ bit (eqb x 2) → x ≡ at (s .threads) t 0 → s₂ ≡ rowEntered tb s t
 unfolding rowEntered
 enter-is tb s s₂ t w x g f e = rw (g, f, e)
-
-pub weigh-is : (tb : Table) (s s₂ : State) (t dw : ℕ) → s₂ ≡ shifted s (ownList tb (thread s t)) 0 dw → s₂ ≡ rowWeighed tb s t dw
-unfolding rowWeighed
-weigh-is tb s s₂ t dw g = g
 
 pub leave-is : (s s₂ : State) (w d : ℕ) (l : List ℕ) → s₂ ≡ shifted s l 4294967295 d → d ≡ difference 0 w → s₂ ≡ rowLeft s l w
 unfolding rowLeft

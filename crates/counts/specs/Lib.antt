@@ -1,4 +1,3 @@
-pub mod Keeping
 pub mod Own
 pub mod Shift
 pub mod Upkeep

@@ -46,10 +46,6 @@ module _ (tb : Table) (s : State) (t : ℕ) where
   unfoldable pub settledOne : List ℕ → ℕ → State
   settledOne l w = rowLeft rowEntered l w
 
-  -- thread t's row, whose status alone was written, moves the counts of waiting holders of its channels up by dw
-  unfoldable pub rowWeighed : ℕ → State
-  rowWeighed dw = shifted s (ownList tb (thread s t)) 0 dw
-
   -- the type of channel c was written too: where the new row does not hold c, it is freed. Moved by 0, the counts stay
   unfoldable pub settledNew : ℕ → List ℕ → ℕ → State
   settledNew c l w = rowLeft (channelShifted rowEntered c 0 0) l w

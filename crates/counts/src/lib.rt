@@ -12,7 +12,7 @@ ghost use Rattle.table.specs.Index.{Indexed};
 ghost use Rattle.state.specs.State.{stateOf, thread, isWaiting};
 ghost use Rattle.counts.specs.Own.{ownList};
 ghost use Rattle.counts.specs.Own.Listing.{channelIn, listed, lastOwn, ownBy, listedTo, room, ownRoom};
-ghost use Rattle.counts.specs.Shift.{rowCounted, channelShifted, shiftedTo, shifted, rowEntered, rowWeighed, rowLeft, settledOne, settledTwo, settledNew};
+ghost use Rattle.counts.specs.Shift.{rowCounted, channelShifted, shiftedTo, shifted, rowEntered, rowLeft, settledOne, settledTwo, settledNew};
 use table::Part;
 
 // The entries of a list of channels, one for each slot of a row.
@@ -273,15 +273,6 @@ fn enter(table: &[u8], index: &[u32], state: &mut [u32; state::WORDS], t: u32)
 {
     let w = weight(state::thread_word(state, t as usize, 0));
     shift_own(table, index, state, t, 1, w);
-}
-
-// Thread t's row has been written and holds what it held before, but its status is another: the counts of waiting holders of its channels go up by
-// dw, around the end.
-pub fn weigh(table: &[u8], index: &[u32], state: &mut [u32; state::WORDS], t: u32, dw: u32)
-    requires { ⌜ Indexed (tableOf (now table)) (now index) ⌝ }
-    ensures { λ _. ⌜ stateOf (now (state .exit)) ≡ rowWeighed (tableOf (now (table .entry))) (stateOf (now (state .entry))) t dw ⌝ }
-{
-    shift_own(table, index, state, t, 0, dw);
 }
 
 // A row that held the channels of a list and added w to their counts of waiting holders is gone: channels that nobody holds are freed.

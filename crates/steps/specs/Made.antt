@@ -9,17 +9,17 @@ use Rattle.rules.specs.Moves.{perform}
 use Rattle.rules.specs.declared.Move.{Move}
 use Rattle.rules.specs.declared.Move.the-variants.{Ends, Calls, Waits, Goes, Creates, Spawns, Meets, LacksThread, LacksChannel}
 
--- the rows that a move of thread t names are there, and another thread's is not its own
-unfoldable pub Writable : ℕ → Move → Type 0
-Writable t Ends = Unit
-Writable t Calls = Unit
-Writable t Waits = Unit
-Writable t (Goes i) = Unit
-Writable t (Creates i c) = c < maxChannels
-Writable t (Spawns i u) = (u < maxThreads) × (u ≢ t)
-Writable t (Meets i u j) = (u < maxThreads) × (u ≢ t)
-Writable t LacksThread = Unit
-Writable t LacksChannel = Unit
+-- the row of the thread that a move makes is there
+unfoldable pub ChildIn : Move → Type 0
+ChildIn Ends = Unit
+ChildIn Calls = Unit
+ChildIn Waits = Unit
+ChildIn (Goes i) = Unit
+ChildIn (Creates i c) = Unit
+ChildIn (Spawns i u) = u < maxThreads
+ChildIn (Meets i u j) = Unit
+ChildIn LacksThread = Unit
+ChildIn LacksChannel = Unit
 
 -- a move that changes one thread row alone
 unfoldable pub Alone : Move → Type 0

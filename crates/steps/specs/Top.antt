@@ -20,8 +20,7 @@ use Rattle.rules.specs.declared.Move.{Move}
 use Rattle.rules.specs.declared.Move.the-variants.{Ends, Calls, Waits, Goes, Creates, Spawns, Meets, LacksThread, LacksChannel}
 use Rattle.moves.specs.Top.{UsedBelow, top-le, ready-below, waiting-below}
 use Rattle.moves.specs.Decided.{meets-waiting, spawns-free}
-use Rattle.steps.specs.Made.{Writable, made}
-use Rattle.steps.specs.Made.Laws.{writable-child}
+use Rattle.steps.specs.Made.{ChildIn, made}
 
 -- the number after a move
 unfoldable pub raisedBy : ℕ → Move → ℕ
@@ -109,5 +108,6 @@ module _ (r top : ℕ) (m : Move) where
     unfolding raisedBy
     raised-child h = rw (e, le-ltb u top h) (add-one u)
 
-    pub child-fits : (t : ℕ) → Writable t m → Fits w32 (u + 1)
-    child-fits t a = omega (arith, writable-child t m i u e a)
+    pub child-fits : ChildIn m → Fits w32 (u + 1)
+    unfolding ChildIn
+    child-fits a = let h : u < maxThreads = rw e at a in omega arith

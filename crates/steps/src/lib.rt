@@ -15,7 +15,7 @@ ghost use Rattle.granted.specs.Granted.{Granted};
 ghost use Rattle.engine_laws.specs.Sound.{Sound};
 ghost use Rattle.moves.specs.Top.{UsedBelow};
 ghost use Rattle.steps.specs.Counted.{Counted, weighedTo};
-ghost use Rattle.steps.specs.Made.{Writable, made};
+ghost use Rattle.steps.specs.Made.{ChildIn, made};
 ghost use Rattle.steps.specs.Top.{raisedBy};
 ghost use Rattle.rules.specs.declared.Move.the-variants.{Ends, Calls, Waits, Goes, Creates, Spawns, Meets};
 ghost use Rattle.steps.specs.Keeping.{Facing, numberBy, AtPort};
@@ -339,9 +339,9 @@ fn turn_by(t: u32, m: Move) -> Turn
     }
 }
 
-// A number from which on no row is in use after move m of thread t, where none was from top on before it.
-fn raised(t: u32, m: Move, top: u32) -> u32
-    requires { ⌜ Writable t m ⌝ }
+// A number from which on no row is in use after move m, where none was from top on before it.
+fn raised(m: Move, top: u32) -> u32
+    requires { ⌜ ChildIn m ⌝ }
     ensures { λ r. ⌜ r ≡ raisedBy top m ⌝ }
 {
     match m {
@@ -389,7 +389,7 @@ pub fn turn_of(
     Round {
         turn: turn,
         by: m,
-        top: raised(t, m, top),
+        top: raised(m, top),
     }
 }
 

@@ -1,7 +1,8 @@
 use borrow.Author.Needs.{needs}
 use Rattle.steps.proofs.turn_of.Statement.{statement}
 use Rattle.steps.proofs.turn_of.Tie as tie
-use Rattle.steps.specs.Counted.Laws.{writable-alike, turn-made, turn-lasts, turn-below, counted-mark}
+use Rattle.steps.specs.Made.Laws.{move-child}
+use Rattle.steps.specs.Counted.Laws.{turn-made, turn-lasts, turn-below, counted-mark}
 
 pub turn-of-spec : {M : Type 1} → statement M
 turn-of-spec =
@@ -11,5 +12,5 @@ turn-of-spec =
     (λ c κs. search needs)
     (λ c κs. search needs)
     (λ c κs. search needs)
-    (λ c κs. search writable-alike)
+    (λ c κs. search move-child)
     (λ c. (search turn-made, (search turn-lasts, (search turn-below, (search, search counted-mark))))))

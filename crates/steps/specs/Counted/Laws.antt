@@ -38,8 +38,8 @@ use Rattle.moves.specs.Apart.{Apart}
 use Rattle.rules.specs.Calls.{turnBy, turned, turnEnd}
 use Rattle.rules.specs.declared.Turn.{Turn}
 use Rattle.steps.specs.Top.{raisedBy, turn-used}
-use Rattle.steps.specs.Made.{Writable, Alone, Paired, Creation, made}
-use Rattle.steps.specs.Made.Laws.{alone-settled, creation-settled, paired-settled, move-writable, turn-ends, turn-sound}
+use Rattle.steps.specs.Made.{Alone, Paired, Creation, made}
+use Rattle.steps.specs.Made.Laws.{alone-settled, creation-settled, paired-settled, turn-ends, turn-sound}
 use Rattle.steps.specs.Counted.{Alike, Counted, weighedTo}
 
 -- ---- one row
@@ -306,10 +306,6 @@ module _ (tb : Table) (s : State) (t : ℕ) where
     step-made s₁ g = g ∙ rw move-read
 
   module _ (r : isReady (thread s t) ≡ true) where
-    pub writable-alike : (m : Move) → m ≡ move tb (settled tb s) t → Writable t m
-    unfolding settled withChannels
-    writable-alike m e = move-writable tb (settled tb s) t r m e
-
     -- s₁ after the move, s₂ with the turn moved on
     module _ (s₁ s₂ : State) (v : ℕ) (f : s₂ ≡ withMark s₁ 2 v) (g : settled tb s₁ ≡ made tb (settled tb s) t (move tb (settled tb s) t)) where
       marked : settled tb s₂ ≡ withMark (settled tb s₁) 2 v

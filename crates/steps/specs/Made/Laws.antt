@@ -19,14 +19,14 @@ use Rattle.rules.specs.declared.Reason.the-variants.{NoneReady}
 use Rattle.rules.specs.declared.Turn.{Turn}
 use Rattle.rules.specs.declared.Turn.the-variants.{Stopped}
 use Rattle.moves.specs.Around.{next-ready-in}
-use Rattle.moves.specs.Decided.{meets-partner, spawns-free, spawns-other, creates-free}
+use Rattle.moves.specs.Decided.{spawns-free}
 use Rattle.counts.specs.Own.{ownList}
 use Rattle.counts.specs.Shift.{settledOne, settledTwo, settledNew}
 use Rattle.counts.specs.Upkeep.{one-settled, two-settled, new-settled, settled-mark, two-mark, new-mark}
 use Rattle.granted.specs.Granted.{Granted}
 use Rattle.engine_laws.specs.Sound.{Sound}
 use Rattle.engine_laws.specs.Lasting.{move-kept, turn-kept}
-use Rattle.steps.specs.Made.{Writable, Alone, Paired, Creation, made}
+use Rattle.steps.specs.Made.{ChildIn, Alone, Paired, Creation, made}
 
 -- a mark that is moved besides changes nothing in this
 module _ (tb : Table) (s : State) (i v : ℕ) where
@@ -84,55 +84,31 @@ module _ (tb : Table) (s : State) (long : length (s .threads) ≡ 64) (e : settl
 
 -- ---- arms
 
-module _ (t : ℕ) (m : Move) where
-  pub writable-channel : (i c : ℕ) → m ≡ Creates i c → Writable t m → c < 128
-  unfolding Writable
-  writable-channel i c e a = rw e at a
-
-  pub writable-child : (i u : ℕ) → m ≡ Spawns i u → Writable t m → u < 64
-  unfolding Writable
-  writable-child i u e a = let z : Writable t (Spawns i u) = rw e at a in z .0
-
-  pub writable-other : (i u j : ℕ) → m ≡ Meets i u j → Writable t m → u < 64
-  unfolding Writable
-  writable-other i u j e a = let z : Writable t (Meets i u j) = rw e at a in z .0
-
-  pub writable-apart : (i u j : ℕ) → m ≡ Meets i u j → Writable t m → u ≢ t
-  unfolding Writable
-  writable-apart i u j e a = let z : Writable t (Meets i u j) = rw e at a in z .1
-
-  pub writable-aside : (i u : ℕ) → m ≡ Spawns i u → Writable t m → u ≢ t
-  unfolding Writable
-  writable-aside i u e a = let z : Writable t (Spawns i u) = rw e at a in z .1
-
 -- an arm of the match that makes a move
 module _ (tb : Table) (s s₁ : State) (t : ℕ) (m n : Move) (e : m ≡ n) where
-  pub made-arm : s₁ ≡ perform tb s t m → perform tb s t n ≡ made tb s t n → s₁ ≡ made tb s t m
-  made-arm f g = f ∙ rw e g
-
   pub made-anew : s₁ ≡ perform tb s t n → perform tb s t n ≡ made tb s t n → s₁ ≡ made tb s t m
   made-anew f g = f ∙ rw e g
 
   pub lacking-arm : s₁ ≡ made tb s t n → s₁ ≡ made tb s t m
   lacking-arm f = rw e f
 
--- ---- the move that a ready thread makes
+-- ---- the move that a thread makes
 
-module _ (tb : Table) (s : State) (t : ℕ) (r : isReady (thread s t) ≡ true) where
-  decided-writable : (m : Move) → move tb s t ≡ m → Writable t m
-  unfolding Writable
-  decided-writable Ends e = tt
-  decided-writable Calls e = tt
-  decided-writable Waits e = tt
-  decided-writable (Goes i) e = tt
-  decided-writable (Creates i c) e = creates-free tb s t i c e .0
-  decided-writable (Spawns i u) e = (spawns-free tb s t i u e .0, spawns-other tb s t i u e r)
-  decided-writable (Meets i u j) e = meets-partner tb s t i u j e
-  decided-writable LacksThread e = tt
-  decided-writable LacksChannel e = tt
+module _ (tb : Table) (s : State) (t : ℕ) where
+  decided-child : (m : Move) → move tb s t ≡ m → ChildIn m
+  unfolding ChildIn
+  decided-child Ends e = tt
+  decided-child Calls e = tt
+  decided-child Waits e = tt
+  decided-child (Goes i) e = tt
+  decided-child (Creates i c) e = tt
+  decided-child (Spawns i u) e = spawns-free tb s t i u e .0
+  decided-child (Meets i u j) e = tt
+  decided-child LacksThread e = tt
+  decided-child LacksChannel e = tt
 
-  pub move-writable : (m : Move) → m ≡ move tb s t → Writable t m
-  move-writable m e = decided-writable m (sym e)
+  pub move-child : (m : Move) → m ≡ move tb s t → ChildIn m
+  move-child m e = decided-child m (sym e)
 
 -- after a move, and after the turn has moved on, the state is sound
 module _ (tb : Table) (g : Granted tb) (s : State) (ok : Sound tb s) (t : ℕ) (l : t < 64) (r : isReady (thread s t) ≡ true) where
