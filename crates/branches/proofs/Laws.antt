@@ -17,7 +17,8 @@ use Rattle.rules.specs.declared.Direction.the-variants.{Out, In}
 use Rattle.rules.specs.declared.Act.{Act}
 use Rattle.rules.specs.declared.Act.the-variants.{Tau, Meeting, New, Spawn, Assignment}
 use Rattle.branches.specs.Passed.{passed}
-use Rattle.branches.specs.Way.{assigns?}
+use Rattle.branches.specs.Way.{assigns?, valueAlong, metAlong, metAlongBoth}
+use Rattle.branches.specs.declared.Way.{Way}
 
 pub assigns-arm : (r : Bool) (a b : Act) → a ≡ b → r ≡ assigns? b → r ≡ assigns? a
 assigns-arm r a b e f = rw e f
@@ -70,7 +71,22 @@ module _ (b : List ℕ) (t n k v : ℕ) (s₁ : State) (e : s₁ ≡ withThread 
 
 pub ruleset goings = (sender-goes, receiver-goes, act-passes, act-stores)
 
--- ---- two rows: thread t sends, and thread u receives
+-- ---- two rows
+
+module _ (tb : Table) (s s₁ s₂ : State) (t : ℕ) (own : Way) (x u : ℕ) (other : Way) (y : ℕ) where
+  pub both-go : s₂ ≡ withThread s₁ u (metAlong tb (thread s₁ u) other y) → s₁ ≡ withThread s t (metAlong tb (thread s t) own x)
+      → u ≢ t → s₂ ≡ withThread (withThread s t (metAlong tb (thread s t) own x)) u (metAlong tb (thread s u) other y)
+  both-go e f n =
+      let w : thread s₁ u ≡ thread s u = ap (λ (z : State). thread z u) f ∙ thread-other s t (metAlong tb (thread s t) own x) u n in
+      e ∙ rw (w, f)
+
+module _ (tb : Table) (s s₁ : State) (t : ℕ) (own : Way) (x u : ℕ) (other : Way) (y : ℕ) where
+  pub meeting-goes-on : s₁ ≡ withThread (withThread s t (metAlong tb (thread s t) own x)) u (metAlong tb (thread s u) other y)
+      → x ≡ valueAlong tb (thread s u) other → y ≡ valueAlong tb (thread s t) own → s₁ ≡ metAlongBoth tb s t own u other
+  unfolding metAlongBoth
+  meeting-goes-on e f g = e ∙ rw (f, g)
+
+-- thread t sends, and thread u receives
 
 pub passed-on : (tb : Table) (s s₁ s₂ : State) (t a u b n m k v x y z : ℕ) → s₂ ≡ withThread s₁ u (met In (thread s₁ u) m k v) → s₁ ≡ withThread s t (resumed (thread s t) n)
     → u ≢ t → n ≡ nextOf tb y a → y ≡ standsAt (thread s t) → m ≡ nextOf tb z b → z ≡ standsAt (thread s u) → k ≡ at tb b 6 → x ≡ at tb a 6 → v ≡ slotOf (thread s t) x

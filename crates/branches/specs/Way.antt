@@ -4,7 +4,7 @@ use Prim.Native.Nat.{ℕ}
 use mathlib.Core.Bool.{Bool, true, false}
 use mathlib.Core.List.{List}
 use Rattle.table.specs.Table.{Table}
-use Rattle.state.specs.State.{standsAt, slotOf}
+use Rattle.state.specs.State.{State, thread, standsAt, slotOf, withThread}
 use Rattle.rules.specs.Program.{nextOf, fieldA, fieldB, actOf, assigned}
 use Rattle.rules.specs.Moves.{met, gone, rowOf, sideOf}
 use Rattle.rules.specs.declared.Act.{Act}
@@ -35,3 +35,9 @@ module _ (tb : Table) (row : List ℕ) where
     -- its row after a tau or an assignment
     unfoldable pub goneAlong : List ℕ
     goneAlong = gone (w .act) row (w .next) (fieldA tb (w .row)) (assigned tb (w .row) row)
+
+-- the state after threads t and u have met, with what they give each other
+unfoldable pub metAlongBoth : Table → State → ℕ → Way → ℕ → Way → State
+metAlongBoth tb s t own u other =
+    withThread (withThread s t (metAlong tb (thread s t) own (valueAlong tb (thread s u) other)))
+    u (metAlong tb (thread s u) other (valueAlong tb (thread s t) own))

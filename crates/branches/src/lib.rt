@@ -8,7 +8,7 @@ ghost use Rattle.state.specs.State.{stateOf, thread, withThread};
 ghost use Rattle.rules.specs.Program.{actOf};
 ghost use Rattle.rules.specs.Moves.{met, gone, createdBy, typeBy, sideOf, typed, spawnedBy, written};
 ghost use Rattle.rules.specs.declared.Move.the-variants.{Creates, Spawns};
-ghost use Rattle.branches.specs.Way.{assigns?, wayOf, valueAlong, metAlong, goneAlong};
+ghost use Rattle.branches.specs.Way.{assigns?, wayOf, valueAlong, metAlong, metAlongBoth, goneAlong};
 ghost use Rattle.branches.specs.Passed.{passed};
 use rules::Act;
 use rules::Direction;
@@ -100,6 +100,49 @@ pub fn write_met(
     let slot = table::cell_of(table, index, way.row, 6);
     let act = way.act;
     go_on(state, t, side_of(act), way.next, slot, v);
+}
+
+// Threads t and u go on after their meeting, at which t is given x and u is given y.
+fn write_both(
+    table: &[u8],
+    index: &[u32],
+    state: &mut [u32; state::WORDS],
+    t: u32,
+    own: Way,
+    x: u32,
+    u: u32,
+    other: Way,
+    y: u32,
+)
+    requires { ⌜ Indexed (tableOf (now table)) (now index) ⌝ }
+    requires { ⌜ t < 64 ⌝ }
+    requires { ⌜ u < 64 ⌝ }
+    requires { ⌜ u ≢ t ⌝ }
+    ensures { λ _. ⌜ stateOf (now (state .exit)) ≡ withThread (withThread (stateOf (now (state .entry))) t (metAlong (tableOf (now (table .entry))) (thread (stateOf (now (state .entry))) t) own x)) u (metAlong (tableOf (now (table .entry))) (thread (stateOf (now (state .entry))) u) other y) ⌝ }
+{
+    write_met(table, index, state, t, own, x);
+    write_met(table, index, state, u, other, y);
+}
+
+// The same, with what they give each other.
+pub fn write_meeting(
+    table: &[u8],
+    index: &[u32],
+    state: &mut [u32; state::WORDS],
+    t: u32,
+    own: Way,
+    u: u32,
+    other: Way,
+)
+    requires { ⌜ Indexed (tableOf (now table)) (now index) ⌝ }
+    requires { ⌜ t < 64 ⌝ }
+    requires { ⌜ u < 64 ⌝ }
+    requires { ⌜ u ≢ t ⌝ }
+    ensures { λ _. ⌜ stateOf (now (state .exit)) ≡ metAlongBoth (tableOf (now (table .entry))) (stateOf (now (state .entry))) t own u other ⌝ }
+{
+    let x = value_by(table, index, state, u, other);
+    let y = value_by(table, index, state, t, own);
+    write_both(table, index, state, t, own, x, u, other, y);
 }
 
 // Thread t goes on after the send in a row, and thread u after the receive in another, with what t gives in its slot.

@@ -162,8 +162,29 @@ fn make_waiting(table: &[u8], index: &[u32], state: &mut [u32; state::WORDS], t:
     writes::write_waiting(state, t);
 }
 
-// Threads t and u go on after the meeting of their branches i and j, of which one sends and the other receives.
-fn write_meets(
+// Threads t and u go on after the meeting of their branches i and j, whatever is given.
+fn write_joined(
+    table: &[u8],
+    index: &[u32],
+    state: &mut [u32; state::WORDS],
+    t: u32,
+    i: u32,
+    u: u32,
+    j: u32,
+)
+    requires { ⌜ Indexed (tableOf (now table)) (now index) ⌝ }
+    requires { ⌜ t < 64 ⌝ }
+    requires { ⌜ u < 64 ⌝ }
+    requires { ⌜ u ≢ t ⌝ }
+    ensures { λ _. ⌜ stateOf (now (state .exit)) ≡ written (tableOf (now (table .entry))) (stateOf (now (state .entry))) t (Meets i u j) ⌝ }
+{
+    let own = branches::way_by(table, index, state, t, i);
+    let other = branches::way_by(table, index, state, u, j);
+    branches::write_meeting(table, index, state, t, own, u, other);
+}
+
+// The same where it is known that one sends and the other receives.
+fn write_passed(
     table: &[u8],
     index: &[u32],
     state: &mut [u32; state::WORDS],
@@ -203,7 +224,6 @@ fn make_joined(
     requires { ⌜ Counted (tableOf (now table)) (stateOf (now state)) ⌝ }
     requires { ⌜ u < 64 ⌝ }
     requires { ⌜ u ≢ t ⌝ }
-    requires { ⌜ Facing (tableOf (now table)) (stateOf (now state)) t i u j ⌝ }
     ensures { λ _. ⌜ settled (tableOf (now (table .entry))) (stateOf (now (state .exit))) ≡ perform (tableOf (now (table .entry))) (settled (tableOf (now (table .entry))) (stateOf (now (state .entry)))) t (Meets i u j) ⌝ }
     ensures { λ _. ⌜ Counted (tableOf (now (table .entry))) (stateOf (now (state .exit))) ⌝ }
 {
@@ -211,7 +231,7 @@ fn make_joined(
     let mut other = [0u8; counts::LIST];
     let waits = counts::take_down(table, index, state, t, &mut old);
     let awaits = counts::take_down(table, index, state, u, &mut other);
-    write_meets(table, index, state, t, i, u, j);
+    write_joined(table, index, state, t, i, u, j);
     counts::settle_two(table, index, state, t, u, &old, waits, &other, awaits);
 }
 
@@ -246,7 +266,7 @@ fn make_meeting(
     ensures { λ _. ⌜ Counted (tableOf (now (table .entry))) (stateOf (now (state .exit))) ⌝ }
 {
     if is_number(table, index, state, t, i) {
-        write_meets(table, index, state, t, i, u, j);
+        write_passed(table, index, state, t, i, u, j);
         return;
     }
     make_joined(table, index, state, t, i, u, j);

@@ -10,5 +10,5 @@ make-meeting-spec =
     (λ c κs. search needs)
     (λ c κs. (search, (search, (search meets-in, (search meets-other, search meets-facing)))))
     (λ c. (search meets-made, search meets-counted))
-    (λ c κs. (search, (search, (search, (search meets-in, (search meets-other, search meets-facing))))))
+    (λ c κs. (search, (search, (search, (search meets-in, search meets-other)))))
     (λ c. search needs))

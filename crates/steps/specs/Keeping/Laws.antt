@@ -28,8 +28,8 @@ use Rattle.rules.specs.declared.Move.{Move}
 use Rattle.rules.specs.declared.Move.the-variants.{Calls, Waits, Goes, Spawns, Meets}
 use Rattle.writes.specs.Calling.{callKeeps}
 use Rattle.branches.specs.Passed.{passed}
-use Rattle.branches.specs.Way.{wayOf, metAlong, goneAlong}
-use Rattle.branches.specs.Way.Laws.{met-way, gone-way}
+use Rattle.branches.specs.Way.{wayOf, metAlong, metAlongBoth, goneAlong}
+use Rattle.branches.specs.Way.Laws.{met-way, gone-way, meeting-way}
 use Rattle.branches.specs.declared.Way.{Way}
 use Rattle.granted.specs.Granted.{Granted}
 use Rattle.moves.specs.Decided.{meets-partner, spawns-other}
@@ -87,6 +87,10 @@ module _ (tb : Table) (s s₁ : State) (t a i u b j x y : ℕ) (r : Bool) (p : a
       let k′ : actOf tb (rowOf tb (thread s t) i) ≡ Meeting In = rw z at k in
       let l′ : actOf tb (rowOf tb (thread s u) j) ≡ Meeting Out = rw z at l in
       f ∙ swapped s t u _ _ n ∙ rw (own, other, k′, l′)
+
+pub joined-written : (tb : Table) (s s₁ : State) (t i u j : ℕ) (own other : Way) → s₁ ≡ metAlongBoth tb s t own u other → own ≡ wayOf tb (thread s t) i → other ≡ wayOf tb (thread s u) j
+    → s₁ ≡ written tb s t (Meets i u j)
+joined-written tb s s₁ t i u j own other e p q = e ∙ rw (p, q) (meeting-way tb s t i u j)
 
 -- ---- rows that hold what they held
 

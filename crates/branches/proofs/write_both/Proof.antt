@@ -1,0 +1,12 @@
+use Rattle.branches.proofs.Laws.{both-go}
+use borrow.Author.Needs.{needs}
+use Rattle.branches.proofs.write_both.Statement.{statement}
+use Rattle.branches.proofs.write_both.Tie as tie
+
+pub write-both-spec : {M : Type 1} → statement M
+write-both-spec =
+    tie.close
+    (tie.spec
+    (λ c κs. search needs)
+    (λ c κs. search needs)
+    (λ c. search both-go))
