@@ -8,6 +8,7 @@ ghost use Rattle.state.specs.State.{stateOf, thread, isReady};
 ghost use Rattle.granted.specs.Granted.{Granted};
 ghost use Rattle.engine_laws.specs.Sound.{Sound};
 ghost use Rattle.rules.specs.Holding.{settled};
+ghost use Rattle.rules.specs.Offers.{offersAt, offeringBranch, offers, partnerOf};
 ghost use Rattle.rules.specs.Moves.{move};
 ghost use Rattle.rules.specs.Calls.{canStep, stepAnswer, Course};
 ghost use Rattle.steps.specs.Counted.{Counted};
@@ -27,8 +28,7 @@ use rules::Turn;
 
 const MAX_THREADS: u32 = 64;
 
-// The bench as a party to a meeting: no thread has this number.
-const BENCH: u32 = 64;
+const MAX_CHANNELS: u32 = 128;
 
 // What a step from a node is answered with, by its move.
 pub fn step_answer(node: u32, m: Move) -> Stepped
@@ -127,6 +127,92 @@ pub fn step(table: &[u8], index: &[u32], state: &mut [u32; state::WORDS], t: u32
     Stepped::Refused(Refusal::Thread)
 }
 
+// Whether thread u offers d on channel c by its branch i: a meeting whose guard is true.
+fn offers_at(
+    table: &[u8],
+    index: &[u32],
+    state: &[u32; state::WORDS],
+    u: u32,
+    d: Direction,
+    c: u32,
+    i: u32,
+) -> bool
+    requires { ⌜ Indexed (tableOf (now table)) (now index) ⌝ }
+    ensures { λ r. ⌜ r ≡ offersAt (tableOf (now (table .entry))) (thread (stateOf (now (state .entry))) u) d c i ⌝ }
+{
+    let node = state::thread_word(state, u as usize, 1);
+    let row = program::branch_at(table, index, node, i);
+    if moves::is_meeting(table, index, row, d) {
+        return moves::is_offered(table, index, row, state, u, c);
+    }
+    false
+}
+
+// The first branch of thread u by which it offers d on channel c; the number of its branches where there is none.
+fn offering_branch(
+    table: &[u8],
+    index: &[u32],
+    state: &[u32; state::WORDS],
+    u: u32,
+    d: Direction,
+    c: u32,
+) -> u32
+    requires { ⌜ Indexed (tableOf (now table)) (now index) ⌝ }
+    ensures { λ r. ⌜ r ≡ offeringBranch (tableOf (now (table .entry))) (thread (stateOf (now (state .entry))) u) d c ⌝ }
+{
+    let node = state::thread_word(state, u as usize, 1);
+    let n = table::branch_count_of(table, index, node);
+    for i in 0..n {
+        if offers_at(table, index, state, u, d, c, i) {
+            return i;
+        }
+    }
+    n
+}
+
+// Whether thread u waits and offers d on channel c.
+fn offers(
+    table: &[u8],
+    index: &[u32],
+    state: &[u32; state::WORDS],
+    u: u32,
+    d: Direction,
+    c: u32,
+) -> bool
+    requires { ⌜ Indexed (tableOf (now table)) (now index) ⌝ }
+    ensures { λ r. ⌜ r ≡ offers (tableOf (now (table .entry))) (thread (stateOf (now (state .entry))) u) d c ⌝ }
+{
+    if MAX_CHANNELS <= c {
+        return false;
+    }
+    if state::thread_word(state, u as usize, 0) != 2 {
+        return false;
+    }
+    let node = state::thread_word(state, u as usize, 1);
+    let n = table::branch_count_of(table, index, node);
+    offering_branch(table, index, state, u, d, c) < n
+}
+
+// The first waiting thread that offers d on port p, and the first of its branches that does: for the bench, which is no thread itself.
+fn find_at_port(
+    table: &[u8],
+    index: &[u32],
+    state: &[u32; state::WORDS],
+    d: Direction,
+    p: u32,
+) -> Partner
+    requires { ⌜ Indexed (tableOf (now table)) (now index) ⌝ }
+    ensures { λ r. ⌜ r ≡ partnerOf (tableOf (now (table .entry))) (stateOf (now (state .entry))) 64 d p ⌝ }
+{
+    for u in 0..MAX_THREADS {
+        if offers(table, index, state, u, d, p) {
+            let i = offering_branch(table, index, state, u, d, p);
+            return Partner::At(u, i);
+        }
+    }
+    Partner::Nobody
+}
+
 // The number of pattern v is given on port p.
 pub fn give(table: &[u8], index: &[u32], state: &mut [u32; state::WORDS], p: u32, v: u32) -> Given
     requires { ⌜ Indexed (tableOf (now table)) (now index) ⌝ }
@@ -137,7 +223,7 @@ pub fn give(table: &[u8], index: &[u32], state: &mut [u32; state::WORDS], p: u32
     if table::cell_of(table, index, 0, 6) <= p {
         return Given::Refused(Refusal::Port);
     }
-    match moves::find_partner(table, index, state, BENCH, Direction::In, p, MAX_THREADS) {
+    match find_at_port(table, index, state, Direction::In, p) {
         Partner::Nobody => Given::Nobody,
         Partner::At(u, j) => {
             steps::make_met(table, index, state, u, j, v);
@@ -156,7 +242,7 @@ pub fn take(table: &[u8], index: &[u32], state: &mut [u32; state::WORDS], p: u32
     if table::cell_of(table, index, 0, 6) <= p {
         return Taken::Refused(Refusal::Port);
     }
-    match moves::find_partner(table, index, state, BENCH, Direction::Out, p, MAX_THREADS) {
+    match find_at_port(table, index, state, Direction::Out, p) {
         Partner::Nobody => Taken::Nobody,
         Partner::At(u, j) => {
             let way = branches::way_by(table, index, state, u, j);

@@ -5,7 +5,7 @@ use mathlib.Core.Path.{_≡_, refl, sym, _∙_}
 use mathlib.Core.Bool.{Bool, true, false, not}
 use mathlib.Core.List.{List}
 use lib.Dec.{ltb, eqb}
-use borrow.Author.Tests.{lt-ltb, le-ltb, ltb-true, ltb-false, eqb-true, eq-eqb, ne-eqb}
+use borrow.Author.Tests.{le-ltb, ltb-true, ltb-false, eqb-true, eq-eqb, ne-eqb}
 use Rattle.numbers.specs.Rows.{at}
 use Rattle.numbers.specs.Search.{first, some}
 use Rattle.numbers.specs.Search.Laws.{caseB, contra, first-more, first-hit, first-below, first-void, some-intro}
@@ -14,13 +14,14 @@ use Rattle.table.specs.Table.{Table}
 use Rattle.table.specs.Layout.{branchCount}
 use Rattle.state.specs.State.{State, maxThreads, thread, standsAt}
 use Rattle.rules.specs.Program.{opposite}
-use Rattle.rules.specs.Offers.{offersIn, offersAt, offeringBranch, offers, answers, answering, partnerOf}
+use Rattle.rules.specs.Offers.{offersIn, offersAt, offeringBranch, offers, answers, partnerOf}
 use Rattle.rules.specs.Moves.{firstFrom}
 use Rattle.rules.specs.declared.Direction.{Direction}
 use Rattle.rules.specs.declared.Partner.{Partner}
 use Rattle.rules.specs.declared.Partner.the-variants.{Nobody, At}
 use Rattle.moves.specs.Apart.{Apart}
 use Rattle.moves.specs.Around.{from-more, from-hit, from-ge, from-before}
+use Rattle.moves.specs.Partners.{none-answers, one-answers}
 use Rattle.moves.specs.Seen.{seenIn}
 use Rattle.moves.specs.Top.{UsedBelow, top-le, answers-rest}
 use Rattle.moves.specs.Tried.{isWaitingThread, tried, firstRow, row-tried, answers-tried, only-waiting, tried-all}
@@ -80,16 +81,11 @@ module _ (tb : Table) (s : State) (d : Direction) (c u r i n : ℕ) (f : r ≡ f
       and-right (not (eqb u t)) (offers tb (thread s u) (opposite d) c) a
 
 module _ (tb : Table) (s : State) (t : ℕ) (d : Direction) (c : ℕ) where
-  -- none of the threads answers
-  none-answers : first (answers tb s t d c) maxThreads ≡ maxThreads → Nobody ≡ partnerOf tb s t d c
-  unfolding partnerOf answering
-  none-answers e = rw e
-
   -- what is no channel has no partner
   pub no-channel : 128 ≤ c → Nobody ≡ partnerOf tb s t d c
   unfolding answers offers
   no-channel h =
-      none-answers (first-void (answers tb s t d c) maxThreads (λ u l. rw (le-ltb c 128 h) (caseB (eqb u t) (λ e. rw e) (λ e. rw e))))
+      none-answers tb s t d c (first-void (answers tb s t d c) maxThreads (λ u l. rw (le-ltb c 128 h) (caseB (eqb u t) (λ e. rw e) (λ e. rw e))))
 
   -- the threads from m up to the first that waits, r, are passed over
   pub threads-skipped : (n m r : ℕ) → r ≡ firstFrom n m (isWaitingThread s) → first (answers tb s t d c) m ≡ m → first (answers tb s t d c) r ≡ r
@@ -100,7 +96,7 @@ module _ (tb : Table) (s : State) (t : ℕ) (d : Direction) (c : ℕ) where
       (λ y. only-waiting tb s t d c k (from-before (isWaitingThread s) m n r e k (ltb-false k m y) l)))
 
   pub nobody-is : (f : Partner) (u top : ℕ) → f ≡ Nobody → first (answers tb s t d c) u ≡ u → top ≤ u → UsedBelow s top → f ≡ partnerOf tb s t d c
-  nobody-is f u top e past h k = e ∙ none-answers (answers-rest s top k tb t d c u past h)
+  nobody-is f u top e past h k = e ∙ none-answers tb s t d c (answers-rest s top k tb t d c u past h)
 
   module _ (u : ℕ) where
     -- it offers, and none before it does
@@ -109,11 +105,8 @@ module _ (tb : Table) (s : State) (t : ℕ) (d : Direction) (c : ℕ) where
       unfolding wanted?
       offered = let w : wanted? v ≡ true = rw o in sym w ∙ offer-is tb s d c u r i n f v e h
 
-      thread-is : u < 64 → answering tb s t d c ≡ u
-      unfolding answering
-      thread-is k =
-          sym (first-hit (answers tb s t d c) u 64 (answers tb s t d c u) past refl
-          (rw (answers-tried tb s t d c u l, ← b) (some-intro (offersAt tb (thread s u) d c) n i h (sym offered))) k)
+      answered : answers tb s t d c u ≡ true
+      answered = rw (answers-tried tb s t d c u l, ← b) (some-intro (offersAt tb (thread s u) d c) n i h (sym offered))
 
       branch-is : offeringBranch tb (thread s u) d c ≡ i
       unfolding offeringBranch
@@ -122,8 +115,7 @@ module _ (tb : Table) (s : State) (t : ℕ) (d : Direction) (c : ℕ) where
           rw (← w) (sym (first-hit (offersAt tb (thread s u) d c) i n true g offered refl h))
 
       pub found-is : (top : ℕ) → u < top → UsedBelow s top → At u i ≡ partnerOf tb s t d c
-      unfolding partnerOf
-      found-is top h k = let l : u < 64 = omega (arith, top-le s top k) in rw (thread-is l, lt-ltb u 64 l, branch-is)
+      found-is top h k = rw (← branch-is) (one-answers tb s t d c u past answered (omega (arith, top-le s top k)))
 
     -- no branch of thread u that is tried offers
     module _ (n i : ℕ) (b : n ≡ tried tb s t u) (g : first (offersAt tb (thread s u) d c) i ≡ i) (h : n ≤ i) (j : i ≤ n) (l : c < 128) where
@@ -143,7 +135,7 @@ module _ (tb : Table) (s : State) (t : ℕ) (d : Direction) (c : ℕ) where
       unfolding answers Apart
       opposed-ends o k e apart top used m =
           let low : u < maxThreads = omega (arith, top-le s top used) in
-          none-answers (first-void (answers tb s t d c) maxThreads
+          none-answers tb s t d c (first-void (answers tb s t d c) maxThreads
           (λ v q. caseB (answers tb s t d c v)
           (λ y. caseB (eqb v u)
           (λ z. let same : v ≡ u = eqb-true v u z in contra y (rw same silent))

@@ -1,13 +1,13 @@
--- What an offer and a partner that is found say of the state. Assumes nothing.
+-- What an offer and a partner that is found say of the state, and which partner is found. Assumes nothing.
 use Prim.Native.Nat.{ℕ, _<_}
 use mathlib.Core.Path.{_≡_, refl, sym, _∙_}
 use mathlib.Core.Bool.{true, not, _&&_}
 use mathlib.Core.List.{List}
 use mathlib.Core.Logic.{_≢_}
 use lib.Dec.{ltb, eqb}
-use borrow.Author.Tests.{ltb-true, eq-eqb}
+use borrow.Author.Tests.{lt-ltb, ltb-true, eq-eqb}
 use Rattle.numbers.specs.Search.{first, some}
-use Rattle.numbers.specs.Search.Laws.{caseB, contra, first-passes}
+use Rattle.numbers.specs.Search.Laws.{caseB, contra, first-hit, first-passes}
 use Rattle.numbers.specs.Tests.{and-left, and-right}
 use Rattle.table.specs.Table.{Table}
 use Rattle.table.specs.Layout.{branchCount}
@@ -68,3 +68,16 @@ module _ (tb : Table) (s : State) (t : ℕ) (d : Direction) (c : ℕ) where
   -- its bound, as it is needed where p was answered and matched
   pub partner-below : (p : Partner) (u j : ℕ) → p ≡ partnerOf tb s t d c → p ≡ At u j → u < maxThreads
   partner-below p u j e f = let (l, o, a, b, g) = partner-in u j (sym e ∙ f) in l
+
+  -- none of the threads answers
+  pub none-answers : first (answers tb s t d c) maxThreads ≡ maxThreads → Nobody ≡ partnerOf tb s t d c
+  unfolding partnerOf answering
+  none-answers e = rw e
+
+  -- thread u answers, and none before it
+  pub one-answers : (u : ℕ) → first (answers tb s t d c) u ≡ u → answers tb s t d c u ≡ true → u < maxThreads
+      → At u (offeringBranch tb (thread s u) d c) ≡ partnerOf tb s t d c
+  unfolding partnerOf answering
+  one-answers u past a l =
+      let q : first (answers tb s t d c) maxThreads ≡ u = sym (first-hit (answers tb s t d c) u maxThreads (answers tb s t d c u) past refl a l) in
+      rw (q, lt-ltb u maxThreads l)

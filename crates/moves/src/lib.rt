@@ -39,7 +39,7 @@ pub fn is_meeting(table: &[u8], index: &[u32], row: usize, d: Direction) -> bool
 }
 
 // Whether the slot that the branch in a row names first has channel c, and its guard is true of thread u.
-fn is_offered(
+pub fn is_offered(
     table: &[u8],
     index: &[u32],
     row: usize,
@@ -198,7 +198,7 @@ fn next_waiting(state: &[u32; state::WORDS], from: u32, limit: u32) -> u32
 
 // The first waiting thread other than t that offers d on channel c, and the first of its branches that does. No row from top on is in use.
 // Where a thread offers the other direction on c nobody but itself may offer d, and the search ends with its branches.
-pub fn find_partner(
+fn find_partner(
     table: &[u8],
     index: &[u32],
     state: &[u32; state::WORDS],

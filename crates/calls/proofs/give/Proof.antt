@@ -1,7 +1,6 @@
 use Rattle.calls.proofs.Laws.{give-refused, give-nobody, give-met}
 use Rattle.moves.specs.Partners.{partner-below}
-use Rattle.moves.specs.Top.{used-all}
-use Rattle.engine_laws.specs.Sound.Laws.{sound-settled, sound-apart}
+use Rattle.engine_laws.specs.Sound.Laws.{sound-settled}
 use borrow.Author.Needs.{needs}
 use Rattle.calls.proofs.give.Statement.{statement}
 use Rattle.calls.proofs.give.Tie as tie
@@ -12,7 +11,7 @@ give-spec =
     (tie.spec
     (λ c κs. search needs)
     (λ c. search give-refused)
-    (λ c κs. (search, (search used-all, search sound-apart)))
+    (λ c κs. search needs)
     (λ c. search needs)
     (λ c. search needs)
     (λ c κs. (search, (search partner-below, search sound-settled)))
