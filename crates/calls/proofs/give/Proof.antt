@@ -1,6 +1,6 @@
 use Rattle.calls.proofs.Laws.{give-refused, give-nobody, give-met}
 use Rattle.moves.specs.Partners.{partner-below}
-use Rattle.engine_laws.specs.Sound.Laws.{sound-settled}
+use Rattle.steps.specs.Keeping.Laws.{at-port}
 use borrow.Author.Needs.{needs}
 use Rattle.calls.proofs.give.Statement.{statement}
 use Rattle.calls.proofs.give.Tie as tie
@@ -14,6 +14,6 @@ give-spec =
     (λ c κs. search needs)
     (λ c. search needs)
     (λ c. search needs)
-    (λ c κs. (search, (search partner-below, search sound-settled)))
+    (λ c κs. (search, (search partner-below, (search, (search, search at-port)))))
     (λ c. search (give-nobody, give-met))
     (λ c. search (give-nobody, give-met)))

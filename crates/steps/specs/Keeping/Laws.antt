@@ -231,6 +231,7 @@ module _ (tb : Table) (b : List ℕ) (u j v : ℕ) (s₁ : State) (way : Way) (f
   unfolding metByBench
   met-made s₂ q = q ∙ rw met-row
 
-pub at-port : (tb : Table) (s : State) (d : Direction) (p u j : ℕ) (x : Partner) → p < ports tb → x ≡ partnerOf tb s bench d p → x ≡ At u j → AtPort tb s u j
+-- r is the number of ports, as it was read
+pub at-port : (tb : Table) (s : State) (d : Direction) (p u j r : ℕ) (x : Partner) → r ≡ ports tb → p < r → x ≡ partnerOf tb s bench d p → x ≡ At u j → AtPort tb s u j
 unfolding AtPort
-at-port tb s d p u j x l e f = (d, p, l, sym e ∙ f)
+at-port tb s d p u j r x q l e f = (d, p, (rw (← q) l), sym e ∙ f)
