@@ -1,7 +1,7 @@
 // What a table says of the node at which a thread stands, read with the thread's slots, and the search for a partner.
 ghost use mathlib.Core.Path.{_≡_};
 ghost use Prim.Native.Nat.{_+_, _≤_, _<_};
-ghost use Rattle.table.specs.Table.{tableOf};
+ghost use Rattle.table.specs.Table.{tableOf, definitions};
 ghost use Rattle.table.specs.Layout.{start, definitionOf, slotType};
 ghost use Rattle.table.specs.declared.Part.the-variants.{Nodes};
 ghost use Rattle.table.specs.Index.{Indexed};
@@ -15,6 +15,7 @@ use table::Part;
 pub fn definition_of(table: &[u8], index: &[u32], n: u32) -> u32
     requires { ⌜ Indexed (tableOf (now table)) (now index) ⌝ }
     ensures { λ r. ⌜ r ≡ definitionOf (tableOf (now (table .entry))) n ⌝ }
+    ensures { λ r. ⌜ r ≤ definitions (tableOf (now (table .entry))) ⌝ }
 {
     table::owner_of(table, index, Part::Nodes, n as usize)
 }
@@ -34,7 +35,9 @@ pub fn type_at(table: &[u8], index: &[u32], n: u32, k: u32) -> u32
     ensures { λ r. ⌜ r ≡ typeAt (tableOf (now (table .entry))) n k ⌝ }
     ensures { λ r. ⌜ r < 65536 ⌝ }
 {
-    slot_type(table, index, definition_of(table, index, n), k)
+    let d = definition_of(table, index, n);
+    let place = table::start_within(table, index, Part::Slots, d) as usize + k as usize;
+    table::cell_of(table, index, table::slot_row_of(table, index) + place, 1)
 }
 
 // Whether slot k of definition d is a channel slot.
@@ -74,7 +77,7 @@ fn node_within(table: &[u8], index: &[u32], n: u32, x: u32) -> u32
     requires { ⌜ x < 65536 ⌝ }
     ensures { λ r. ⌜ r ≡ start (tableOf (now (table .entry))) Nodes (definitionOf (tableOf (now (table .entry))) n) + x ⌝ }
 {
-    table::start_of(table, index, Part::Nodes, definition_of(table, index, n)) + x
+    table::start_within(table, index, Part::Nodes, definition_of(table, index, n)) + x
 }
 
 // The nodes to which the branch in a row, of node n, leads on: itself and its child.

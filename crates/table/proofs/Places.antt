@@ -1,7 +1,7 @@
 -- What is read in the places of an index. Assumes nothing.
 use Prim.Native.Nat.{ℕ, _+_, _-_, _*_, _≤_, _<_}
 use native.Mathlib.Omega.{arith}
-use mathlib.Core.Path.{_≡_, sym, _∙_}
+use mathlib.Core.Path.{_≡_, refl, sym, _∙_}
 use mathlib.Core.List.{List, [], _∷_}
 use lib.ListN.{length, getD}
 use mir.Syntax.{w8, w32, w64}
@@ -43,6 +43,17 @@ module _ (tb : Table) (l : List ℕ) (g : Indexed tb l) (p : Part) (f n : ℕ) w
 
   pub owner-none : n ≡ ownersRoom p → 0 < ownersRoom p → (x : ℕ) → n ≤ x → 0 ≡ owner tb p x
   owner-none b r x h = sym (owner-past tb p x (omega (arith, lines-fit tb (header-counts tb (g .counts)) p r)))
+
+-- block i is there, or it is one past the last
+module _ (tb : Table) (l : List ℕ) (g : Indexed tb l) (p : Part) (f : ℕ) (a : f ≡ startsFrom p) (i : ℕ) (h : i ≤ blocks tb p) where
+  block-fits : i < startsRoom p
+  block-fits = omega (arith, starts-fit tb (header-counts tb (g .counts)) p)
+
+  pub within-inside : f + i < length l
+  within-inside = start-inside tb l g p f (startsRoom p) a refl i block-fits
+
+  pub within-is : getD l (f + i) 0 ≡ start tb p i
+  within-is = start-is tb l g p f (startsRoom p) a refl i block-fits
 
 -- the first rows
 module _ (tb : Table) (l : List ℕ) (g : Indexed tb l) where
@@ -91,6 +102,9 @@ module _ (tb : Table) (p : Part) (r x y : ℕ) (e : x ≡ y) where
 module _ (b l : List ℕ) (g : Indexed (tableOf b) l) (v : (i : ℕ) → Fits w8 (getD b i 0)) where
   pub start-low : (p : Part) (f n : ℕ) → f ≡ startsFrom p → n ≡ startsRoom p → (i : ℕ) → i < n → getD l (f + i) 0 ≤ 12582720
   start-low p f n a e i h = rw (start-is (tableOf b) l g p f n a e i h) (start-few b v l g p i)
+
+  pub within-low : (p : Part) (f : ℕ) → f ≡ startsFrom p → (i : ℕ) → i ≤ blocks (tableOf b) p → getD l (f + i) 0 ≤ 12582720
+  within-low p f a i h = rw (within-is (tableOf b) l g p f a i h) (start-few b v l g p i)
 
 -- a number of an index as a wider one
 pub wider : (l : List ℕ) → ((i : ℕ) → Fits w32 (getD l i 0)) → (k : ℕ) → Fits w64 (getD l k 0)

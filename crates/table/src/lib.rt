@@ -485,6 +485,16 @@ pub fn start_of(table: &[u8], index: &[u32], part: Part, i: u32) -> u32
     0
 }
 
+// The same for a block that is there, and for the end of the last.
+pub fn start_within(table: &[u8], index: &[u32], part: Part, i: u32) -> u32
+    requires { ⌜ Indexed (tableOf (now table)) (now index) ⌝ }
+    requires { ⌜ i ≤ blocks (tableOf (now table)) part ⌝ }
+    ensures { λ r. ⌜ r ≡ start (tableOf (now (table .entry))) part i ⌝ }
+    ensures { λ r. ⌜ r ≤ 12582720 ⌝ }
+{
+    index[starts_from(part) + i as usize]
+}
+
 // The block that x stands in; 0 past the part's lines.
 pub fn owner_of(table: &[u8], index: &[u32], part: Part, x: usize) -> u32
     requires { ⌜ Indexed (tableOf (now table)) (now index) ⌝ }
