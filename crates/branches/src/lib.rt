@@ -1,12 +1,11 @@
 // What a branch that is taken writes: alone, with a partner, with a new channel, with a child.
 ghost use mathlib.Core.Path.{_≡_};
 ghost use mathlib.Core.Logic.{_≢_};
-ghost use Prim.Native.Nat.{_<_, _≤_};
+ghost use Prim.Native.Nat.{_<_};
 ghost use Rattle.table.specs.Table.{tableOf};
 ghost use Rattle.table.specs.Index.{Indexed};
 ghost use Rattle.state.specs.State.{stateOf, thread, withThread};
-ghost use Rattle.rules.specs.Program.{actOf};
-ghost use Rattle.rules.specs.Moves.{met, gone, createdBy, typeBy, sideOf, typed, spawnedBy, written};
+ghost use Rattle.rules.specs.Moves.{met, gone, createdBy, typeBy, sideOf, spawnedBy, written};
 ghost use Rattle.rules.specs.declared.Move.the-variants.{Creates, Spawns};
 ghost use Rattle.branches.specs.Way.{assigns?, wayOf, valueAlong, metAlong, metAlongBoth, goneAlong};
 ghost use Rattle.branches.specs.Passed.{passed};

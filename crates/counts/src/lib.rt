@@ -5,15 +5,12 @@ ghost use Prim.Native.Nat.{_+_, _≤_, _<_};
 ghost use lib.ListN.{replicate};
 ghost use lib.Dec.{eqb};
 ghost use Rattle.numbers.specs.Count.{bit};
-ghost use Rattle.table.specs.Table.{tableOf, slotRow};
-ghost use Rattle.table.specs.Layout.{start};
-ghost use Rattle.table.specs.declared.Part.the-variants.{Slots};
+ghost use Rattle.table.specs.Table.{tableOf};
 ghost use Rattle.table.specs.Index.{Indexed};
 ghost use Rattle.state.specs.State.{stateOf, thread, isWaiting};
 ghost use Rattle.counts.specs.Own.{ownList};
 ghost use Rattle.counts.specs.Own.Listing.{channelIn, listed, lastOwn, ownBy, listedTo, room, ownRoom};
 ghost use Rattle.counts.specs.Shift.{rowCounted, channelShifted, shiftedTo, shifted, rowEntered, rowLeft, settledOne, settledTwo, settledNew};
-use table::Part;
 
 // The entries of a list of channels, one for each slot of a row.
 pub const LIST: usize = 16;
@@ -127,15 +124,6 @@ fn note(
     last
 }
 
-// Where the types of a definition's slots begin in the table.
-fn types_from(table: &[u8], index: &[u32], d: u32) -> usize
-    requires { ⌜ Indexed (tableOf (now table)) (now index) ⌝ }
-    ensures { λ r. ⌜ r ≡ slotRow (tableOf (now (table .entry))) + start (tableOf (now (table .entry))) Slots d ⌝ }
-    ensures { λ r. ⌜ r ≤ 12713792 ⌝ }
-{
-    table::slot_row_of(table, index) + table::start_of(table, index, Part::Slots, d) as usize
-}
-
 // How many slots a row of this status has, by its definition: none where it is free.
 fn slots_in(table: &[u8], index: &[u32], status: u32, d: u32) -> u32
     requires { ⌜ Indexed (tableOf (now table)) (now index) ⌝ }
@@ -173,7 +161,7 @@ fn own_channels(
 {
     let status = state::thread_word(state, t as usize, 0);
     let d = program::definition_of(table, index, state::thread_word(state, t as usize, 1));
-    let from = types_from(table, index, d);
+    let from = program::types_from(table, index, d);
     let n = slots_in(table, index, status, d);
     note(table, index, from, n, state, t, list)
 }

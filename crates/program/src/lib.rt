@@ -1,9 +1,9 @@
 // What a table says of the node at which a thread stands, read with the thread's slots, and the search for a partner.
 ghost use mathlib.Core.Path.{_≡_};
 ghost use Prim.Native.Nat.{_+_, _≤_, _<_};
-ghost use Rattle.table.specs.Table.{tableOf, definitions};
+ghost use Rattle.table.specs.Table.{tableOf, definitions, slotRow};
 ghost use Rattle.table.specs.Layout.{start, definitionOf, slotType};
-ghost use Rattle.table.specs.declared.Part.the-variants.{Nodes};
+ghost use Rattle.table.specs.declared.Part.the-variants.{Slots, Nodes};
 ghost use Rattle.table.specs.Index.{Indexed};
 ghost use Rattle.state.specs.State.{stateOf, thread, slotOf};
 ghost use Rattle.rules.specs.Program.{typeAt, channelSlot, blank, branchAt, nextOf, childOf, actOf, guardHolds, assigned, opposite};
@@ -18,6 +18,15 @@ pub fn definition_of(table: &[u8], index: &[u32], n: u32) -> u32
     ensures { λ r. ⌜ r ≤ definitions (tableOf (now (table .entry))) ⌝ }
 {
     table::owner_of(table, index, Part::Nodes, n as usize)
+}
+
+// Where the types of a definition's slots begin in the table.
+pub fn types_from(table: &[u8], index: &[u32], d: u32) -> usize
+    requires { ⌜ Indexed (tableOf (now table)) (now index) ⌝ }
+    ensures { λ r. ⌜ r ≡ slotRow (tableOf (now (table .entry))) + start (tableOf (now (table .entry))) Slots d ⌝ }
+    ensures { λ r. ⌜ r ≤ 12713792 ⌝ }
+{
+    table::slot_row_of(table, index) + table::start_of(table, index, Part::Slots, d) as usize
 }
 
 // The type of slot k of definition d, and of slot k at node n.

@@ -1,11 +1,12 @@
 -- A row that goes on within its definition, and in which no channel slot gets another channel, holds the channels that it held. Assumes nothing.
 use Prim.Native.Nat.{ℕ, _<_}
 use mathlib.Core.Path.{_≡_, refl, sym, _∙_}
-use mathlib.Core.Bool.{Bool, true, false, _&&_, cond}
+use mathlib.Core.Bool.{true, false, cond}
 use mathlib.Core.List.{List, _∷_}
 use borrow.Author.Tests.{eqb-true}
 use lib.Dec.{ltb, eqb}
 use Rattle.numbers.specs.Search.{every, tabulate}
+use Rattle.numbers.specs.Tests.{parts}
 use Rattle.numbers.specs.Search.Laws.{caseB, contra, every-elim, some-cong, getD-tabulate}
 use Rattle.table.specs.Table.{Table, parameters, slotCount}
 use Rattle.table.specs.Layout.{start, definitionOf, slotType}
@@ -21,11 +22,6 @@ use Rattle.writes.specs.Rows.{entryAt, callAt}
 use Rattle.writes.specs.Calling.{slotKept, callKeeps}
 use Rattle.engine_laws.specs.Reading.Laws.{head-slot}
 use Rattle.engine_laws.specs.Rows.{resumed-node, resumed-slot, waiting-slot, stored-status, stored-node, stored-other}
-
-both : (a b : Bool) → (a && b) ≡ true → (a ≡ true) × (b ≡ true)
-both true true e = (refl, refl)
-both true false e = contra refl (sym e)
-both false b e = contra refl (sym e)
 
 number-slot : (tb : Table) (d k : ℕ) → slotType tb d k ≡ 0 → channelSlot tb d k ≡ false
 unfolding channelSlot
@@ -76,8 +72,9 @@ module _ (tb : Table) (row : List ℕ) (u : inUse row ≡ true) where
       let d = callee tb (standsAt row) in
       let n = start tb Nodes d in
       let f : ℕ → ℕ = λ k. cond (ltb k (parameters tb d)) (slotOf row (argument tb (standsAt row) k)) (blank tb d k) in
-      let (own, more) = both (eqb (definitionOf tb (standsAt row)) d) (eqb (definitionOf tb n) d && every (slotKept tb row d) 16) e in
-      let (first, kept) = both (eqb (definitionOf tb n) d) (every (slotKept tb row d) 16) more in
+      let own : eqb (definitionOf tb (standsAt row)) d ≡ true = search parts in
+      let first : eqb (definitionOf tb n) d ≡ true = search parts in
+      let kept : every (slotKept tb row d) 16 ≡ true = search parts in
       let q : definitionOf tb (standsAt row) ≡ d = eqb-true (definitionOf tb (standsAt row)) d own in
       alike tb row (1 ∷ n ∷ tabulate 16 f) refl u (eqb-true (definitionOf tb n) d first ∙ sym q)
       (λ k h y.

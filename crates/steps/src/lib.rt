@@ -72,14 +72,7 @@ fn make_channel(
 }
 
 // Thread t makes the child u by its branch i.
-fn make_child(
-    table: &[u8],
-    index: &[u32],
-    state: &mut [u32; state::WORDS],
-    t: u32,
-    i: u32,
-    u: u32,
-)
+fn make_child(table: &[u8], index: &[u32], state: &mut [u32; state::WORDS], t: u32, i: u32, u: u32)
     requires { ⌜ Indexed (tableOf (now table)) (now index) ⌝ }
     requires { ⌜ t < 64 ⌝ }
     requires { ⌜ Counted (tableOf (now table)) (stateOf (now state)) ⌝ }

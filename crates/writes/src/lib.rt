@@ -1,23 +1,19 @@
 // What each move writes into the thread rows. The channel rows are settled by those who call.
 ghost use mathlib.Core.Path.{_≡_};
-ghost use mathlib.Core.List.{[], _∷_};
+ghost use mathlib.Core.List.{_∷_};
 ghost use Prim.Native.Nat.{_+_, _<_, _≤_};
-ghost use lib.ListN.{getD, set, replicate};
+ghost use lib.ListN.{replicate};
 ghost use Rattle.numbers.specs.Search.{every, tabulate};
-ghost use Rattle.table.specs.Table.{tableOf, slotRow};
-ghost use Rattle.table.specs.Layout.{start};
-ghost use Rattle.table.specs.declared.Part.the-variants.{Slots};
+ghost use Rattle.table.specs.Table.{tableOf};
 ghost use Rattle.table.specs.Index.{Indexed};
-ghost use Rattle.state.specs.State.{stateOf, thread, standsAt, slotOf, slotsOf, rowSlots, withThread, withMark};
-ghost use Rattle.rules.specs.Program.{blank, callee, argument};
+ghost use Rattle.state.specs.State.{stateOf, thread, standsAt, slotsOf, rowSlots, withThread};
+ghost use Rattle.rules.specs.Program.{blank, callee};
 ghost use Rattle.rules.specs.Start.{freeRow, entered};
-ghost use Rattle.rules.specs.Moves.{resumed, waitingRow, stored, met, goneBy, createdBy, metBy, valueBy, typeBy, sideOf, oneUp, written};
-ghost use Rattle.rules.specs.declared.Move.the-variants.{Calls, Spawns};
+ghost use Rattle.rules.specs.Moves.{resumed, waitingRow, stored, written};
+ghost use Rattle.rules.specs.declared.Move.the-variants.{Calls};
 ghost use Rattle.writes.specs.Rows.{reslotted, entryAt, callAt, portAt};
 ghost use Rattle.writes.specs.Calling.{lastSlot, callBy, keptAt, keptBy, slotKept, callSlots, callKeeps};
 ghost use mathlib.Core.Bool.{_&&_};
-use rules::Act;
-use rules::Direction;
 use table::Part;
 
 // The slots of a row.
@@ -232,15 +228,6 @@ fn lay_call(
     kept
 }
 
-// Where the types of a definition's slots begin in the table.
-fn types_from(table: &[u8], index: &[u32], d: u32) -> usize
-    requires { ⌜ Indexed (tableOf (now table)) (now index) ⌝ }
-    ensures { λ r. ⌜ r ≡ slotRow (tableOf (now (table .entry))) + start (tableOf (now (table .entry))) Slots d ⌝ }
-    ensures { λ r. ⌜ r ≤ 12713792 ⌝ }
-{
-    table::slot_row_of(table, index) + table::start_of(table, index, Part::Slots, d) as usize
-}
-
 // All slots with which the call at thread t's node enters definition d. Answers whether every channel slot gets what it has.
 fn call_slots(
     table: &[u8],
@@ -256,7 +243,7 @@ fn call_slots(
     ensures { λ r. ⌜ r ≡ every (slotKept (tableOf (now (table .entry))) (thread (stateOf (now (state .entry))) t) d) rowSlots ⌝ }
 {
     let row = table::node_row_of(table, index) + stands_at(state, t) as usize;
-    let from = types_from(table, index, d);
+    let from = program::types_from(table, index, d);
     let p = table::parameter_count_of(table, index, d);
     let n = table::slot_count_of(table, index, d);
     lay_call(table, index, row, from, p, n, state, t, slots)

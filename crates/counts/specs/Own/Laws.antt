@@ -2,13 +2,14 @@
 use Prim.Native.Nat.{ℕ, suc, _<_}
 use native.Mathlib.Omega.{arith}
 use mathlib.Core.Path.{_≡_, refl, sym}
-use mathlib.Core.Bool.{Bool, true, false, _&&_, cond}
+use mathlib.Core.Bool.{Bool, true, false, cond}
 use mathlib.Core.List.{List}
 use lib.Dec.{ltb, eqb}
 use lib.ListN.{length}
 use borrow.Author.Tests.{lt-ltb, eqb-true, eq-eqb, ne-eqb}
 use Rattle.numbers.specs.Search.{some}
-use Rattle.numbers.specs.Search.Laws.{caseB, contra, length-tabulate, some-zero, some-suc}
+use Rattle.numbers.specs.Tests.{parts}
+use Rattle.numbers.specs.Search.Laws.{caseB, length-tabulate, some-zero, some-suc}
 use Rattle.table.specs.Table.{Table}
 use Rattle.table.specs.Layout.{definitionOf}
 use Rattle.state.specs.State.{standsAt, slotOf, inUse}
@@ -20,11 +21,6 @@ use Rattle.counts.specs.Own.Listing.{holdsTo}
 -- a place that is no channel is not c
 no-channel : (c : ℕ) → c < 128 → eqb 128 c ≡ false
 no-channel c h = ne-eqb 128 c (λ q. omega (arith, q, h))
-
-both : (a b : Bool) → (a && b) ≡ true → (a ≡ true) × (b ≡ true)
-both true true e = (refl, refl)
-both true false e = contra refl (sym e)
-both false b e = contra refl (sym e)
 
 -- of nested tests that end in v, none gives c where v is not c
 not-here : (b₁ b₂ b₃ : Bool) (v c : ℕ) → c < 128 → (b₁ ≡ true → eqb v c ≡ false) → eqb (cond b₁ (cond b₂ (cond b₃ 128 v) 128) 128) c ≡ false
@@ -43,8 +39,8 @@ module _ (tb : Table) (row : List ℕ) (c : ℕ) (h : c < 128) where
     own-here : hasAt tb row c k ≡ true → ownOf tb row k ≡ cond (some (hasAt tb row c) k) 128 c
     unfolding hasAt ownOf
     own-here e =
-        let (y, f) = both (channelSlot tb (definitionOf tb (standsAt row)) k) (eqb (slotOf row k) c) e in
-        let q : slotOf row k ≡ c = eqb-true (slotOf row k) c f in
+        let y : channelSlot tb (definitionOf tb (standsAt row)) k ≡ true = search parts in
+        let q : slotOf row k ≡ c = eqb-true (slotOf row k) c (search parts) in
         rw (u, y, q, lt-ltb c 128 h)
 
     own-elsewhere : hasAt tb row c k ≡ false → eqb (ownOf tb row k) c ≡ false
@@ -68,7 +64,8 @@ module _ (tb : Table) (row : List ℕ) (c : ℕ) (h : c < 128) where
   pub own-again : (k : ℕ) → holdsTo tb row c k ≡ true → eqb (ownOf tb row k) c ≡ false
   unfolding holdsTo
   own-again k e =
-      let (u, f) = both (inUse row) (some (hasAt tb row c) k) e in
+      let u : inUse row ≡ true = search parts in
+      let f : some (hasAt tb row c) k ≡ true = search parts in
       rw (own-used k u, f)
 
   pub own-suc : (k : ℕ) → holdsTo tb row c (suc k) ≡ cond (holdsTo tb row c k) true (eqb (ownOf tb row k) c)

@@ -4,9 +4,9 @@ use Prim.Native.Nat.{ℕ, zero, suc, _+_, _<_, _≤_}
 use native.Mathlib.Omega.{arith}
 use native.Mathlib.Numerals.{add-one}
 use mathlib.Core.Path.{_≡_, refl, sym, _∙_, ap}
-use mathlib.Core.Bool.{Bool, true, false, _&&_, cond}
+use mathlib.Core.Bool.{true, _&&_, cond}
 use mathlib.Core.List.{List, [], _∷_}
-use lib.Dec.{eqb, leb, ltb}
+use lib.Dec.{eqb, leb}
 use lib.ListN.{length, getD, set, take, length-set}
 use lib.Seq.{getD-set-same, getD-set-other}
 use borrow.Author.Tests.{eqb-true, eqb-false}
@@ -14,7 +14,7 @@ use Rattle.numbers.specs.Count.{bit}
 use Rattle.numbers.specs.Rows.{at, put}
 use Rattle.numbers.specs.Search.{first, tabulate}
 use Rattle.numbers.specs.Search.Laws.{caseB, getD-tabulate, length-tabulate, tabulate-cong, is-tabulate, first-cong}
-use Rattle.numbers.specs.Signed.{sum, difference}
+use Rattle.numbers.specs.Signed.{sum}
 use Rattle.table.specs.Table.{Table}
 use Rattle.state.specs.State.Laws.{length-threads, length-channel}
 use Rattle.state.specs.State.{State, stateOf, stateWords, maxThreads, thread, channel, isReady, standsAt, typeIn, channelMark, isWaiting, withMark, withThread, withChannel, withChannels}

@@ -1,15 +1,13 @@
 -- What the moves write is one row, two rows, or a row and a new channel, so that the upkeep of the counts settles it. Assumes nothing.
 use Prim.Native.Nat.{ℕ, _<_, _≤_}
 use mathlib.Core.Path.{_≡_, refl, sym, _∙_}
-use mathlib.Core.Logic.{_≢_}
 use mathlib.Core.List.{List}
 use mathlib.Core.Bool.{true}
 use lib.ListN.{length}
 use borrow.Author.Tests.{lt-ltb, le-ltb}
 use Rattle.numbers.specs.Count.{bit}
 use Rattle.table.specs.Table.{Table}
-use Rattle.state.specs.State.{State, stateOf, thread, maxThreads, isReady, isWaiting, withMark, withThread}
-use Rattle.state.specs.State.Laws.{length-threads}
+use Rattle.state.specs.State.{State, thread, maxThreads, isReady, isWaiting, withMark, withThread}
 use Rattle.rules.specs.Holding.{settled}
 use Rattle.rules.specs.Moves.{oneUp, move, written, perform, spawnedBy}
 use Rattle.rules.specs.declared.Move.{Move}
