@@ -12,24 +12,17 @@ use Rattle.numbers.specs.Rows.{at}
 use Rattle.numbers.specs.Signed.{sum, difference}
 use Rattle.table.specs.Table.{Table}
 use Rattle.state.specs.State.{State, stateOf, stateWords, thread, channel, withChannel, withChannels}
-use Rattle.state.specs.State.Laws.{length-channels, length-channel}
+use Rattle.state.specs.State.Laws.{length-channels, length-channel, three-stored}
 use Rattle.rules.specs.Holding.{channelRow}
 use Rattle.counts.specs.Own.{ownList}
 use Rattle.counts.specs.Own.Listing.{ownRoom}
 use Rattle.counts.specs.Own.Rest.{rest-shifted}
 use Rattle.counts.specs.Shift.{rowCounted, shiftRow, shiftTo, channelShifted, shiftedTo, shifted, rowEntered, rowLeft, settledOne, settledTwo, settledNew}
 
--- put_counts: three stores, and two, make a row
-three : (r : List ℕ) (a n w : ℕ) → length r ≡ 3 → set (set (set r 0 a) 1 n) 2 w ≡ a ∷ n ∷ w ∷ []
-three [] a n w e = absurd (omega arith)
-three (x ∷ []) a n w e = absurd (omega arith)
-three (x ∷ y ∷ []) a n w e = absurd (omega arith)
-three (x ∷ y ∷ z ∷ []) a n w e = refl
-three (x ∷ y ∷ z ∷ u ∷ r) a n w e = absurd (omega arith)
-
+-- put_counts: two stores make a row of one that has its type
 two : (r : List ℕ) (n w : ℕ) → length r ≡ 3 → set (set r 1 n) 2 w ≡ getD r 0 0 ∷ n ∷ w ∷ []
 two [] n w e = absurd (omega arith)
-two (x ∷ r) n w e = three (x ∷ r) x n w e
+two (x ∷ r) n w e = three-stored (x ∷ r) x n w e
 
 held-row : (ty n w : ℕ) → (n ≡ 0 → ⊥) → ty ∷ n ∷ w ∷ [] ≡ channelRow ty n w
 unfolding channelRow
@@ -53,7 +46,7 @@ module _ (b : List ℕ) (c n w : ℕ) (s₁ s₂ : State) (e : length b ≡ stat
   counts-free s₃ z f g k =
       let i : c < length (stateOf b .channels) = omega (arith, length-channels b) in
       let r = channel (stateOf b) c in
-      rw (k, g, f, z, put-put (stateOf b .channels) c 1 0 (set r 0 0) i, put-put (stateOf b .channels) c 2 0 (set (set r 0 0) 1 0) i, three r 0 0 0 (length-channel b e c h))
+      rw (k, g, f, z, put-put (stateOf b .channels) c 1 0 (set r 0 0) i, put-put (stateOf b .channels) c 2 0 (set (set r 0 0) 1 0) i, three-stored r 0 0 0 (length-channel b e c h))
 
 pub ruleset puts = (counts-put, counts-free)
 

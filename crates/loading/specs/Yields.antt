@@ -128,10 +128,10 @@ module _ (tb : Table) where
 
 -- ---- rows, one after the other
 
-length-even : (w : ℕ) (rs : Table) → ((i : ℕ) → i < length rs → length (getD rs i []) ≡ w) → length (joined rs) ≡ length rs * w
+pub length-even : (w : ℕ) (rs : Table) → ((i : ℕ) → i < length rs → length (getD rs i []) ≡ w) → length (joined rs) ≡ length rs * w
 length-even w rs h = rw (map-id rs) at (length-joined (λ (r : List ℕ). r) w [] rs h)
 
-joined-small : (m : ℕ) (rs : Table) → 0 < m → ((i k : ℕ) → i < length rs → k < length (getD rs i []) → at rs i k < m) → (x : ℕ) → getD (joined rs) x 0 < m
+pub joined-small : (m : ℕ) (rs : Table) → 0 < m → ((i k : ℕ) → i < length rs → k < length (getD rs i []) → at rs i k < m) → (x : ℕ) → getD (joined rs) x 0 < m
 unfolding joined
 joined-small m [] z h x = z
 joined-small m (r ∷ rs) z h x =

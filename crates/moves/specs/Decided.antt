@@ -153,6 +153,3 @@ module _ (tb : Table) (s : State) (t : ℕ) (m : Move) (e : m ≡ move tb s t) w
 
   pub created-below : (i c : ℕ) → m ≡ Creates i c → c < maxChannels
   created-below i c f = let (l, g) = creates-free tb s t i c (sym e ∙ f) in l
-
-  pub met-below : (i u j : ℕ) → m ≡ Meets i u j → u < maxThreads
-  met-below i u j f = let (l, g) = meets-partner tb s t i u j (sym e ∙ f) in l

@@ -1,5 +1,6 @@
 // A move made: what it writes, and the channel rows settled, but for the counts of waiting holders, which a call settles at its end. The functions that
-// make a move ask that the other words of the channel rows are right, and leave them so; a turn asks that the state is sound once settled, and leaves it so.
+// make a move ask that the other words of the channel rows are right, and leave them so. Some ask that the table is an accepted one and the state sound once
+// settled, so that a move which changes no count is made without a look at the counts; a turn asks for both, and leaves the state so.
 ghost use mathlib.Core.Path.{_≡_};
 ghost use mathlib.Core.Logic.{_≢_};
 ghost use Prim.Native.Nat.{_<_};
@@ -176,8 +177,8 @@ fn write_joined(
     branches::write_meeting(table, index, state, t, own, u, other);
 }
 
-// The same where it is known that one sends and the other receives.
-fn write_passed(
+// The same, by which of the two sends and which receives.
+fn write_directed(
     table: &[u8],
     index: &[u32],
     state: &mut [u32; state::WORDS],
@@ -259,7 +260,7 @@ fn make_meeting(
     ensures { λ _. ⌜ Counted (tableOf (now (table .entry))) (stateOf (now (state .exit))) ⌝ }
 {
     if is_number(table, index, state, t, i) {
-        write_passed(table, index, state, t, i, u, j);
+        write_directed(table, index, state, t, i, u, j);
         return;
     }
     make_joined(table, index, state, t, i, u, j);

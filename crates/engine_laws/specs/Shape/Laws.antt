@@ -12,6 +12,7 @@ use Rattle.numbers.specs.Rows.Laws.{rows-none, rows-more}
 use Rattle.numbers.specs.Bytes.{words, joined}
 use Rattle.numbers.specs.Bytes.Laws.{numbers-fit, numbers-encode, length-encode, encode-below, rows-joined}
 use Rattle.numbers.specs.Search.Laws.{caseB}
+use Rattle.loading.specs.Yields.{length-even, joined-small}
 use Rattle.state.specs.State.{State, stateLength, stateOf, view, stateBytes}
 use Rattle.state.specs.State.Laws.{length-threads, length-channels, length-marks, length-thread, length-channel, mark-is, mark-out, thread-is, thread-out, thread-row-out, channel-is, channel-out, channel-row-out, bytes-view, words-long}
 use Rattle.engine_laws.specs.Shape.{Shaped}
@@ -64,21 +65,11 @@ rows-past w (r ∷ rs) rest h =
     let q = joined rs ++ rest in
     rw (append-assoc r (joined rs) rest, rows-more (length rs) w (r ++ q), take-at r q w e, drop-at r q w e, rows-past w rs rest (λ t l. h (suc t) (omega arith)))
 
-length-even : (w : ℕ) (rs : List (List ℕ)) → ((t : ℕ) → t < length rs → length (getD rs t []) ≡ w) → length (joined rs) ≡ length rs * w
-unfolding joined
-length-even w [] h = omega arith
-length-even w (r ∷ rs) h = omega (arith, length-append r (joined rs), h 0 (omega arith), length-even w rs (λ t l. h (suc t) (omega arith)))
-
 append-small : (l m : List ℕ) → ((i : ℕ) → getD l i 0 < 4294967296) → ((i : ℕ) → getD m i 0 < 4294967296)
     → (i : ℕ) → getD (l ++ m) i 0 < 4294967296
 append-small [] m f g i = g i
 append-small (a ∷ l) m f g zero = f 0
 append-small (a ∷ l) m f g (suc i) = append-small l m (λ k. f (suc k)) g i
-
-joined-small : (rs : List (List ℕ)) → ((t k : ℕ) → at rs t k < 4294967296) → (i : ℕ) → getD (joined rs) i 0 < 4294967296
-unfolding joined
-joined-small [] h i = omega arith
-joined-small (r ∷ rs) h i = append-small r (joined rs) (λ k. h 0 k) (joined-small rs (λ t k. h (suc t) k)) i
 
 -- ---- the bytes of a state
 module _ (s : State) (h : Shaped s) where
@@ -101,7 +92,7 @@ module _ (s : State) (h : Shaped s) where
   words-of =
       numbers-encode 4 (s .marks ++ (joined (s .threads) ++ joined (s .channels))) (omega arith)
       (append-small (s .marks) _ (h .mark-small)
-      (append-small (joined (s .threads)) _ (joined-small (s .threads) (h .thread-small)) (joined-small (s .channels) (h .channel-small))))
+      (append-small (joined (s .threads)) _ (joined-small 4294967296 (s .threads) (omega arith) (λ t k l j. h .thread-small t k)) (joined-small 4294967296 (s .channels) (omega arith) (λ c k l j. h .channel-small c k))))
 
   -- the bytes of a state hold it
   pub view-bytes : view (stateBytes s) ≡ s

@@ -1,4 +1,4 @@
--- Laws of lists that are filled: entry by entry, with one value, and in three places. Assumes nothing.
+-- Laws of lists that are filled: entry by entry, and with one value. Assumes nothing.
 use Prim.Native.Nat.{ℕ, zero, suc, _<_, _≤_}
 use native.Mathlib.Omega.{arith}
 use native.Mathlib.Decide.{decLt}
@@ -44,11 +44,3 @@ pub none-pass {ℓ} : {A : Type ℓ} (q : A → Bool) (x : A) → q x ≡ false 
 unfolding count bit
 none-pass q x e zero = refl
 none-pass q x e (suc n) = rw (e, none-pass q x e n)
-
--- three stores make a list of three
-pub three : (r : List ℕ) (a n w : ℕ) → length r ≡ 3 → set (set (set r 0 a) 1 n) 2 w ≡ a ∷ n ∷ w ∷ []
-three [] a n w e = absurd (omega arith)
-three (x ∷ []) a n w e = absurd (omega arith)
-three (x ∷ y ∷ []) a n w e = absurd (omega arith)
-three (x ∷ y ∷ z ∷ []) a n w e = refl
-three (x ∷ y ∷ z ∷ u ∷ r) a n w e = absurd (omega arith)

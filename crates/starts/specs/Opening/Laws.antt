@@ -15,14 +15,14 @@ use Rattle.numbers.specs.Search.{tabulate}
 use Rattle.numbers.specs.Search.Laws.{caseB, getD-tabulate, tabulate-cong}
 use Rattle.table.specs.Table.{Table, ports}
 use Rattle.state.specs.State.{State, stateOf, stateWords, thread, channel, isWaiting, withMark, withThread, withChannel, withChannels}
-use Rattle.state.specs.State.Laws.{length-marks, length-threads, length-channels, length-channel}
+use Rattle.state.specs.State.Laws.{length-marks, length-threads, length-channels, length-channel, three-stored}
 use Rattle.rules.specs.Holding.{holds, holders, waiters, countOf, channelRow, recount, settled}
 use Rattle.rules.specs.Start.{freeRow, entered, portRow, started}
 use Rattle.counts.specs.Own.{ownList}
 use Rattle.counts.specs.Shift.{settledOne}
 use Rattle.counts.specs.Upkeep.{one-settled, settled-again}
 use Rattle.starts.specs.Filled.{filledTo}
-use Rattle.starts.specs.Filled.Laws.{filled-all, tabulate-same, none-pass, three}
+use Rattle.starts.specs.Filled.Laws.{filled-all, tabulate-same, none-pass}
 use Rattle.starts.specs.Opening.{portHeld, freedTo, freed, openedTo, opened, marked, unstarted}
 
 -- ---- free_threads
@@ -56,7 +56,7 @@ unfolding withChannel
 row-put b c ty n s₁ s₂ s₃ e h f g k =
     let i : c < length (stateOf b .channels) = omega (arith, length-channels b) in
     let r = channel (stateOf b) c in
-    rw (k, g, f, put-put (stateOf b .channels) c 1 n (set r 0 ty) i, put-put (stateOf b .channels) c 2 0 (set (set r 0 ty) 1 n) i, three r ty n 0 (length-channel b e c h))
+    rw (k, g, f, put-put (stateOf b .channels) c 1 n (set r 0 ty) i, put-put (stateOf b .channels) c 2 0 (set (set r 0 ty) 1 n) i, three-stored r ty n 0 (length-channel b e c h))
 
 module _ (s s₁ : State) (c p : ℕ) where
   pub open-port : s₁ ≡ withChannel s c (1 ∷ 1 ∷ 0 ∷ []) → c < p → s₁ ≡ withChannel s c (portHeld p c)
@@ -88,7 +88,7 @@ pub ruleset opening = (opened-none, opened-more, opened-all)
 
 pub marks-put : (b : List ℕ) (p : ℕ) (s₁ s₂ s₃ : State) → length b ≡ stateWords → s₁ ≡ withMark (stateOf b) 0 1 → s₂ ≡ withMark s₁ 1 p → s₃ ≡ withMark s₂ 2 0 → s₃ ≡ marked (stateOf b) p
 unfolding withMark marked
-marks-put b p s₁ s₂ s₃ l e f g = rw (g, f, e, three (stateOf b .marks) 1 p 0 (length-marks b l))
+marks-put b p s₁ s₂ s₃ l e f g = rw (g, f, e, three-stored (stateOf b .marks) 1 p 0 (length-marks b l))
 
 -- ---- write_unstarted
 

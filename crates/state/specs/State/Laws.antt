@@ -2,7 +2,7 @@
 use Prim.Native.Nat.{ℕ, _+_, _*_, _%_, _<_, _≤_}
 use native.Mathlib.Omega.{arith}
 use mathlib.Core.Path.{_≡_, refl, sym, _∙_, ap}
-use mathlib.Core.List.{List, [], _++_}
+use mathlib.Core.List.{List, [], _∷_, _++_}
 use mathlib.Core.Logic.{_≢_}
 use native.Mathlib.Nat.{min-eq-left}
 use lib.ListN.{length, getD, set, take, drop, length-take, length-drop, length-set, take-append-drop, List·getD-eq-default}
@@ -141,6 +141,14 @@ module _ (b : List ℕ) (e : length b ≡ stateWords) where
   pub length-channel : (c : ℕ) → c < 128 → length (channel (stateOf b) c) ≡ 3
   unfolding stateOf
   length-channel c h = length-row 128 3 (drop 1155 b) c h (omega (arith, e, length-drop 1155 b))
+
+-- three stores make the marks, and a channel's row
+pub three-stored : (r : List ℕ) (a n w : ℕ) → length r ≡ 3 → set (set (set r 0 a) 1 n) 2 w ≡ a ∷ n ∷ w ∷ []
+three-stored [] a n w e = absurd (omega arith)
+three-stored (x ∷ []) a n w e = absurd (omega arith)
+three-stored (x ∷ y ∷ []) a n w e = absurd (omega arith)
+three-stored (x ∷ y ∷ z ∷ []) a n w e = refl
+three-stored (x ∷ y ∷ z ∷ u ∷ r) a n w e = absurd (omega arith)
 
 -- ---- rows replaced and read
 

@@ -1,10 +1,10 @@
 use Rattle.steps.specs.Keeping.Laws.{sent, got, turned-about}
 use borrow.Author.Needs.{needs}
-use Rattle.steps.proofs.write_passed.Statement.{statement}
-use Rattle.steps.proofs.write_passed.Tie as tie
+use Rattle.steps.proofs.write_directed.Statement.{statement}
+use Rattle.steps.proofs.write_directed.Tie as tie
 
-pub write-passed-spec : {M : Type 1} → statement M
-write-passed-spec =
+pub write-directed-spec : {M : Type 1} → statement M
+write-directed-spec =
     tie.close
     (tie.spec
     (λ c κs. search needs)
