@@ -188,10 +188,6 @@ module _ (tb : Table) (s : State) where
     unfolding settled withMark withChannels
     settled-mark = refl
 
-    pub one-mark : (t : ℕ) (l : List ℕ) (w : ℕ) → settledOne tb (withMark s i v) t l w ≡ withMark (settledOne tb s t l w) i v
-    unfolding settledOne rowEntered rowLeft shifted shiftedTo withMark withChannels
-    one-mark t l w = refl
-
     pub two-mark : (t u : ℕ) (l : List ℕ) (w : ℕ) (l′ : List ℕ) (w′ : ℕ) → settledTwo tb (withMark s i v) t u l w l′ w′ ≡ withMark (settledTwo tb s t u l w l′ w′) i v
     unfolding settledTwo rowEntered rowLeft shifted shiftedTo withMark withChannels
     two-mark t u l w l′ w′ = refl

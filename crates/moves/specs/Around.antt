@@ -6,7 +6,7 @@ use mathlib.Core.Bool.{Bool, true, false, _&&_}
 use lib.Dec.{ltb, leb}
 use borrow.Author.Tests.{lt-ltb, le-ltb, le-leb, lt-leb, ltb-true, ltb-false}
 use Rattle.numbers.specs.Search.{first}
-use Rattle.numbers.specs.Search.Laws.{caseB, contra, first-more, first-hit, first-le, first-passes, first-below, first-void, first-cong}
+use Rattle.numbers.specs.Search.Laws.{caseB, contra, first-more, first-hit, first-passes, first-below, first-void, first-cong}
 use Rattle.numbers.specs.Tests.{and-left, and-right, and-yes}
 use Rattle.state.specs.State.{State, maxThreads, thread, isReady}
 use Rattle.rules.specs.Moves.{firstFrom, around}
@@ -72,13 +72,6 @@ module _ (n m : ℕ) (p : ℕ → Bool) where
     around-far x g h = rw (← f, ← e, le-ltb r n h, g) from-zero
 
   -- ---- what is found
-
-  pub around-le : around n m p ≤ n
-  unfolding around firstFrom
-  around-le =
-      caseB (ltb (first (λ i. leb m i && p i) n) n)
-      (λ t. rw t (first-le (λ i. leb m i && p i) n))
-      (λ f. rw f (first-le p n))
 
   -- a number below n that is found passes
   pub around-in : around n m p < n → p (around n m p) ≡ true

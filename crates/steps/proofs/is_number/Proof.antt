@@ -1,10 +1,9 @@
-use Rattle.steps.specs.Keeping.{numberBy}
+use Rattle.steps.specs.Keeping.Laws.{number-read}
 use borrow.Author.Needs.{needs}
 use Rattle.steps.proofs.is_number.Statement.{statement}
 use Rattle.steps.proofs.is_number.Tie as tie
 
 pub is-number-spec : {M : Type 1} → statement M
-unfolding numberBy
 is-number-spec =
     tie.close
     (tie.spec
@@ -12,4 +11,4 @@ is-number-spec =
     (λ c κs. search needs)
     (λ c κs. search needs)
     (λ c κs. search needs)
-    (λ c. cc))
+    (λ c. search number-read))

@@ -5,9 +5,11 @@ use mathlib.Core.Path.{_≡_, refl, sym, _∙_, ap}
 use mathlib.Core.Logic.{_⊎_, inl, inr, _≢_}
 use mathlib.Core.List.{List}
 use mathlib.Core.Bool.{Bool, true, false}
+use lib.Dec.{eqb}
 use lib.ListN.{length}
 use lib.Seq.{set-comm}
 use borrow.Author.Tests.{eqb-true}
+use Rattle.numbers.specs.Rows.{at}
 use Rattle.numbers.specs.Search.Laws.{contra}
 use Rattle.table.specs.Table.{Table, ports, carried}
 use Rattle.table.specs.Layout.{branchCount, definitionOf, slotType}
@@ -91,6 +93,11 @@ module _ (tb : Table) (s s₁ : State) (t a i u b j x y : ℕ) (r : Bool) (p : a
 pub joined-written : (tb : Table) (s s₁ : State) (t i u j : ℕ) (own other : Way) → s₁ ≡ metAlongBoth tb s t own u other → own ≡ wayOf tb (thread s t) i → other ≡ wayOf tb (thread s u) j
     → s₁ ≡ written tb s t (Meets i u j)
 joined-written tb s s₁ t i u j own other e p q = e ∙ rw (p, q) (meeting-way tb s t i u j)
+
+-- the type ty of the slot k with which branch i, in row a of the table, gives or receives, read at node n
+pub number-read : (tb : Table) (row : List ℕ) (i n a k ty : ℕ) → ty ≡ typeAt tb n k → k ≡ at tb a 6 → a ≡ branchAt tb n i → n ≡ standsAt row → eqb ty 0 ≡ numberBy tb row i
+unfolding numberBy
+number-read tb row i n a k ty e f g h = rw (e, f, g, h)
 
 -- ---- rows that hold what they held
 
