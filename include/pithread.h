@@ -108,7 +108,8 @@ enum {
     /* No procedure file has this table: it was not written by pithread_load, or changed since. */
     PITHREAD_TABLE = 9,
     /* The state is not a sound one for this table: say, pithread_start never wrote it, it belongs
-     * to another table, or something other than these calls changed it. */
+     * to another table, or something other than these calls changed it. Not every such state is
+     * found out: one of zeros has no thread, and is sound for a file without ports. */
     PITHREAD_STATE = 10,
     /* There is no such thread row, or its thread is not ready. */
     PITHREAD_THREAD = 11,
@@ -255,6 +256,8 @@ pithread_taken pithread_take(const uint8_t *table, size_t table_len, uint8_t *st
  *
  * A thread that lacks a row ends the run; that is no refusal. The steps made before it stay, the
  * thread stays as it is, and the turn moves past it, so that the next run begins with the others.
+ *
+ * n has sixteen bits. C cuts a larger number to them without a word: 65,536 asks for no step.
  */
 pithread_ran pithread_run(const uint8_t *table, size_t table_len, uint8_t *state, size_t state_len, uint16_t n);
 

@@ -1,8 +1,8 @@
 #!/usr/bin/env bash
-# What the documents say of files. The names that docs/RULES.md gives are there: a file of
-# definitions, a definition in some file of definitions, a function in the crate before its colons
-# (or, without colons, in some crate). The procedure files that docs/PROCEDURES.md and
-# examples/README.md show are those in examples.
+# What the documents say of files. The names that docs/RULES.md gives are there: a definition in the
+# file that is linked before it, a function in the crate before its colons (or, without colons, in
+# some crate). The procedure files that docs/PROCEDURES.md and examples/README.md show are those in
+# examples.
 set -euo pipefail
 root=$(cd "$(dirname "$0")/.." && pwd)
 source "$root/tests/counted.sh"
@@ -11,12 +11,8 @@ cd "$root"
 scratch=$(mktemp -d)
 trap 'rm -rf "$scratch"' EXIT
 
-file_is_there() {
-    [ -n "$(find crates -path "*/specs/*" -path "*$1" -print -quit)" ]
-}
-
 definition_is_there() {
-    grep -rqE --include='*.antt' "(^| )$1 (:|\()" crates/*/specs
+    grep -rqE --include='*.antt' "(^| )$1 (:|\()" "${2:-crates}"
 }
 
 function_is_there() {
@@ -28,25 +24,48 @@ function_is_there() {
     grep -qE "fn $name\(" crates/$crate/src/lib.rt
 }
 
+# named NAME FILE: a name in the tables of docs/RULES.md is defined in the file that is linked before it in its cell; where none
+# is, it is a function, or a definition of some crate.
 named() {
     case $1 in
-    *.antt) file_is_there "$1" ;;
-    */*) true ;;
+    *.antt | */*) true ;;
     *::*) function_is_there "$1" ;;
-    *) definition_is_there "$1" || function_is_there "$1" ;;
+    *) if [ -n "$2" ]; then definition_is_there "$1" "$2"; else definition_is_there "$1" || function_is_there "$1"; fi ;;
     esac
 }
 
+# The links, the names and the borders of cells of docs/RULES.md, in their order, from the first table of rules on. A border stands
+# for an empty line too.
+# shellcheck disable=SC2016 # the names stand between backquotes
+marks() {
+    sed -e '1,/^## The procedure file/d' -e 's/^$/|/' docs/RULES.md | grep -oE '\[`[^`]+`\]\([^)]+\)|`[^`]+`|\|'
+}
+
 all_named() {
-    local name all=0
-    # shellcheck disable=SC2016 # the names stand between backquotes
-    while IFS= read -r name; do
-        named "$name" || {
-            echo "docs/RULES.md names $name, which is not there"
-            all=1
-        }
-    done < <(grep -oE '`[^`]+`' docs/RULES.md | tr -d '\140' | sort -u)
-    return "$all"
+    local mark file='' all=0 count=0
+    while IFS= read -r mark; do
+        case $mark in
+        '|') file='' ;;
+        '['*)
+            file=docs/${mark##*(}
+            file=${file%)}
+            [ -f "$file" ] || {
+                echo "docs/RULES.md leads to $file, which is not there"
+                all=1
+            }
+            ;;
+        *)
+            mark=${mark//\`/}
+            count=$((count + 1))
+            named "$mark" "$file" || {
+                echo "docs/RULES.md names $mark${file:+ in $file}, which is not there"
+                all=1
+            }
+            ;;
+        esac
+    done < <(marks)
+    echo "docs/RULES.md gives $count names"
+    [ "$all" -eq 0 ] && [ "$count" -ge 400 ]
 }
 
 # The command that docs/PROCEDURES.md gives for making a file of short lines.
