@@ -27,10 +27,10 @@ use Rattle.engine_laws.specs.Chosen.{Open, Creating}
 use Rattle.published.specs.Syntax.{Process, end, invoke, Sum, nothing, waits}
 use Rattle.published.specs.Agents as Agents
 use Rattle.published.specs.Agents.{_∈_, Commitment, Thread, Channels, adding, Agent, agent}
-use Rattle.published.specs.Rules.{Rearranged, same-first, swapped, twice, Acts, step, new, inert, more, Run, last, Turn, Ours, assigns}
+use Rattle.published.specs.Rules.{Rearranged, same-first, swapped, twice, Acts, step, new, inert, more, Run, last, Turn, assigns}
 use Rattle.published.specs.Lists.{same-order, turned-back}
 use Rattle.published_laws.specs.Readable.{Readable}
-use Rattle.published_laws.specs.Standing.{guardOf, prefixOf, sumBefore, nodeProcess, processAt, bodyOf, envOf, commitmentsFrom, waitingThread, readyThread, threadOf, threadsOf, channelsOf, agentOf}
+use Rattle.published_laws.specs.Standing.{guardOf, prefixOf, sumBefore, nodeProcess, processAt, bodyOf, envOf, commitmentsFrom, waitingThread, readyThread, threadOf, threadsOf, channelsOf, agentOf, OurRules}
 use Rattle.published_laws.specs.Unrolled.{process-at}
 use Rattle.published_laws.specs.Environments.{env-same, guard-same}
 use Rattle.published_laws.specs.Products.{Bench, ready-thread, waiting-thread, stored-first, row-first}
@@ -118,7 +118,7 @@ module _ (tb : Table) (g : Granted tb) (rd : Readable tb) (s : State) (o : Order
 
   module _ (More : Agent → Agent → Type 0)
       (skips : (i : ℕ) → i < branchCount tb (standsAt (thread s t)) → guardHolds tb (branchAt tb (standsAt (thread s t)) i) (thread s t) ≡ false
-      → (A C : Agent) → Ours A C → More A C) where
+      → (A C : Agent) → OurRules tb A C → More A C) where
     waits-by : (n : ℕ) → branchCount tb (standsAt (thread s t)) ≡ n → 0 < n → kindOf tb (standsAt (thread s t)) ≡ 1
         → ((j : ℕ) → j < branchCount tb (standsAt (thread s t)) → Passed tb s t j)
         → Turn (bodyOf tb) More (agentOf tb b s) (readyThread tb (thread s t)) (agentOf tb b (written tb s t Waits))
@@ -209,9 +209,9 @@ module _ (tb : Table) (g : Granted tb) (rd : Readable tb) (s : State) (o : Order
 
   -- an assignment, document 01's own
   pub assignment-reduced : (k : ℕ) → kindOf tb (standsAt (thread s t)) ≡ 1 → k < branchCount tb (standsAt (thread s t)) → ((j : ℕ) → j < k → Passed tb s t j)
-      → Open tb s t k Assignment → Turn (bodyOf tb) Ours (agentOf tb b s) (readyThread tb (thread s t)) (agentOf tb b (written tb s t (Goes k)))
+      → Open tb s t k Assignment → Turn (bodyOf tb) (OurRules tb) (agentOf tb b s) (readyThread tb (thread s t)) (agentOf tb b (written tb s t (Goes k)))
   unfolding agentOf channelsOf written withThread tip prefixOf
   assignment-reduced k kind m before x =
       let row = thread s t in
-      single Ours k kind m before (goneBy tb row k) (ready-used (goneBy tb row k) (goneBy-ready tb row k)) (channelsOf s)
-      (λ Γ q. rw (assigned-thread tb g rd (typeIn s) row sound used k m (x .does), x .does) (more (assigns (guard-true Ours k kind m before (x .passes)))))
+      single (OurRules tb) k kind m before (goneBy tb row k) (ready-used (goneBy tb row k) (goneBy-ready tb row k)) (channelsOf s)
+      (λ Γ q. rw (assigned-thread tb g rd (typeIn s) row sound used k m (x .does), x .does) (more (assigns (guard-true (OurRules tb) k kind m before (x .passes)))))

@@ -1,4 +1,5 @@
 pub mod Standing
+pub mod Trimmed
 pub mod Readable
 pub mod Unrolled
 pub mod Environments

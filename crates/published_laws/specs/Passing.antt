@@ -34,9 +34,9 @@ use Rattle.engine_laws.specs.Channels.{on-held}
 use Rattle.published.specs.Syntax.{Process, choice, Sum, branch, andWait, waits}
 use Rattle.published.specs.Agents as Agents
 use Rattle.published.specs.Agents.{_∈_, look, Commitment, Thread, Channels, Agent, agent}
-use Rattle.published.specs.Rules.{Acts, next, out, inn, more, Run, last, pass, Ours, skip}
+use Rattle.published.specs.Rules.{Acts, next, out, inn, more, Run, last, pass, skip}
 use Rattle.published_laws.specs.Readable.{Readable}
-use Rattle.published_laws.specs.Standing.{guardOf, prefixOf, sumBefore, processAt, bodyOf, envOf, committed, commitmentsFrom, threadOf, threadsOf}
+use Rattle.published_laws.specs.Standing.{guardOf, prefixOf, sumBefore, processAt, bodyOf, envOf, committed, commitmentsFrom, threadOf, threadsOf, OurRules}
 use Rattle.published_laws.specs.Unrolled.{wait-behind, one-more-wait}
 use Rattle.published_laws.specs.Environments.{channel-value, look-filled, guard-same}
 use Rattle.published_laws.specs.Products.{Bench, row-of}
@@ -198,7 +198,7 @@ module _ (tb : Table) (g : Granted tb) (rd : Readable tb) (s : State) (o : Order
   -- ---- where none goes ahead; the rule skip is there if some guard is false
   module _ (More : Agent → Agent → Type 0)
       (skips : (i : ℕ) → i < branchCount tb (standsAt (thread s t)) → guardHolds tb (branchAt tb (standsAt (thread s t)) i) (thread s t) ≡ false
-      → (A C : Agent) → Ours A C → More A C)
+      → (A C : Agent) → OurRules tb A C → More A C)
       (B : List Thread) (among : (x : Thread) → x ∈ B → x ∈ others) (Δ : Channels) where
     -- what branch i leaves
     unfoldable pub left-by : ℕ → List Commitment

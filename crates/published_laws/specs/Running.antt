@@ -42,10 +42,10 @@ use Rattle.published.specs.Syntax.{Process, choice, Sum, branch, always, output
 use Rattle.published.specs.Agents as Agents
 use Rattle.published.specs.Agents.{Env, look, bind, Thread, Agent}
 use Rattle.published.specs.Rules as Rules
-use Rattle.published.specs.Rules.{stays, Reduces, Reaches, Ours}
+use Rattle.published.specs.Rules.{stays, Reduces, Reaches}
 use Rattle.published.specs.Lists.{many-on, stepped-reaches}
 use Rattle.published_laws.specs.Readable.{Readable, readable}
-use Rattle.published_laws.specs.Standing.{bodyOf, threadOf, channelsOf, agentOf}
+use Rattle.published_laws.specs.Standing.{bodyOf, threadOf, channelsOf, agentOf, OurRules}
 use Rattle.published_laws.specs.Products.{Bench}
 use Rattle.published_laws.specs.Stepping.{Allowed, step-reduced}
 use Rattle.published_laws.specs.Outside.{give-reduced, take-reduced}
@@ -67,14 +67,14 @@ went-allowed t LacksChannel e = clash cc
 
 module _ (tb : Table) (g : Granted tb) (rd : Readable tb) (b : Thread) (bn : Bench tb b) where
   turn-reduced : (s : State) → Sound tb s → (t : ℕ) → t < maxThreads → isReady (thread s t) ≡ true → (w : Turn) → turnBy t (move tb s t) ≡ w
-      → Reaches (bodyOf tb) Ours (agentOf tb b s) (agentOf tb b (turnEnd tb s t w .state))
+      → Reaches (bodyOf tb) (OurRules tb) (agentOf tb b s) (agentOf tb b (turnEnd tb s t w .state))
   unfolding turnEnd agentOf channelsOf pastTurn withMark
   turn-reduced s ok t l r Went e =
-      stepped-reaches (bodyOf tb) Ours (agentOf tb b s) (threadOf tb (thread s t)) (agentOf tb b (perform tb s t (move tb s t)))
+      stepped-reaches (bodyOf tb) (OurRules tb) (agentOf tb b s) (threadOf tb (thread s t)) (agentOf tb b (perform tb s t (move tb s t)))
       (step-reduced tb g rd s ok t l r b bn (went-allowed t (move tb s t) e))
   turn-reduced s ok t l r (Stopped x) e = stays
 
-  take-turn-reduced : (s : State) → Sound tb s → Reaches (bodyOf tb) Ours (agentOf tb b s) (agentOf tb b (takeTurn tb s .state))
+  take-turn-reduced : (s : State) → Sound tb s → Reaches (bodyOf tb) (OurRules tb) (agentOf tb b s) (agentOf tb b (takeTurn tb s .state))
   unfolding takeTurn
   take-turn-reduced s ok =
       caseB (ltb (nextReady s) maxThreads)
@@ -82,15 +82,15 @@ module _ (tb : Table) (g : Granted tb) (rd : Readable tb) (b : Thread) (bn : Ben
       rw e (turn-reduced s ok (nextReady s) l (next-ready-in s l) (turnBy (nextReady s) (move tb s (nextReady s))) refl))
       (λ e. rw e stays)
 
-  onward-reduced : (first s : State) → Reaches (bodyOf tb) Ours (agentOf tb b first) (agentOf tb b s) → Sound tb s → (w : Turn) (f : State → Course)
-      → ((x : State) → Sound tb x → Reaches (bodyOf tb) Ours (agentOf tb b x) (agentOf tb b (f x .state)))
-      → Reaches (bodyOf tb) Ours (agentOf tb b first) (agentOf tb b (onward w s f .state))
+  onward-reduced : (first s : State) → Reaches (bodyOf tb) (OurRules tb) (agentOf tb b first) (agentOf tb b s) → Sound tb s → (w : Turn) (f : State → Course)
+      → ((x : State) → Sound tb x → Reaches (bodyOf tb) (OurRules tb) (agentOf tb b x) (agentOf tb b (f x .state)))
+      → Reaches (bodyOf tb) (OurRules tb) (agentOf tb b first) (agentOf tb b (onward w s f .state))
   unfolding onward oneMore
-  onward-reduced first s p ok Went f h = many-on (Reduces (bodyOf tb) Ours) p (h s ok)
+  onward-reduced first s p ok Went f h = many-on (Reduces (bodyOf tb) (OurRules tb)) p (h s ok)
   onward-reduced first s p ok (Stopped r) f h = p
 
   -- a run of at most n steps
-  pub course-reduced : (n : ℕ) (s : State) → Sound tb s → Reaches (bodyOf tb) Ours (agentOf tb b s) (agentOf tb b (courseOf tb n s .state))
+  pub course-reduced : (n : ℕ) (s : State) → Sound tb s → Reaches (bodyOf tb) (OurRules tb) (agentOf tb b s) (agentOf tb b (courseOf tb n s .state))
   unfolding courseOf
   course-reduced zero s ok = stays
   course-reduced (suc n) s ok =
@@ -138,7 +138,7 @@ module _ (table : List ℕ) (ok : accepted table ≡ true) (fit : (i : ℕ) → 
 
   module _ (b : Thread) (bn : Bench (tableOf table) b) where
     step-by : (t k : ℕ) (d : Deed) → canStep (view state) t ≡ true → stepAnswer (standsAt (thread (view state) t)) (move tb (view state) t) ≡ Stepped.Done k d
-        → Rules.Stepped (bodyOf tb) Ours (agentOf tb b (view state)) (threadOf tb (thread (view state) t))
+        → Rules.Stepped (bodyOf tb) (OurRules tb) (agentOf tb b (view state)) (threadOf tb (thread (view state) t))
         (agentOf tb b (view (stateBytes (perform tb (view state) t (move tb (view state) t)))))
     unfolding canStep
     step-by t k d c e =
@@ -151,7 +151,7 @@ module _ (table : List ℕ) (ok : accepted table ≡ true) (fit : (i : ℕ) → 
 
     -- a step that is answered as done
     pub step-call-reduced : (t k : ℕ) (d : Deed) → stepCall table state t .answer ≡ Stepped.Done k d
-        → Rules.Stepped (bodyOf (tableOf table)) Ours (agentOf (tableOf table) b (view state)) (threadOf (tableOf table) (thread (view state) t))
+        → Rules.Stepped (bodyOf (tableOf table)) (OurRules (tableOf table)) (agentOf (tableOf table) b (view state)) (threadOf (tableOf table) (thread (view state) t))
         (agentOf (tableOf table) b (view (stepCall table state t .state)))
     unfolding stepCall stepBy
     step-call-reduced t k d e =
@@ -165,7 +165,7 @@ module _ (table : List ℕ) (ok : accepted table ≡ true) (fit : (i : ℕ) → 
 
     -- a run
     pub run-call-reduced : (n : ℕ)
-        → Reaches (bodyOf (tableOf table)) Ours (agentOf (tableOf table) b (view state)) (agentOf (tableOf table) b (view (runCall table state n .state)))
+        → Reaches (bodyOf (tableOf table)) (OurRules (tableOf table)) (agentOf (tableOf table) b (view state)) (agentOf (tableOf table) b (view (runCall table state n .state)))
     unfolding runCall runBy
     run-call-reduced n =
         let after = courseOf tb n (view state) .state in

@@ -24,8 +24,8 @@ use Rattle.collector.specs.Collect.{collectCall}
 use Rattle.published.specs.Syntax.{end, waiting}
 use Rattle.published.specs.Agents as Agents
 use Rattle.published.specs.Agents.{Thread, refers}
-use Rattle.published.specs.Rules.{Reaches, Nothing, Ours}
-use Rattle.published_laws.specs.Standing.{bodyOf, envOf, threadsOf, agentOf}
+use Rattle.published.specs.Rules.{Reaches, Nothing}
+use Rattle.published_laws.specs.Standing.{bodyOf, envOf, threadsOf, agentOf, OurRules}
 use Rattle.published_laws.specs.Afterwards.{thread-is}
 use Rattle.published_laws.specs.Products.{Bench}
 use Rattle.published_laws.specs.Benches.{portsAnd, bench-is}
@@ -67,7 +67,7 @@ idle-bench = bench-is (tableOf table) none (λ c. refl) end refl
 
 -- its run of whatever length
 pub listing-run : (n : ℕ)
-    → Reaches (bodyOf (tableOf table)) Ours (agentOf (tableOf table) idle (view begun)) (agentOf (tableOf table) idle (view (runCall table begun n .state)))
+    → Reaches (bodyOf (tableOf table)) (OurRules (tableOf table)) (agentOf (tableOf table) idle (view begun)) (agentOf (tableOf table) idle (view (runCall table begun n .state)))
 listing-run n =
     run-call-reduced table (loaded-accepted (listing .0) (replicate tableLength 0) listing-loads) (loaded-small (listing .0) (replicate tableLength 0) listing-loads)
     begun begun-sound idle idle-bench n

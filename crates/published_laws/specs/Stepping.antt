@@ -1,19 +1,19 @@
 -- A step of the engine is a turn of its thread by 002's reductions, and then uses of (reclaim). The branches before the one that is taken are passed over in
 -- their order, by (next), (out) and (in); so 002's local priority is document 01's. Assumes nothing but what the
 -- table grants.
-use Prim.Native.Nat.{ℕ, _<_}
+use Prim.Native.Nat.{ℕ, _<_, _≤_}
 use native.Mathlib.Omega.{arith}
 use mathlib.Core.Path.{_≡_, refl}
-use mathlib.Core.Bool.{true}
+use mathlib.Core.Bool.{true, false}
 use mathlib.Core.List.{List}
 use lib.Dec.{ltb, eqb}
 use borrow.Author.Tests.{ltb-true, ltb-false, eqb-true, eqb-false, not-true}
 use Rattle.numbers.specs.Search.{first}
 use Rattle.numbers.specs.Search.Laws.{caseB, contra, first-passes, first-below}
-use Rattle.table.specs.Table.{Table}
+use Rattle.table.specs.Table.{Table, parameters}
 use Rattle.table.specs.Layout.{branchCount}
 use Rattle.state.specs.State.{State, maxThreads, maxChannels, threadMark, channelMark, thread, standsAt, inUse, isReady, typeIn}
-use Rattle.rules.specs.Program.{kindOf, branchAt, actOf, guardHolds, opposite}
+use Rattle.rules.specs.Program.{kindOf, callee, branchAt, actOf, guardHolds, opposite}
 use Rattle.rules.specs.Offers.{partnerOf}
 use Rattle.rules.specs.Moves.{isFreeThread, isFreeChannel, freeThread, freeChannel, meeting, creation, spawning, goesAhead, actMove, branchMove, ahead, choice, move, written, perform}
 use Rattle.rules.specs.declared.Direction.{Direction}
@@ -29,14 +29,14 @@ use Rattle.engine_laws.specs.Sound.{Sound}
 use Rattle.engine_laws.specs.Chosen.{channelBy, Open, partner-answers, chosen}
 use Rattle.engine_laws.specs.Kept.{written-orderly}
 use Rattle.published.specs.Agents.{Thread, Agent}
-use Rattle.published.specs.Rules.{Turn, Stepped, Nothing, Ours}
+use Rattle.published.specs.Rules.{Turn, Stepped, Nothing}
 use Rattle.published_laws.specs.Readable.{Readable}
-use Rattle.published_laws.specs.Standing.{bodyOf, readyThread, threadOf, agentOf}
+use Rattle.published_laws.specs.Standing.{bodyOf, forNumbers, readyThread, threadOf, agentOf, OurRules}
 use Rattle.published_laws.specs.Products.{Bench, ready-thread}
 use Rattle.published_laws.specs.Reclaims.{counted-anew}
 use Rattle.published_laws.specs.Passing.{Passed, passed}
 use Rattle.published_laws.specs.Alone.{ends-reduced, waits-reduced, tau-reduced, assignment-reduced, creation-reduced}
-use Rattle.published_laws.specs.Calling.{calls-reduced}
+use Rattle.published_laws.specs.Calling.{calls-reduced, calls-published}
 use Rattle.published_laws.specs.Together.{spawn-reduced, meeting-reduced}
 
 -- ---- the turn, by whatever further rules are there
@@ -148,10 +148,11 @@ Allowed (Meets i u j) = Unit {0}
 Allowed LacksThread = ⊥
 Allowed LacksChannel = ⊥
 
--- a move by 002's rules alone: all but calls, which need zeros, waits with a guard that is false, which need skip, and assignments
+-- a move by 002's rules alone: all but calls of a definition that has numbers besides its parameters, which need zeros, waits with a guard that is false,
+-- which need skip, and assignments
 unfoldable pub Plain : Table → List ℕ → Move → Type 0
 Plain tb row Ends = Unit {0}
-Plain tb row Calls = ⊥
+Plain tb row Calls = (k : ℕ) → parameters tb (callee tb (standsAt row)) ≤ k → forNumbers tb (callee tb (standsAt row)) k ≡ false
 Plain tb row Waits = (i : ℕ) → i < branchCount tb (standsAt row) → guardHolds tb (branchAt tb (standsAt row) i) row ≡ true
 Plain tb row (Goes i) = actOf tb (branchAt tb (standsAt row) i) ≡ Tau
 Plain tb row (Creates i c) = Unit {0}
@@ -167,20 +168,20 @@ module _ (tb : Table) (g : Granted tb) (rd : Readable tb) (s : State) (ok : Soun
     (b : Thread) (bn : Bench tb b) where
   -- a step that is not refused is a turn of its thread by 002's rules and document 01's own, followed by uses of (reclaim)
   pub step-reduced : Allowed (move tb s t)
-      → Stepped (bodyOf tb) Ours (agentOf tb b s) (threadOf tb (thread s t)) (agentOf tb b (perform tb s t (move tb s t)))
+      → Stepped (bodyOf tb) (OurRules tb) (agentOf tb b s) (threadOf tb (thread s t)) (agentOf tb b (perform tb s t (move tb s t)))
   unfolding Allowed
   step-reduced =
-      stepped tb g rd s ok t l ready b bn Ours Allowed (λ z. z) (λ z. z)
+      stepped tb g rd s ok t l ready b bn (OurRules tb) Allowed (λ z. z) (λ z. z)
       (λ k z. calls-reduced tb g rd s (ok .orderly) t l ready b bn k)
-      (λ k p z. waits-reduced tb g rd s (ok .orderly) t l ready b bn Ours (λ i m f A C x. x) k p)
+      (λ k p z. waits-reduced tb g rd s (ok .orderly) t l ready b bn (OurRules tb) (λ i m f A C x. x) k p)
       (λ k (x, before) z. assignment-reduced tb g rd s (ok .orderly) t l ready b bn k (x .at-choice) (x .branch-in) before x)
 
-  -- and it is one by 002's rules alone, if it is neither a call, nor an assignment, nor a wait with a guard that is false
+  -- and it is one by 002's rules alone, if it is neither a call of a definition with number locals, nor an assignment, nor a wait with a guard that is false
   pub step-published : Plain tb (thread s t) (move tb s t)
       → Stepped (bodyOf tb) Nothing (agentOf tb b s) (threadOf tb (thread s t)) (agentOf tb b (perform tb s t (move tb s t)))
   unfolding Plain
   step-published =
       stepped tb g rd s ok t l ready b bn Nothing (Plain tb (thread s t)) (λ z. z) (λ z. z)
-      (λ k z. absurd z)
+      (λ k z. calls-published tb g rd s (ok .orderly) t l ready b bn k z Nothing)
       (λ k p z. waits-reduced tb g rd s (ok .orderly) t l ready b bn Nothing (λ i m f A C x. contra (z i m) f) k p)
       (λ k (x, before) z. tau-assignment (actOf tb (branchAt tb (standsAt (thread s t)) k)) z (x .does))
