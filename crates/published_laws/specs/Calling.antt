@@ -3,7 +3,7 @@
 use Prim.Native.Nat.{ℕ, suc, _<_, _≤_}
 use native.Mathlib.Omega.{arith}
 use mathlib.Core.Path.{_≡_, refl, sym, _∙_, ap}
-use mathlib.Core.Logic.{_≢_}
+use mathlib.Core.Logic.{inr, _≢_}
 use mathlib.Core.Bool.{Bool, true, false, cond}
 use mathlib.Core.List.{List, [], _∷_, map}
 use mathlib.Core.Option.{none, some, Option·getD}
@@ -26,10 +26,11 @@ use Rattle.engine_laws.specs.Sound.{RowSound, Orderly}
 use Rattle.published.specs.Syntax.{invoke}
 use Rattle.published.specs.Agents as Agents
 use Rattle.published.specs.Agents.{Value, Env, look, Thread, Agent, agent}
-use Rattle.published.specs.Rules.{Rearranged, call, more, Run, last, pass, Turn, zeroed, zeros}
+use Rattle.published.specs.Rules.{Rearranged, call, more, last, pass, zeroed, zeros}
+use Rattle.published.specs.Fired.{by-call, fired, Labels, ours-fire, firing, Ends, RunBy, TurnBy}
 use Rattle.published.specs.Lists.{turned-back}
 use Rattle.published_laws.specs.Readable.{Readable}
-use Rattle.published_laws.specs.Standing.{bodyOf, forNumbers, valueAs, slotValue, envOf, readyThread, threadOf, threadsOf, channelsOf, agentOf, OurRules}
+use Rattle.published_laws.specs.Standing.{bodyOf, forNumbers, valueAs, slotValue, envOf, readyThread, threadOf, threadsOf, channelsOf, agentOf, OurRules, OurLabels}
 use Rattle.published_laws.specs.Trimmed.{look-trimmed, trimmed-same, trimmed-given}
 use Rattle.published_laws.specs.Environments.{number-value, look-env, look-past, slot-value, filled-value, look-filled}
 use Rattle.published_laws.specs.Products.{Bench}
@@ -184,11 +185,11 @@ module _ (tb : Table) (g : Granted tb) (rd : Readable tb) (s : State) (o : Order
 
   -- ---- (call)
 
-  module _ (More : Agent → Agent → Type 0) where
-    by-run : Run (bodyOf tb) More
+  module _ (More : Agent → Agent → Type 0) (own : Labels More) where
+    by-run : RunBy (bodyOf tb) More own (fired 0 by-call)
         (agent (channelsOf s) (Agents.thread [] δ (invoke d (tabulate (parameters tb d) arg)) ∷ others tb g rd s o t l ready b bn))
         (agent (channelsOf s) (Agents.thread [] (envOf tb after) (bodyOf tb d) ∷ others tb g rd s o t l ready b bn))
-        → Turn (bodyOf tb) More (agentOf tb b s) (readyThread tb (thread s t)) (agentOf tb b (written tb s t Calls))
+        → TurnBy (bodyOf tb) More own (agentOf tb b s) (readyThread tb (thread s t)) (fired 0 by-call) (agentOf tb b (written tb s t Calls))
     unfolding agentOf channelsOf written withThread
     by-run w =
         let rest = others tb g rd s o t l ready b bn in
@@ -196,11 +197,13 @@ module _ (tb : Table) (g : Granted tb) (rd : Readable tb) (s : State) (o : Order
         let end : Rearranged (Agents.thread [] (envOf tb after) (bodyOf tb d) ∷ rest) (b ∷ threadsOf tb (set (s .threads) t after)) =
         rw after-thread at (turned-back (new-first tb g rd s o t l ready b bn after after-used)) in
         rw (at-call tb g rd s o t l ready b bn kind)
-        (turn-by (bodyOf tb) More {T = agent (channelsOf s) (Agents.thread [] (envOf tb after) (bodyOf tb d) ∷ rest)} start w end)
+        (turn-by (bodyOf tb) More own (fired 0 by-call) {T = agent (channelsOf s) (Agents.thread [] (envOf tb after) (bodyOf tb d) ∷ rest)} start w end)
 
   -- and then zeros
-  pub calls-reduced : Turn (bodyOf tb) (OurRules tb) (agentOf tb b s) (readyThread tb (thread s t)) (agentOf tb b (written tb s t Calls))
-  calls-reduced = by-run (OurRules tb) (pass (call values evaluated) (last (more (zeros d entered-zeros))))
+  pub calls-reduced : TurnBy (bodyOf tb) (OurRules tb) (OurLabels tb) (agentOf tb b s) (readyThread tb (thread s t)) (fired 0 by-call)
+      (agentOf tb b (written tb s t Calls))
+  unfolding firing ours-fire Ends
+  calls-reduced = by-run (OurRules tb) (OurLabels tb) (pass (call values evaluated) (last (more (zeros d entered-zeros))), inr (refl, refl, refl))
 
   -- by 002 alone, where the definition has no numbers besides its parameters
   module _ (no-numbers : (k : ℕ) → parameters tb (callee tb (standsAt (thread s t))) ≤ k → forNumbers tb (callee tb (standsAt (thread s t))) k ≡ false) where
@@ -217,6 +220,7 @@ module _ (tb : Table) (g : Granted tb) (rd : Readable tb) (s : State) (o : Order
         trimmed-same (tabulate rowSlots (slotValue tb after)) (map some values)
         (λ x. sym (look-trimmed (tabulate rowSlots (slotValue tb after)) x) ∙ entered-zeros x ∙ nothing-zeroed x) ∙ trimmed-given values
 
-    pub calls-published : (More : Agent → Agent → Type 0)
-        → Turn (bodyOf tb) More (agentOf tb b s) (readyThread tb (thread s t)) (agentOf tb b (written tb s t Calls))
-    calls-published More = by-run More (rw as-given (last (call values evaluated)))
+    pub calls-published : (More : Agent → Agent → Type 0) (own : Labels More)
+        → TurnBy (bodyOf tb) More own (agentOf tb b s) (readyThread tb (thread s t)) (fired 0 by-call) (agentOf tb b (written tb s t Calls))
+    unfolding firing Ends
+    calls-published More own = by-run More own (rw as-given (last (call values evaluated), refl))

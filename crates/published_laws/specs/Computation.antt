@@ -15,7 +15,7 @@ use Rattle.table.specs.Table.{Table, tableOf, ports}
 use Rattle.loader.specs.Load.{tableLength, accepted}
 use Rattle.state.specs.State.{stateLength, view, thread}
 use Rattle.rules.specs.Start.{entered, started}
-use Rattle.rules.specs.Calls.{startBy, startCall, stepCall, giveBy, giveCall, takeBy, takeCall, runCall}
+use Rattle.rules.specs.Calls.{startBy, startCall, stepCall, giveBy, giveCall, takeBy, takeCall, courseOf, runCall}
 use Rattle.rules.specs.declared.Stepped.{Stepped}
 use Rattle.rules.specs.declared.Stepped.the-variants as Stepped
 use Rattle.rules.specs.declared.Given.{Given}
@@ -38,12 +38,13 @@ use Rattle.published.specs.Syntax.{Process, choice, nothing, branch, always, ou
 use Rattle.published.specs.Agents as Agents
 use Rattle.published.specs.Agents.{_∈_, Value, refers, valueOf, Thread}
 use Rattle.published.specs.Rules.{Reduces, acts, more, stays, goes, Reaches, assigns}
+use Rattle.published.specs.Fired.{turns-reach}
 use Rattle.published.specs.Lists.{many-on, stepped-reaches}
 use Rattle.published.specs.Polarity.{OnePolarity, Bare, our-proposition-2}
-use Rattle.published_laws.specs.Standing.{bodyOf, forNumbers, envOf, threadOf, agentOf, OurRules}
+use Rattle.published_laws.specs.Standing.{bodyOf, forNumbers, envOf, threadOf, agentOf, OurRules, OurLabels}
 use Rattle.published_laws.specs.Benches.{portsAnd, bench-is, look-port, look-own, bind-own}
 use Rattle.published_laws.specs.Starting.{started-agent}
-use Rattle.published_laws.specs.Running.{step-call-reduced, run-call-reduced, give-call-reduced, take-call-reduced, collect-call-reduced}
+use Rattle.published_laws.specs.Running.{step-call-reduced, run-done, run-call-reduced, give-call-reduced, take-call-reduced, collect-call-reduced}
 
 -- what the bench's own variable has: nothing yet, or a number
 pub data Own : Option Value → Type 0 where
@@ -91,7 +92,7 @@ module _ (table : List ℕ) (ok : accepted table ≡ true) (fit : (i : ℕ) → 
         h,
         stepped-reaches (bodyOf tb) (OurRules tb) (agentOf tb (benchAt o E′) (view state)) (threadOf tb (thread (view state) t))
             (agentOf tb (benchAt o E′) (view (stepCall table state t .state)))
-            (step-call-reduced table ok fit state sb (benchAt o E′) (bench-is tb o (own-refers o h) E′ w) t n d e),
+            (step-call-reduced table ok fit state sb (benchAt o E′) (bench-is tb o (own-refers o h) E′ w) t n d e .2 .stepped),
       );
     }
     stepped-by t (Stepped.Refused r) e = nothing-happens state (stepCall table state t .state) (step-refused-keeps table state t r e) E′ w
@@ -99,7 +100,13 @@ module _ (table : List ℕ) (ok : accepted table ≡ true) (fit : (i : ℕ) → 
     ran-by : (n : ℕ) → Leads state (runCall table state n .state) E′ E′
     ran-by n = record {
       acts-first = w;
-      from = λ o h. (o, h, run-call-reduced table ok fit state sb (benchAt o E′) (bench-is tb o (own-refers o h) E′ w) n);
+      from = λ o h. (
+        o,
+        h,
+        turns-reach (bodyOf tb) (OurRules tb) (OurLabels tb)
+            (run-call-reduced table ok fit state sb (benchAt o E′) (bench-is tb o (own-refers o h) E′ w) n (courseOf tb n (view state) .steps)
+            (courseOf tb n (view state) .reason) (run-done table ok fit state sb (benchAt o E′) (bench-is tb o (own-refers o h) E′ w) n)),
+      );
     }
 
     collected-by : Leads state (collectCall table state .state) E′ E′
@@ -131,8 +138,8 @@ module _ (table : List ℕ) (ok : accepted table ≡ true) (fit : (i : ℕ) → 
         let last = stepped-reaches (bodyOf tb) (OurRules tb) (agentOf tb (benchAt (some (Agents.number v)) (sending p)) (view state))
         (benchAt (some (Agents.number v)) (sending p))
         (agentOf tb (benchAt (some (Agents.number v)) E′) (view (giveCall table state p v .state)))
-        (give-call-reduced table ok fit state sb (bodyOf tb) (OurRules tb) p δ p (ports tb) E′ nothing (look-port tb (some (Agents.number v)) p (given-port p v u e)) v l
-        (look-own tb (some (Agents.number v))) (bench-is tb (some (Agents.number v)) (own-refers (some (Agents.number v)) (a-number v)) E′ w) u e) in (
+        (give-call-reduced table ok fit state sb (bodyOf tb) (OurRules tb) (OurLabels tb) p δ p (ports tb) E′ nothing (look-port tb (some (Agents.number v)) p (given-port p v u e)) v l
+        (look-own tb (some (Agents.number v))) (bench-is tb (some (Agents.number v)) (own-refers (some (Agents.number v)) (a-number v)) E′ w) u e .1 .stepped) in (
           choice (branch always (assign (ports tb) (constant v)) (sending p) nothing),
           record { acts-first = refl; from = λ o h. (some (Agents.number v), a-number v, many-on (Reduces (bodyOf tb) (OurRules tb)) (set-first p v o) last) },
         )
@@ -165,8 +172,8 @@ module _ (table : List ℕ) (ok : accepted table ≡ true) (fit : (i : ℕ) → 
             let bn = bench-is tb (some (Agents.number v)) (own-refers (some (Agents.number v)) (a-number v)) E′ w in
             let q = bind-own tb o (Agents.number v) in
             rw (← q) (stepped-reaches (bodyOf tb) (OurRules tb) (agentOf tb (benchAt o (receiving p)) (view state)) (benchAt o (receiving p)) _
-            (take-call-reduced table ok fit state sb (bodyOf tb) (OurRules tb) p (portsAnd tb o) p (ports tb) E′ nothing (look-port tb o p (taken-port p u v e)) v
-            (rw q bn) u e))
+            (take-call-reduced table ok fit state sb (bodyOf tb) (OurRules tb) (OurLabels tb) p (portsAnd tb o) p (ports tb) E′ nothing (look-port tb o p (taken-port p u v e)) v
+            (rw q bn) u e .1 .stepped))
     taken-by p Taken.Nobody e = (E′, nothing-happens state (takeCall table state p .state) (take-nobody-keeps table state p e) E′ w)
     taken-by p (Taken.Refused r) e = (E′, nothing-happens state (takeCall table state p .state) (take-refused-keeps table state p r e) E′ w)
 

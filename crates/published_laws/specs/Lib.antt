@@ -6,12 +6,15 @@ pub mod Environments
 pub mod Products
 pub mod Reclaims
 pub mod Commitments
+pub mod Firing
 pub mod Passing
 pub mod Afterwards
 pub mod Alone
 pub mod Calling
 pub mod Together
 pub mod Stepping
+pub mod Telling
+pub mod Turning
 pub mod Outside
 pub mod Places
 pub mod Enabling

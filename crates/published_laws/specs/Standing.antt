@@ -19,6 +19,7 @@ use Rattle.rules.specs.declared.Act.the-variants.{Tau, Meeting, New, Spawn, Ass
 use Rattle.published.specs.Syntax.{Guard, always, equals, below, same, less, Expression, constant, plus, minus, Process, end, choice, invoke, Sum, nothing, branch, Prefix, tau, output, input, newChannel, newThread, assign, waits}
 use Rattle.published.specs.Agents.{Value, channel, number, Env, Commitment, gives, takes, Thread, thread, Channels, Agent, agent}
 use Rattle.published.specs.Rules.{Ours}
+use Rattle.published.specs.Fired.{Labels, ours-fire}
 
 -- the word v as a value of type ty; -1 is no channel
 unfoldable pub valueAs : ℕ → ℕ → Option Value
@@ -98,6 +99,9 @@ module _ (tb : Table) where
 
   abbrev pub OurRules : Agent → Agent → Type 0
   OurRules = Ours bodyOf forNumbers
+
+  abbrev pub OurLabels : Labels (Ours bodyOf forNumbers)
+  OurLabels = ours-fire bodyOf forNumbers
 
   -- ---- threads
 
