@@ -1,22 +1,23 @@
 -- What the search for a thread that offers on a port has shown at each place. Assumes nothing.
-use Prim.Native.Nat.{ℕ, _+_, _<_, _≤_}
+use Prim.Native.Nat.{ℕ, _<_, _≤_}
 use native.Mathlib.Omega.{arith}
-use mathlib.Core.Path.{_≡_, sym, _∙_}
+use mathlib.Core.Path.{_≡_, _∙_}
 use mathlib.Core.Bool.{Bool, true, false, _&&_}
 use mathlib.Core.List.{List}
-use lib.Dec.{ltb, eqb}
-use borrow.Author.Tests.{lt-ltb, le-ltb, ne-eqb}
-use Rattle.numbers.specs.Search.{first, some}
-use Rattle.numbers.specs.Search.Laws.{caseB, first-more, first-hit, first-all}
+use lib.Dec.{eqb}
+use Rattle.numbers.specs.Rows.{at}
+use Rattle.numbers.specs.Search.{first}
 use Rattle.table.specs.Table.{Table}
 use Rattle.table.specs.Layout.{branchCount}
-use Rattle.state.specs.State.{State, thread, status, standsAt, slotOf}
+use Rattle.state.specs.State.{State, standsAt, slotOf}
 use Rattle.rules.specs.Program.{branchAt, fieldA, actOf, guardHolds}
-use Rattle.rules.specs.Offers.{meets?, offersIn, offersAt, offeringBranch, offers, answers, partnerOf}
+use Rattle.rules.specs.Offers.{meets?, offersIn, offersAt, answers, partnerOf}
 use Rattle.rules.specs.Calls.{bench}
 use Rattle.rules.specs.declared.Direction.{Direction}
-use Rattle.rules.specs.declared.Partner.the-variants.{Nobody, At}
-use Rattle.moves.specs.Partners.{none-answers, one-answers}
+use Rattle.rules.specs.declared.Partner.{Partner}
+use Rattle.rules.specs.declared.Partner.the-variants.{Nobody}
+use Rattle.moves.specs.Partners.{none-answers}
+use Rattle.moves.specs.Tried.{tried, tried-waiting}
 
 -- ---- a thread by itself, whose node was read
 
@@ -31,45 +32,10 @@ module _ (tb : Table) (row : List ℕ) (d : Direction) (c node : ℕ) (e : node 
     unfolding offersAt offersIn
     offers-not h = rw (← e, ← f, ← g, h)
 
-  -- it has n branches, of which none below i offers
-  module _ (n i : ℕ) (f : n ≡ branchCount tb node) (past : first (offersAt tb row d c) i ≡ i) where
-    pub branch-found : (x : Bool) → x ≡ offersAt tb row d c i → x ≡ true → i < n → i ≡ offeringBranch tb row d c
-    unfolding offeringBranch
-    branch-found x g h l = rw (← e, ← f) (first-hit (offersAt tb row d c) i n x past g h l)
+-- a thread that waits is tried for the bench, by all its branches
+pub tried-for-bench : (tb : Table) (s : State) (u w n r : ℕ) → w ≡ at (s .threads) u 0 → u < 64 → w ≡ 2 → n ≡ at (s .threads) u 1 → r ≡ branchCount tb n → r ≡ tried tb s bench u
+tried-for-bench tb s u w n r e l g h i = tried-waiting tb s bench u w e n r (λ q. absurd (omega arith)) g h i
 
-    pub branch-none : i ≤ n → n ≤ i → n ≡ offeringBranch tb row d c
-    unfolding offeringBranch
-    branch-none h l = rw (← e, ← f) (first-all (offersAt tb row d c) i n past h l)
-
-module _ (tb : Table) (row : List ℕ) (d : Direction) (c : ℕ) where
-  -- what is no channel is not offered
-  pub offers-nowhere : 128 ≤ c → false ≡ offers tb row d c
-  unfolding offers
-  offers-nowhere h = rw (le-ltb c 128 h)
-
-  module _ (w : ℕ) (k : w ≡ status row) where
-    pub offers-idle : (w ≡ 2 → ⊥) → false ≡ offers tb row d c
-    unfolding offers
-    offers-idle h = rw (← k, ne-eqb w 2 h) (caseB (ltb c 128) (λ y. rw y) (λ y. rw y))
-
-    pub offers-waiting : (node n i : ℕ) → w ≡ 2 → c < 128 → node ≡ standsAt row → n ≡ branchCount tb node → i ≡ offeringBranch tb row d c → ltb i n ≡ offers tb row d c
-    unfolding offers offeringBranch some
-    offers-waiting node n i z a e f g = rw (lt-ltb c 128 a, ← k, z, g, f, e)
-
--- ---- the threads in turn: none of those passed answers the bench
-
-module _ (tb : Table) (s : State) (d : Direction) (c u : ℕ) (past : first (answers tb s bench d c) u ≡ u) where
-  -- whether thread u offers is x
-  module _ (x : Bool) (e : x ≡ offers tb (thread s u) d c) (l : u < 64) where
-    asked : x ≡ answers tb s bench d c u
-    unfolding answers
-    asked = rw (ne-eqb u 64 (omega arith)) e
-
-    pub port-passed : x ≡ false → first (answers tb s bench d c) (u + 1) ≡ u + 1
-    port-passed h = first-more (answers tb s bench d c) u x past asked h
-
-    pub port-found : (i : ℕ) → x ≡ true → i ≡ offeringBranch tb (thread s u) d c → At u i ≡ partnerOf tb s bench d c
-    port-found i h f = rw f (one-answers tb s bench d c u past (sym asked ∙ h) l)
-
-  pub port-nobody : 64 ≤ u → u ≤ 64 → Nobody ≡ partnerOf tb s bench d c
-  port-nobody h l = let q : u ≡ 64 = omega arith in none-answers tb s bench d c (rw q at past)
+-- none of the threads answers the bench
+pub port-nobody : (tb : Table) (s : State) (d : Direction) (c u : ℕ) (f : Partner) → f ≡ Nobody → first (answers tb s bench d c) u ≡ u → 64 ≤ u → u ≤ 64 → f ≡ partnerOf tb s bench d c
+port-nobody tb s d c u f e past h l = let q : u ≡ 64 = omega arith in e ∙ none-answers tb s bench d c (rw q at past)

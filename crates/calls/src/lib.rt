@@ -8,9 +8,10 @@ ghost use Rattle.state.specs.State.{stateOf, thread, isReady};
 ghost use Rattle.granted.specs.Granted.{Granted};
 ghost use Rattle.engine_laws.specs.Sound.{Sound};
 ghost use Rattle.rules.specs.Holding.{settled};
-ghost use Rattle.rules.specs.Offers.{offersAt, offeringBranch, offers, partnerOf};
+ghost use Rattle.rules.specs.Offers.{offersAt, partnerOf};
 ghost use Rattle.rules.specs.Moves.{move};
 ghost use Rattle.rules.specs.Calls.{canStep, stepAnswer, Course};
+ghost use Rattle.moves.specs.Tried.{tried};
 ghost use Rattle.steps.specs.Counted.{Counted};
 ghost use Rattle.calls.specs.Course.{courseBy};
 ghost use Rattle.calls.specs.States.{After, stepOn, giveOn, takeOn, runOn};
@@ -148,52 +149,19 @@ fn offers_at(
     false
 }
 
-// The first branch of thread u by which it offers d on channel c; the number of its branches where there is none.
-fn offering_branch(
-    table: &[u8],
-    index: &[u32],
-    state: &[u32; state::WORDS],
-    u: u32,
-    d: Direction,
-    c: u32,
-) -> u32
+// How many branches of thread u are tried for the bench, which is no thread itself: none of a thread that does not wait.
+fn branches_tried(table: &[u8], index: &[u32], state: &[u32; state::WORDS], u: u32) -> u32
     requires { ⌜ Indexed (tableOf (now table)) (now index) ⌝ }
-    ensures { λ r. ⌜ r ≡ offeringBranch (tableOf (now (table .entry))) (thread (stateOf (now (state .entry))) u) d c ⌝ }
+    requires { ⌜ u < 64 ⌝ }
+    ensures { λ r. ⌜ r ≡ tried (tableOf (now (table .entry))) (stateOf (now (state .entry))) 64 u ⌝ }
 {
-    let node = state::thread_word(state, u as usize, 1);
-    let n = table::branch_count_of(table, index, node);
-    for i in 0..n {
-        if offers_at(table, index, state, u, d, c, i) {
-            return i;
-        }
-    }
-    n
-}
-
-// Whether thread u waits and offers d on channel c.
-fn offers(
-    table: &[u8],
-    index: &[u32],
-    state: &[u32; state::WORDS],
-    u: u32,
-    d: Direction,
-    c: u32,
-) -> bool
-    requires { ⌜ Indexed (tableOf (now table)) (now index) ⌝ }
-    ensures { λ r. ⌜ r ≡ offers (tableOf (now (table .entry))) (thread (stateOf (now (state .entry))) u) d c ⌝ }
-{
-    if MAX_CHANNELS <= c {
-        return false;
-    }
     if state::thread_word(state, u as usize, 0) != 2 {
-        return false;
+        return 0;
     }
-    let node = state::thread_word(state, u as usize, 1);
-    let n = table::branch_count_of(table, index, node);
-    offering_branch(table, index, state, u, d, c) < n
+    table::branch_count_of(table, index, state::thread_word(state, u as usize, 1))
 }
 
-// The first waiting thread that offers d on port p, and the first of its branches that does: for the bench, which is no thread itself.
+// The first waiting thread that offers d on port p, and the first of its branches that does.
 fn find_at_port(
     table: &[u8],
     index: &[u32],
@@ -204,13 +172,20 @@ fn find_at_port(
     requires { ⌜ Indexed (tableOf (now table)) (now index) ⌝ }
     ensures { λ r. ⌜ r ≡ partnerOf (tableOf (now (table .entry))) (stateOf (now (state .entry))) 64 d p ⌝ }
 {
-    for u in 0..MAX_THREADS {
-        if offers(table, index, state, u, d, p) {
-            let i = offering_branch(table, index, state, u, d, p);
-            return Partner::At(u, i);
+    if MAX_CHANNELS <= p {
+        return Partner::Nobody;
+    }
+    let mut found = Partner::Nobody;
+    'threads: for u in 0..MAX_THREADS {
+        let n = branches_tried(table, index, state, u);
+        for i in 0..n {
+            if offers_at(table, index, state, u, d, p, i) {
+                found = Partner::At(u, i);
+                break 'threads;
+            }
         }
     }
-    Partner::Nobody
+    found
 }
 
 // The number of pattern v is given on port p.

@@ -85,12 +85,6 @@ both true true e = (refl, refl)
 both true false e = clash Ground.Table e
 both false q e = clash Ground.Length e
 
-all-three : (p q r : Bool) → cond p (cond q (cond r Admitted (Refused Ground.State)) (Refused Ground.Table)) (Refused Ground.Length) ≡ Admitted → (p ≡ true) × (q ≡ true) × (r ≡ true)
-all-three true true true e = (refl, refl, refl)
-all-three true true false e = clash Ground.State e
-all-three true false r e = clash Ground.Table e
-all-three false q r e = clash Ground.Length e
-
 module _ (table b : List ℕ) (a : Admission) where
   right-length : lengthsRight table b ≡ true → length b ≡ stateLength
   unfolding lengthsRight
@@ -115,37 +109,24 @@ module _ (table b : List ℕ) (a : Admission) where
       unfolding startAdmission admission
       state-unsound j = let (p, q) = both (lengthsRight table b) (accepted table) (sym e ∙ f) in rw (p, q, ← i, ← h, j)
 
-  -- a: what the grounds say
-  module _ (e : a ≡ admission table b) (f : a ≡ Admitted) where
-    pub admitted-length : length b ≡ stateLength
-    unfolding admission
-    admitted-length = right-length (all-three (lengthsRight table b) (accepted table) (sound (tableOf table) (view b)) (sym e ∙ f) .0)
-
     -- the table grants what the calls ask, and the state, whose words are w, is sound
-    pub admitted-granted : ((i : ℕ) → Fits w8 (getD table i 0)) → Granted (tableOf table)
-    unfolding admission
-    admitted-granted fit =
-        granted table (all-three (lengthsRight table b) (accepted table) (sound (tableOf table) (view b)) (sym e ∙ f) .1) (bytes-fit table fit)
+    pub start-granted : a ≡ Admitted → ((i : ℕ) → Fits w8 (getD table i 0)) → Granted (tableOf table)
+    unfolding startAdmission
+    start-granted f fit = granted table (both (lengthsRight table b) (accepted table) (sym e ∙ f) .1) (bytes-fit table fit)
 
-    pub admitted-sound : (w : List ℕ) → (a ≡ Admitted → w ≡ words b) → ((i : ℕ) → Fits w8 (getD b i 0)) → Sound (tableOf table) (stateOf w)
-    unfolding admission
-    admitted-sound w q fit =
-        rw (q f) (sound-elim (tableOf table) (view b) (view-shaped b admitted-length (bytes-fit b fit))
-        (all-three (lengthsRight table b) (accepted table) (sound (tableOf table) (view b)) (sym e ∙ f) .2))
+    pub is-sound : a ≡ Admitted → (w : List ℕ) → w ≡ words b → (x : Bool) → x ≡ sound (tableOf table) (stateOf w) → x ≡ true → ((i : ℕ) → Fits w8 (getD b i 0))
+        → Sound (tableOf table) (stateOf w)
+    is-sound f w i x h j fit =
+        let z : sound (tableOf table) (stateOf w) ≡ true = sym h ∙ j in
+        rw i (sound-elim (tableOf table) (view b) (view-shaped b (start-length f) (bytes-fit b fit)) (rw i at z))
 
--- the index of a table that was accepted, and of one that was admitted
+-- the index of a table that was accepted
 pub accepted-indexed : (table l : List ℕ) (y : Bool) → (y ≡ true → Indexed (tableOf table) l) → y ≡ true → Indexed (tableOf table) l
 accepted-indexed table l y f g = f g
 
-pub admitted-indexed : (table l : List ℕ) (a : Admission) → (a ≡ Admitted → Indexed (tableOf table) l) → a ≡ Admitted → Indexed (tableOf table) l
-admitted-indexed table l a f g = f g
-
-pub not-admitted : (table l : List ℕ) (g : Refusal) → Refused g ≡ Admitted → Indexed (tableOf table) l
-not-admitted table l g e = clash g e
-
--- ... and the words of a state
-pub not-read : (b l : List ℕ) (g : Refusal) → Refused g ≡ Admitted → l ≡ words b
-not-read b l g e = clash g e
+-- of a call that is refused anything is promised
+pub not-admitted : {P : Type 0} (g : Refusal) → Refused g ≡ Admitted → P
+not-admitted g e = clash g e
 
 -- ---- the calls
 
@@ -182,21 +163,21 @@ module _ (table b : List ℕ) (a : Admission) (e : a ≡ admission table b) wher
     run-refused n = rw (← e, f)
 
   -- w: its words, and w₁ those after the call, of which b₁ are the bytes
-  module _ (f : a ≡ Admitted) (fit : (i : ℕ) → Fits w8 (getD b i 0)) (w w₁ b₁ : List ℕ) (q : a ≡ Admitted → w ≡ words b) (h : b₁ ≡ stateBytes (stateOf w₁)) where
+  module _ (f : a ≡ Admitted) (fit : (i : ℕ) → Fits w8 (getD b i 0)) (w w₁ b₁ : List ℕ) (q : a ≡ Admitted → w ≡ words b) (long : a ≡ Admitted → length b ≡ stateLength) (h : b₁ ≡ stateBytes (stateOf w₁)) where
     pub step-admitted : (r : Stepped) (t : ℕ) → afterwards r (stateOf w₁) ≡ stepOn (tableOf table) (stateOf w) t → outcome r b₁ ≡ stepCall table b t
     unfolding stepCall
     step-admitted r t k = rw (← e, f)
-        (after-bytes _ r (stateOf w₁) b₁ (k ∙ rw (q f)) h ∙ step-bytes table b (admitted-length table b a e f) (bytes-fit b fit) t)
+        (after-bytes _ r (stateOf w₁) b₁ (k ∙ rw (q f)) h ∙ step-bytes table b (long f) (bytes-fit b fit) t)
 
     pub give-admitted : (r : Given) (p v : ℕ) → afterwards r (stateOf w₁) ≡ giveOn (tableOf table) (stateOf w) p v → outcome r b₁ ≡ giveCall table b p v
     unfolding giveCall
     give-admitted r p v k = rw (← e, f)
-        (after-bytes _ r (stateOf w₁) b₁ (k ∙ rw (q f)) h ∙ give-bytes table b (admitted-length table b a e f) (bytes-fit b fit) p v)
+        (after-bytes _ r (stateOf w₁) b₁ (k ∙ rw (q f)) h ∙ give-bytes table b (long f) (bytes-fit b fit) p v)
 
     pub take-admitted : (r : Taken) (p : ℕ) → afterwards r (stateOf w₁) ≡ takeOn (tableOf table) (stateOf w) p → outcome r b₁ ≡ takeCall table b p
     unfolding takeCall
     take-admitted r p k = rw (← e, f)
-        (after-bytes _ r (stateOf w₁) b₁ (k ∙ rw (q f)) h ∙ take-bytes table b (admitted-length table b a e f) (bytes-fit b fit) p)
+        (after-bytes _ r (stateOf w₁) b₁ (k ∙ rw (q f)) h ∙ take-bytes table b (long f) (bytes-fit b fit) p)
 
     pub run-admitted : (r : Ran) (n : ℕ) → afterwards r (stateOf w₁) ≡ runOn (tableOf table) (stateOf w) n → outcome r b₁ ≡ runCall table b n
     unfolding runCall

@@ -1,11 +1,14 @@
 // The calls of the engine: start, step, give, take, run. Each judges its buffers first, and a call that is refused changes nothing.
 ghost use mathlib.Core.Path.{_≡_};
-ghost use lib.ListN.{replicate};
+ghost use lib.ListN.{length, replicate};
 ghost use Rattle.numbers.specs.Bytes.{words as wordsOf};
 ghost use Rattle.table.specs.Table.{tableOf};
 ghost use Rattle.table.specs.Index.{Indexed, indexLength};
+ghost use Rattle.state.specs.State.{stateLength, stateOf};
 ghost use Rattle.rules.specs.Calls.{Outcome, lengthsRight, startAdmission, admission, startCall, stepCall, giveCall, takeCall, runCall};
 ghost use Rattle.rules.specs.declared.Admission.the-variants.{Admitted};
+ghost use Rattle.granted.specs.Granted.{Granted};
+ghost use Rattle.engine_laws.specs.Sound.{Sound};
 use rules::Admission;
 use rules::Given;
 use rules::Ran;
@@ -45,7 +48,7 @@ fn admit_start(table: &[u8], state: &[u8], index: &mut [u32]) -> Admission
     Admission::Refused(Refusal::Table)
 }
 
-// Grounds 8, 9 and 10. The words of an admitted state are left in `words`.
+// Grounds 8, 9 and 10. Of an admitted call the index of the table is left in `index`, which comes as zeros, and the words of the state in `words`.
 pub fn admit(
     table: &[u8],
     state: &[u8],
@@ -54,8 +57,11 @@ pub fn admit(
 ) -> Admission
     requires { ⌜ now index ≡ replicate indexLength 0 ⌝ }
     ensures { λ r. ⌜ r ≡ admission (now (table .entry)) (now (state .entry)) ⌝ }
+    ensures { λ r. ⌜ (r ≡ Admitted → length (now (state .entry)) ≡ stateLength) ⌝ }
+    ensures { λ r. ⌜ (r ≡ Admitted → Granted (tableOf (now (table .entry)))) ⌝ }
     ensures { λ r. ⌜ (r ≡ Admitted → Indexed (tableOf (now (table .entry))) (now (index .exit))) ⌝ }
     ensures { λ r. ⌜ (r ≡ Admitted → now (words .exit) ≡ wordsOf (now (state .entry))) ⌝ }
+    ensures { λ r. ⌜ (r ≡ Admitted → Sound (tableOf (now (table .entry))) (stateOf (now (words .exit)))) ⌝ }
 {
     match admit_start(table, state, index) {
         Admission::Refused(ground) => Admission::Refused(ground),

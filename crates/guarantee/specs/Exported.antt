@@ -1,12 +1,29 @@
--- The claim speaks of the calls by which `Claim.antt` performs a list. Here they are held against what the contracts of the exported calls say, in the
--- numbers that C sees: the same bytes are left, and a call is answered with refusal 10 only where the claim has it so. Assumes nothing.
+-- The claim speaks of loading and of the calls by which `Claim.antt` performs a list. Here they are held against what the contracts of the exported calls
+-- say, in the numbers that C sees: a load is answered with refusal 0 exactly where the file loads; the calls leave the same bytes; and a call is answered
+-- with refusal 10 only where the claim has it so. Assumes nothing.
 use Prim.Native.Nat.{ℕ, _<_}
 use mathlib.Core.Path.{_≡_, refl, sym, ap, _∙_}
 use mathlib.Core.List.{List}
+use mathlib.Core.Logic.{_≢_, _↔_}
+use lib.Dec.{eqb}
+use lib.ListN.{length}
 use lib.IntN.{ℤ, pos}
 use mir.Syntax.{w32}
 use mir.Val.{toZ, ofZ}
 use mir.Facts.{ofZ-toZ}
+use borrow.Author.Tests.{eqb-true}
+use Rattle.numbers.specs.Search.Laws.{caseB}
+use Rattle.loader.specs.File.{fileTable}
+use Rattle.loader.specs.Verdict.{groundNumber, verdict}
+use Rattle.loader.specs.Load as Load
+use Rattle.loader.specs.Load.{tableLength, tableBytes, loaded, afterVerdict}
+use Rattle.loader.specs.declared.Ground.{Ground}
+use Rattle.loader.specs.declared.Ground.the-variants as FileGround
+use Rattle.loader.specs.declared.Loaded.{Loaded}
+use Rattle.loader.specs.declared.Loaded.the-variants as Loaded
+use Rattle.loader.specs.declared.Verdict.{Verdict}
+use Rattle.loader.specs.declared.Verdict.the-variants.{Sound, Fault}
+use Rattle.loading.specs.Yields.{sound-loads}
 use Rattle.rules.specs.Calls.{startCall, stepCall, giveCall, takeCall, runCall}
 use Rattle.rules.specs.declared.Refusal.{Refusal}
 use Rattle.rules.specs.declared.Refusal.the-variants as Ground
@@ -24,8 +41,75 @@ use Rattle.engine_laws.specs.Lists.{step, give, take, run, after, RefusedWith}
 use Rattle.collector.specs.Collect.{collectCall}
 use Rattle.collector.specs.declared.Collected.{Collected}
 use Rattle.collector.specs.declared.Collected.the-variants as Collected
-use Rattle.pithread.specs.Interface.{inNumbers, startResult, stepFields, stepNumbers, stepResult, giveFields, giveNumbers, giveResult, takeFields, takeNumbers, takeResult, runFields, runNumbers, runResult, collectFields, collectNumbers, collectResult}
+use Rattle.pithread.specs.Interface.{numbered, loadResult, inNumbers, startResult, stepFields, stepNumbers, stepResult, giveFields, giveNumbers, giveResult, takeFields, takeNumbers, takeResult, runFields, runNumbers, runResult, collectFields, collectNumbers, collectResult}
 use Rattle.guarantee.specs.Claim.{Any, on, collect, afterAny, RefusedBy}
+
+-- ---- loading
+
+-- the number 0 is that of no ground
+ground-not-zero : (g : Ground) → pos (groundNumber g) ≢ pos 0
+unfolding groundNumber
+ground-not-zero FileGround.Lines e = clash cc
+ground-not-zero FileGround.Field e = clash cc
+ground-not-zero FileGround.Header e = clash cc
+ground-not-zero FileGround.Total e = clash cc
+ground-not-zero FileGround.Kind e = clash cc
+ground-not-zero FileGround.Sums e = clash cc
+ground-not-zero FileGround.Range e = clash cc
+ground-not-zero FileGround.Types e = clash cc
+ground-not-zero FileGround.Unwritten e = clash cc
+ground-not-zero FileGround.Unreachable e = clash cc
+
+load-zero : (a : Loaded) → pos (Load.refusalNumber a) ≡ pos 0 → a ≡ Loaded.Done
+unfolding Load.refusalNumber
+load-zero Loaded.Done e = refl
+load-zero (Loaded.FileRefused g l) e = absurd (ground-not-zero g e)
+load-zero Loaded.WrongLength e = clash cc
+
+-- refusal 0 is what the claim calls a file that loads
+pub load-so : (file t : List ℕ) → loadResult file t .answer .refusal ≡ pos 0 → loaded file t .answer ≡ Loaded.Done
+unfolding loadResult numbered
+load-so file t e = load-zero (loaded file t .answer) e
+
+-- the bytes of the table's buffer are those of the claim
+pub table-so : (file t : List ℕ) → loadResult file t .table ≡ loaded file t .table
+unfolding loadResult numbered
+table-so file t = refl
+
+-- document 01, on loading: a file is accepted when its verdict is that no line is at fault, and the buffer has the table's length
+abbrev pub Accepted : List ℕ → List ℕ → Type 0
+Accepted file t = (verdict file ≡ Sound) × (length t ≡ tableLength)
+
+after-done : (v : Verdict) (file t : List ℕ) → afterVerdict v file t .answer ≡ Loaded.Done → (v ≡ Sound) × (length t ≡ tableLength)
+unfolding afterVerdict
+after-done (Fault g l) file t e = clash cc
+after-done Sound file t e =
+    (refl, caseB (eqb (length t) tableLength) (λ y. eqb-true (length t) tableLength y) (λ n. let f : Loaded.WrongLength ≡ Loaded.Done = rw n at e in clash cc))
+
+after-refused : (v : Verdict) (file t : List ℕ) → afterVerdict v file t .answer ≢ Loaded.Done → afterVerdict v file t .table ≡ t
+unfolding afterVerdict
+after-refused (Fault g l) file t n = refl
+after-refused Sound file t n =
+    caseB (eqb (length t) tableLength) (λ y. absurd (n (rw y))) (λ f. rw f)
+
+-- refusal 0 exactly then
+pub load-zero-iff : (file t : List ℕ) → (loadResult file t .answer .refusal ≡ pos 0) ↔ Accepted file t
+unfolding loadResult numbered loaded Load.refusalNumber
+load-zero-iff file t = (
+  λ e. after-done (verdict file) file t (load-so file t e),
+  λ a. rw (sound-loads file t (a .0) (a .1)),
+)
+
+-- the buffer then has the bytes of the file's table
+pub load-table : (file t : List ℕ) → loadResult file t .answer .refusal ≡ pos 0 → loadResult file t .table ≡ tableBytes (fileTable file)
+load-table file t e =
+    let (v, l) = load-zero-iff file t .0 e in
+    table-so file t ∙ ap (λ (o : Load.Outcome). o .table) (sound-loads file t v l)
+
+-- and with any other refusal what it had before
+pub load-keeps : (file t : List ℕ) → loadResult file t .answer .refusal ≢ pos 0 → loadResult file t .table ≡ t
+unfolding loadResult numbered loaded Load.refusalNumber
+load-keeps file t n = after-refused (verdict file) file t (λ e. n (rw e))
 
 -- ---- what C sees of a call: the bytes that it leaves, and the first number of its answer
 

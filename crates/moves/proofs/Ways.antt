@@ -19,8 +19,8 @@ use Rattle.rules.specs.Moves.{oneUp, isFreeThread}
 use Rattle.rules.specs.declared.Direction.{Direction}
 use Rattle.rules.specs.declared.Direction.the-variants.{Out, In}
 use Rattle.moves.specs.Seen.{seenIn}
-use Rattle.moves.specs.Tried.{tried, firstRow}
-use Rattle.moves.specs.declared.Seen.the-variants.{Wanted, Opposed, Neither}
+use Rattle.moves.specs.Tried.{firstRow}
+use Rattle.moves.specs.declared.Seen.the-variants.{Answers, Competes, Neither}
 
 -- ---- the code of a branch's act
 
@@ -61,13 +61,13 @@ module _ (tb : Table) (row : List ℕ) (c r a x : ℕ) (g : a ≡ at tb r 5) (h 
 module _ (tb : Table) (row : List ℕ) (d : Direction) (c r : ℕ) (m : Bool) (e : m ≡ meets? (actOf tb r) d) where
   -- it is a meeting of direction d
   module _ (f : m ≡ true) (q : Bool) (g : q ≡ Offered tb row c r) where
-    pub seen-wanted : q ≡ true → Wanted ≡ seenIn tb row d c r
+    pub seen-answers : q ≡ true → Answers ≡ seenIn tb row d c r
     unfolding seenIn offersIn
-    seen-wanted h = rw (← e, f, ← g, h)
+    seen-answers h = rw (← e, f, ← g, h)
 
-    pub seen-unwanted : q ≡ false → Neither ≡ seenIn tb row d c r
+    pub seen-no-answer : q ≡ false → Neither ≡ seenIn tb row d c r
     unfolding seenIn offersIn
-    seen-unwanted h = rw (← e, f, ← g, h) (caseB (meets? (actOf tb r) (opposite d)) (λ y. rw y) (λ y. rw y))
+    seen-no-answer h = rw (← e, f, ← g, h) (caseB (meets? (actOf tb r) (opposite d)) (λ y. rw y) (λ y. rw y))
 
   -- it is not; whether it is one of the other direction is k
   module _ (f : m ≡ false) (o : Direction) (w : o ≡ opposite d) (k : Bool) (p : k ≡ meets? (actOf tb r) o) where
@@ -76,13 +76,13 @@ module _ (tb : Table) (row : List ℕ) (d : Direction) (c r : ℕ) (m : Bool) (e
     seen-other h = rw (← e, f, ← w, ← p, h)
 
     module _ (h : k ≡ true) (q : Bool) (g : q ≡ Offered tb row c r) where
-      pub seen-opposed : q ≡ true → Opposed ≡ seenIn tb row d c r
+      pub seen-competing : q ≡ true → Competes ≡ seenIn tb row d c r
       unfolding seenIn offersIn
-      seen-opposed i = rw (← e, f, ← w, ← p, h, ← g, i)
+      seen-competing i = rw (← e, f, ← w, ← p, h, ← g, i)
 
-      pub seen-unopposed : q ≡ false → Neither ≡ seenIn tb row d c r
+      pub seen-not-competing : q ≡ false → Neither ≡ seenIn tb row d c r
       unfolding seenIn offersIn
-      seen-unopposed i = rw (← e, f, ← w, ← p, h, ← g, i)
+      seen-not-competing i = rw (← e, f, ← w, ← p, h, ← g, i)
 
 -- ---- how many branches are tried, and from which row on
 
@@ -95,21 +95,6 @@ module _ (tb : Table) (b n k : ℕ) (e : k ≡ at tb (b + n) 1) (f : b ≡ nodeR
   pub count-none : (k ≡ 1 → ⊥) → 0 ≡ branchCount tb n
   unfolding branchCount
   count-none g = rw (← f, ← e, ne-eqb k 1 g)
-
-module _ (tb : Table) (s : State) (t u w : ℕ) (e : w ≡ at (s .threads) u 0) where
-  pub tried-idle : (w ≡ 2 → ⊥) → 0 ≡ tried tb s t u
-  unfolding tried
-  tried-idle g = rw (← e, ne-eqb w 2 g) (caseB (eqb u t) (λ a. rw a) (λ a. rw a))
-
-  pub tried-own : u ≡ t → 0 ≡ tried tb s t u
-  unfolding tried
-  tried-own f = rw (eq-eqb u t f)
-
-  pub tried-waiting : (n r : ℕ) → (u ≡ t → ⊥) → w ≡ 2 → n ≡ at (s .threads) u 1 → r ≡ branchCount tb n → r ≡ tried tb s t u
-  unfolding tried
-  tried-waiting n r f g h i = rw (ne-eqb u t f, ← e, g, i, h)
-
-pub ruleset tries = (tried-own, tried-waiting, tried-idle)
 
 module _ (tb : Table) (s : State) (u n : ℕ) where
   pub row-void : n ≡ 0 → 0 ≡ firstRow tb s u n

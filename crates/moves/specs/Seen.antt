@@ -1,4 +1,4 @@
--- What a branch is to a search for an offer of d on channel c.
+-- What a branch is to a search for an offer of d on channel c: it answers, it competes (it offers what the asker itself offers), or neither.
 use Prim.Native.Nat.{ℕ}
 use mathlib.Core.Bool.{cond}
 use mathlib.Core.List.{List}
@@ -7,7 +7,7 @@ use Rattle.rules.specs.Program.{opposite}
 use Rattle.rules.specs.Offers.{offersIn}
 use Rattle.rules.specs.declared.Direction.{Direction}
 use Rattle.moves.specs.declared.Seen.{Seen}
-use Rattle.moves.specs.declared.Seen.the-variants.{Wanted, Opposed, Neither}
+use Rattle.moves.specs.declared.Seen.the-variants.{Answers, Competes, Neither}
 
 unfoldable pub seenIn : Table → List ℕ → Direction → ℕ → ℕ → Seen
-seenIn tb row d c r = cond (offersIn tb row d c r) Wanted (cond (offersIn tb row (opposite d) c r) Opposed Neither)
+seenIn tb row d c r = cond (offersIn tb row d c r) Answers (cond (offersIn tb row (opposite d) c r) Competes Neither)

@@ -1,20 +1,23 @@
--- The search for a partner as the loops make it: how many branches of a thread are tried, and from which row on. Only the proof of the loops
--- uses these; `answers-tried` and `row-tried` carry them back to the rules' own definitions. Assumes nothing.
-use Prim.Native.Nat.{ℕ, _+_, _<_}
+-- The search for a partner as the loops make it: how many branches of a thread are tried, and from which row on. Only the proofs of the loops,
+-- here and for the bench, use these; `answers-tried` and `row-tried` carry them back to the rules' own definitions. Assumes nothing.
+use Prim.Native.Nat.{ℕ, _+_, _<_, _≤_}
 use native.Mathlib.Omega.{arith}
-use mathlib.Core.Path.{_≡_}
-use mathlib.Core.Bool.{Bool, false, cond}
+use mathlib.Core.Path.{_≡_, refl, sym, _∙_}
+use mathlib.Core.Bool.{Bool, true, false, cond}
 use lib.Dec.{ltb, eqb}
-use borrow.Author.Tests.{lt-ltb, ne-eqb}
-use Rattle.numbers.specs.Search.{some}
-use Rattle.numbers.specs.Search.Laws.{caseB, first-none}
+use borrow.Author.Tests.{lt-ltb, le-ltb, eq-eqb, ne-eqb}
+use Rattle.numbers.specs.Rows.{at}
+use Rattle.numbers.specs.Search.{first, some}
+use Rattle.numbers.specs.Search.Laws.{caseB, first-none, first-more, first-hit, first-void, some-intro}
 use Rattle.table.specs.Table.{Table, branchRow}
 use Rattle.table.specs.Layout.{branchCount, start}
 use Rattle.table.specs.declared.Part.the-variants.{Branches}
-use Rattle.state.specs.State.{State, maxChannels, thread, standsAt, isWaiting}
+use Rattle.state.specs.State.{State, maxThreads, maxChannels, thread, standsAt, isWaiting}
 use Rattle.rules.specs.Program.{branchAt}
-use Rattle.rules.specs.Offers.{offersAt, offers, answers}
+use Rattle.rules.specs.Offers.{offersAt, offeringBranch, offers, answers, partnerOf}
 use Rattle.rules.specs.declared.Direction.{Direction}
+use Rattle.rules.specs.declared.Partner.the-variants.{Nobody, At}
+use Rattle.moves.specs.Partners.{none-answers, one-answers}
 
 -- the threads whose branches are tried
 unfoldable pub isWaitingThread : State → ℕ → Bool
@@ -56,3 +59,56 @@ module _ (tb : Table) (s : State) where
       caseB (eqb u t)
       (λ e. absurd (let z : i < 0 = rw e at l in omega arith))
       (λ e. rw e (caseB (isWaiting (thread s u)) (λ w. rw w) (λ w. absurd (let z : i < 0 = rw (e, w) at l in omega arith))))
+
+-- the word of thread u's status was read
+module _ (tb : Table) (s : State) (t u w : ℕ) (e : w ≡ at (s .threads) u 0) where
+  pub tried-idle : (w ≡ 2 → ⊥) → 0 ≡ tried tb s t u
+  unfolding tried
+  tried-idle g = rw (← e, ne-eqb w 2 g) (caseB (eqb u t) (λ a. rw a) (λ a. rw a))
+
+  pub tried-waiting : (n r : ℕ) → (u ≡ t → ⊥) → w ≡ 2 → n ≡ at (s .threads) u 1 → r ≡ branchCount tb n → r ≡ tried tb s t u
+  unfolding tried
+  tried-waiting n r f g h i = rw (ne-eqb u t f, ← e, g, i, h)
+
+  pub tried-own : u ≡ t → 0 ≡ tried tb s t u
+  unfolding tried
+  tried-own f = rw (eq-eqb u t f)
+
+pub ruleset tries = (tried-own, tried-waiting, tried-idle)
+
+-- ---- what the loops have shown at each place
+
+module _ (tb : Table) (s : State) (t : ℕ) (d : Direction) (c : ℕ) where
+  -- what is no channel has no partner
+  pub no-channel : 128 ≤ c → Nobody ≡ partnerOf tb s t d c
+  unfolding answers offers
+  no-channel h =
+      none-answers tb s t d c (first-void (answers tb s t d c) maxThreads (λ u l. rw (le-ltb c 128 h) (caseB (eqb u t) (λ e. rw e) (λ e. rw e))))
+
+  -- n branches of thread u are tried, and none below i offers
+  module _ (u n i : ℕ) (b : n ≡ tried tb s t u) (g : first (offersAt tb (thread s u) d c) i ≡ i) where
+    -- all were tried
+    module _ (h : n ≤ i) (j : i ≤ n) (l : c < 128) where
+      pub silent : answers tb s t d c u ≡ false
+      unfolding some
+      silent =
+          let w : i ≡ n = omega arith in
+          let all : first (offersAt tb (thread s u) d c) n ≡ n = rw w at g in
+          rw (answers-tried tb s t d c u l, ← b, all) (le-ltb n n (omega arith))
+
+      pub thread-passed : first (answers tb s t d c) u ≡ u → first (answers tb s t d c) (u + 1) ≡ u + 1
+      thread-passed past = first-more (answers tb s t d c) u (answers tb s t d c u) past refl silent
+
+    -- branch i offers
+    module _ (x : Bool) (o : x ≡ offersAt tb (thread s u) d c i) (y : x ≡ true) (h : i < n) (l : c < 128) where
+      answered : answers tb s t d c u ≡ true
+      answered = rw (answers-tried tb s t d c u l, ← b) (some-intro (offersAt tb (thread s u) d c) n i h (sym o ∙ y))
+
+      branch-is : offeringBranch tb (thread s u) d c ≡ i
+      unfolding offeringBranch
+      branch-is =
+          let w : n ≡ branchCount tb (standsAt (thread s u)) = b ∙ tried-all tb s t u i (rw (← b) h) in
+          rw (← w) (sym (first-hit (offersAt tb (thread s u) d c) i n x g o y h))
+
+      pub found-at : first (answers tb s t d c) u ≡ u → u < maxThreads → At u i ≡ partnerOf tb s t d c
+      found-at past m = rw (← branch-is) (one-answers tb s t d c u past answered m)

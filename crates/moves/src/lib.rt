@@ -56,10 +56,10 @@ pub fn is_offered(
     program::guard_holds(table, index, row, state, u)
 }
 
-// What a branch is to a search for an offer: what is looked for, an offer of the other direction on the channel, or neither.
+// What a branch is to a search for an offer: it offers what is looked for, it offers what the asker itself offers on the channel, or neither.
 enum Seen {
-    Wanted,
-    Opposed,
+    Answers,
+    Competes,
     Neither,
 }
 
@@ -78,13 +78,13 @@ fn seen_in(
 {
     if is_meeting(table, index, row, d) {
         if is_offered(table, index, row, state, u, c) {
-            return Seen::Wanted;
+            return Seen::Answers;
         }
         return Seen::Neither;
     }
     if is_meeting(table, index, row, program::opposite_of(d)) {
         if is_offered(table, index, row, state, u, c) {
-            return Seen::Opposed;
+            return Seen::Competes;
         }
     }
     Seen::Neither
@@ -197,7 +197,7 @@ fn next_waiting(state: &[u32; state::WORDS], from: u32, limit: u32) -> u32
 }
 
 // The first waiting thread other than t that offers d on channel c, and the first of its branches that does. No row from top on is in use.
-// Where a thread offers the other direction on c nobody but itself may offer d, and the search ends with its branches.
+// Where a thread competes, that is, offers t's own direction on c, no other thread offers d, and the search ends with its branches.
 fn find_partner(
     table: &[u8],
     index: &[u32],
@@ -222,18 +222,18 @@ fn find_partner(
     'threads: while u < limit {
         let n = branches_tried(table, index, nodes, state, t, u);
         let from = first_row(table, index, nodes, state, u, n);
-        let mut opposed = false;
+        let mut competes = false;
         for i in 0..n {
             match seen_in(table, index, from + i as usize, state, u, d, c) {
-                Seen::Wanted => {
+                Seen::Answers => {
                     found = Partner::At(u, i);
                     break 'threads;
                 }
-                Seen::Opposed => opposed = true,
+                Seen::Competes => competes = true,
                 Seen::Neither => {}
             }
         }
-        if opposed {
+        if competes {
             break 'threads;
         }
         u = next_waiting(state, u + 1, limit);

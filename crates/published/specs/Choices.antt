@@ -3,7 +3,7 @@
 use Prim.Native.Nat.{ℕ}
 use mathlib.Core.Path.{_≡_, refl, sym, _∙_}
 use mathlib.Core.Logic.{_⊎_, inl, inr}
-use mathlib.Core.Bool.{true, false}
+use mathlib.Core.Bool.{Bool, true, false}
 use mathlib.Core.List.{List, [], _∷_, _++_, map}
 use mathlib.Core.Option.{some}
 use Rattle.numbers.specs.Search.Laws.{contra}
@@ -13,7 +13,22 @@ use Rattle.published.specs.Rules.{Acts, step, new, spawn, next, call, in
 
 -- ---- what a reduction of the first thread, with Γ and δ, comes to
 
-module _ (def : ℕ → Process) (Δ : Channels) (Γ : List Commitment) (δ : Env) (B : List Thread) where
+-- whether it is (out) or (in), behind branches whose guards are false (next) or not: then the thread has one commitment more, and goes on to the branches behind.
+-- Every other reduction is an action
+unfoldable pub commits : (def : ℕ → Process) {A T : Agent} → Acts def Nothing A T → Bool
+commits def (step g) = false
+commits def (new ĉ g f) = false
+commits def (spawn g) = false
+commits def (next g r) = commits def r
+commits def (call ws e) = false
+commits def inert = false
+commits def (send ĉ x w g c i v) = false
+commits def (out ĉ g c f) = true
+commits def (recv ĉ v w g c i e) = false
+commits def (inn ĉ g c f) = true
+commits def (more m) = false
+
+module _ (Δ : Channels) (δ : Env) where
   -- (send): with the neighbour, by one of its commitments
   unfoldable pub Sends : List Thread → ℕ → ℕ → Process → Agent → Type 0
   Sends [] c v P T = ⊥
@@ -28,154 +43,205 @@ module _ (def : ℕ → Process) (Δ : Channels) (Γ : List Commitment) (δ : En
       (ĉ : ℕ) × (v : ℕ) × (R : Process) × (w : Value) × (look δ c ≡ some (channel ĉ)) × (gives ĉ v R ∈ u .commitments) × (look (u .env) v ≡ some w)
       × (T ≡ agent Δ (thread [] (bind δ x w) P ∷ thread [] (u .env) R ∷ C))
 
-  -- (out) and (in)
-  unfoldable pub Commits-out : ℕ → ℕ → Process → Sum → Agent → Type 0
-  Commits-out c v P Q T =
+  -- the action of a prefix whose guard is true
+  unfoldable pub ByAction : List Thread → Prefix → Process → Agent → Type 0
+  ByAction B tau P T = T ≡ agent Δ (thread [] δ P ∷ B)
+  ByAction B (output c v) P T = Sends B c v P T
+  ByAction B (input c x) P T = Receives B c x P T
+  ByAction B (newChannel c) P T = (ĉ : ℕ) × (Δ ĉ ≡ false) × (T ≡ agent (adding Δ ĉ) (thread [] (bind δ c (channel ĉ)) P ∷ B))
+  ByAction B (newThread R) P T = T ≡ agent Δ (thread [] δ R ∷ thread [] δ P ∷ B)
+  ByAction B (assign x e) P T = ⊥
+
+module _ (Δ : Channels) (Γ : List Commitment) (δ : Env) (B : List Thread) where
+  -- (out) and (in), where the branches Q are behind the prefix
+  unfoldable pub ByCommitment : Prefix → Process → Sum → Agent → Type 0
+  ByCommitment tau P Q T = ⊥
+  ByCommitment (output c v) P Q T =
       (ĉ : ℕ) × (look δ c ≡ some (channel ĉ)) × ((t : Thread) → t ∈ B → (x : ℕ) (S : Process) → takes ĉ x S ∈ t .commitments → ⊥)
       × (T ≡ agent Δ (thread (Γ ++ (gives ĉ v P ∷ [])) δ (choice (andWait Q)) ∷ B))
-
-  unfoldable pub Commits-in : ℕ → ℕ → Process → Sum → Agent → Type 0
-  Commits-in c x P Q T =
+  ByCommitment (input c x) P Q T =
       (ĉ : ℕ) × (look δ c ≡ some (channel ĉ)) × ((t : Thread) → t ∈ B → (v : ℕ) (S : Process) → gives ĉ v S ∈ t .commitments → ⊥)
       × (T ≡ agent Δ (thread (Γ ++ (takes ĉ x P ∷ [])) δ (choice (andWait Q)) ∷ B))
+  ByCommitment (newChannel c) P Q T = ⊥
+  ByCommitment (newThread R) P Q T = ⊥
+  ByCommitment (assign x e) P Q T = ⊥
 
-  -- by a prefix whose guard is true
-  unfoldable pub ByPrefix : Prefix → Process → Sum → Agent → Type 0
-  ByPrefix tau P Q T = T ≡ agent Δ (thread [] δ P ∷ B)
-  ByPrefix (output c v) P Q T = Sends B c v P T ⊎ Commits-out c v P Q T
-  ByPrefix (input c x) P Q T = Receives B c x P T ⊎ Commits-in c x P Q T
-  ByPrefix (newChannel c) P Q T = (ĉ : ℕ) × (Δ ĉ ≡ false) × (T ≡ agent (adding Δ ĉ) (thread [] (bind δ c (channel ĉ)) P ∷ B))
-  ByPrefix (newThread R) P Q T = T ≡ agent Δ (thread [] δ R ∷ thread [] δ P ∷ B)
-  ByPrefix (assign x e) P Q T = ⊥
+  -- by a prefix whose guard is true: its action or, where k is true, its commitment
+  unfoldable pub ByPrefix : Bool → Prefix → Process → Sum → Agent → Type 0
+  ByPrefix false α P Q T = ByAction Δ δ B α P T
+  ByPrefix true α P Q T = ByCommitment α P Q T
 
   -- by a sum: its first branch if the guard is true, else one behind it; a wait does nothing
-  unfoldable pub BySum : Sum → Agent → Type 0
-  BySum nothing T = ⊥
-  BySum (branch g α P Q) T = ((holds δ g ≡ false) × BySum Q T) ⊎ ((holds δ g ≡ true) × ByPrefix α P Q T)
-  BySum (wait Q) T = ⊥
+  unfoldable pub BySum : Bool → Sum → Agent → Type 0
+  BySum k nothing T = ⊥
+  BySum k (branch g α P Q) T = ((holds δ g ≡ false) × BySum k Q T) ⊎ ((holds δ g ≡ true) × ByPrefix k α P Q T)
+  BySum k (wait Q) T = ⊥
 
-  unfoldable pub ByProcess : Process → Agent → Type 0
-  ByProcess end T = T ≡ agent Δ B
-  ByProcess (choice Q) T = BySum Q T
-  ByProcess (invoke D vs) T = (ws : List Value) × (map (look δ) vs ≡ map some ws) × (T ≡ agent Δ (thread [] (map some ws) (def D) ∷ B))
+  unfoldable pub ByProcess : (ℕ → Process) → Bool → Process → Agent → Type 0
+  ByProcess def k (choice Q) T = BySum k Q T
+  ByProcess def false end T = T ≡ agent Δ B
+  ByProcess def true end T = ⊥
+  ByProcess def false (invoke D vs) T = (ws : List Value) × (map (look δ) vs ≡ map some ws) × (T ≡ agent Δ (thread [] (map some ws) (def D) ∷ B))
+  ByProcess def true (invoke D vs) T = ⊥
 
 -- of an agent: of its first thread
-unfoldable pub Of : (ℕ → Process) → Channels → List Thread → Agent → Type 0
-Of def Δ [] T = ⊥
-Of def Δ (t ∷ B) T = ByProcess def Δ (t .commitments) (t .env) B (t .process) T
+unfoldable pub Of : (ℕ → Process) → Channels → List Thread → Bool → Agent → Type 0
+Of def Δ [] k T = ⊥
+Of def Δ (t ∷ B) k T = ByProcess Δ (t .commitments) (t .env) B def k (t .process) T
 
 -- every reduction of the first thread is one of these
-pub acts-of : (def : ℕ → Process) {A T : Agent} → Acts def Nothing A T → Of def (A .channels) (A .threads) T
-unfolding Of ByProcess BySum ByPrefix Sends Receives Commits-out Commits-in Nothing
+pub acts-of : (def : ℕ → Process) {A T : Agent} (r : Acts def Nothing A T) → Of def (A .channels) (A .threads) (commits def r) T
+unfolding Of ByProcess BySum ByPrefix ByAction ByCommitment Sends Receives Nothing commits
 acts-of def (step g) = inr (g, refl)
 acts-of def (new ĉ g f) = inr (g, (ĉ, f, refl))
 acts-of def (spawn g) = inr (g, refl)
 acts-of def (next g r) = inl (g, acts-of def r)
 acts-of def (call ws e) = (ws, e, refl)
 acts-of def inert = refl
-acts-of def (send {R = R} ĉ x w g c i v) = inr (g, inl (ĉ, x, R, w, c, i, v, refl))
-acts-of def (out ĉ g c f) = inr (g, inr (ĉ, c, f, refl))
-acts-of def (recv {R = R} ĉ v w g c i e) = inr (g, inl (ĉ, v, R, w, c, i, e, refl))
-acts-of def (inn ĉ g c f) = inr (g, inr (ĉ, c, f, refl))
+acts-of def (send {R = R} ĉ x w g c i v) = inr (g, (ĉ, x, R, w, c, i, v, refl))
+acts-of def (out ĉ g c f) = inr (g, (ĉ, c, f, refl))
+acts-of def (recv {R = R} ĉ v w g c i e) = inr (g, (ĉ, v, R, w, c, i, e, refl))
+acts-of def (inn ĉ g c f) = inr (g, (ĉ, c, f, refl))
 acts-of def (more m) = absurd m
 
 -- ---- two of them
 
--- what two reductions from one agent may differ in
-pub data Alike : Agent → Agent → Type 0 where
+-- what two reductions of the first thread from the agent A may differ in
+pub data Alike (A : Agent) : Agent → Agent → Type 0 where
   -- nothing
-  same-end : {T T′ : Agent} → T ≡ T′ → Alike T T′
-  -- the name of a new channel
-  other-name : {T T′ : Agent} (Δ : Channels) (δ : Env) (c : ℕ) (P : Process) (B : List Thread) (ĉ ĉ′ : ℕ)
-      → T ≡ agent (adding Δ ĉ) (thread [] (bind δ c (channel ĉ)) P ∷ B) → T′ ≡ agent (adding Δ ĉ′) (thread [] (bind δ c (channel ĉ′)) P ∷ B) → Alike T T′
-  -- the commitment of the neighbour u on one channel: an input of it by (send), an output of it by (recv)
-  other-input : {T T′ : Agent} (u : Thread) (ĉ x x′ : ℕ) (R R′ : Process) → takes ĉ x R ∈ u .commitments → takes ĉ x′ R′ ∈ u .commitments → Alike T T′
-  other-output : {T T′ : Agent} (u : Thread) (ĉ v v′ : ℕ) (R R′ : Process) → gives ĉ v R ∈ u .commitments → gives ĉ v′ R′ ∈ u .commitments → Alike T T′
+  same-end : {T T′ : Agent} → T ≡ T′ → Alike A T T′
+  -- (new): the name of the channel, which is a new one
+  other-name : {T T′ : Agent} (t : Thread) (B : List Thread) (c : ℕ) (P : Process) (ĉ ĉ′ : ℕ) → A .threads ≡ t ∷ B
+      → A .channels ĉ ≡ false → A .channels ĉ′ ≡ false
+      → T ≡ agent (adding (A .channels) ĉ) (thread [] (bind (t .env) c (channel ĉ)) P ∷ B)
+      → T′ ≡ agent (adding (A .channels) ĉ′) (thread [] (bind (t .env) c (channel ĉ′)) P ∷ B) → Alike A T T′
+  -- (send): which input of the neighbour u on the channel is met. The value w that is given is the same
+  other-input : {T T′ : Agent} (t u : Thread) (C : List Thread) (P : Process) (ĉ x x′ : ℕ) (R R′ : Process) (w : Value) → A .threads ≡ t ∷ u ∷ C
+      → takes ĉ x R ∈ u .commitments → takes ĉ x′ R′ ∈ u .commitments
+      → T ≡ agent (A .channels) (thread [] (t .env) P ∷ thread [] (bind (u .env) x w) R ∷ C)
+      → T′ ≡ agent (A .channels) (thread [] (t .env) P ∷ thread [] (bind (u .env) x′ w) R′ ∷ C) → Alike A T T′
+  -- (recv): which output of the neighbour u on the channel is met, and so what is received
+  other-output : {T T′ : Agent} (t u : Thread) (C : List Thread) (P : Process) (ĉ x v v′ : ℕ) (R R′ : Process) (w w′ : Value) → A .threads ≡ t ∷ u ∷ C
+      → gives ĉ v R ∈ u .commitments → gives ĉ v′ R′ ∈ u .commitments → look (u .env) v ≡ some w → look (u .env) v′ ≡ some w′
+      → T ≡ agent (A .channels) (thread [] (bind (t .env) x w) P ∷ thread [] (u .env) R ∷ C)
+      → T′ ≡ agent (A .channels) (thread [] (bind (t .env) x w′) P ∷ thread [] (u .env) R′ ∷ C) → Alike A T T′
 
-same-channel : (δ : Env) (c ĉ ĉ′ : ℕ) → look δ c ≡ some (channel ĉ) → look δ c ≡ some (channel ĉ′) → ĉ ≡ ĉ′
+pub same-channel : (δ : Env) (c ĉ ĉ′ : ℕ) → look δ c ≡ some (channel ĉ) → look δ c ≡ some (channel ĉ′) → ĉ ≡ ĉ′
 same-channel δ c ĉ ĉ′ e f = let q : some (channel ĉ) ≡ some (channel ĉ′) = sym e ∙ f in cc
 
-module _ (def : ℕ → Process) (Δ : Channels) (Γ : List Commitment) (δ : Env) (B : List Thread) where
-  sends-alike : (C : List Thread) (c v : ℕ) (P : Process) (T T′ : Agent) → Sends def Δ Γ δ B C c v P T → Sends def Δ Γ δ B C c v P T′ → Alike T T′
+same-value : (δ : Env) (v : ℕ) (w w′ : Value) → look δ v ≡ some w → look δ v ≡ some w′ → w ≡ w′
+same-value δ v w w′ e f = let q : some w ≡ some w′ = sym e ∙ f in cc
+
+module _ (Δ : Channels) (Γ : List Commitment) (δ : Env) (S : Process) where
+  -- the agent before
+  abbrev before : List Thread → Agent
+  before B = agent Δ (thread Γ δ S ∷ B)
+
+  sends-alike : (B : List Thread) (c v : ℕ) (P : Process) (T T′ : Agent) → Sends Δ δ B c v P T → Sends Δ δ B c v P T′ → Alike (before B) T T′
   unfolding Sends
   sends-alike [] c v P T T′ s s′ = absurd s
   sends-alike (u ∷ C) c v P T T′ (ĉ, x, R, w, e, i, f, q) (ĉ′, x′, R′, w′, e′, i′, f′, q′) =
-      let z : ĉ′ ≡ ĉ = same-channel δ c ĉ′ ĉ e′ e in other-input u ĉ x x′ R R′ i (rw z at i′)
+      let z : ĉ′ ≡ ĉ = same-channel δ c ĉ′ ĉ e′ e in
+      let y : w′ ≡ w = same-value δ v w′ w f′ f in
+      other-input (thread Γ δ S) u C P ĉ x x′ R R′ w refl i (rw z at i′) q (rw y at q′)
 
-  receives-alike : (C : List Thread) (c x : ℕ) (P : Process) (T T′ : Agent) → Receives def Δ Γ δ B C c x P T → Receives def Δ Γ δ B C c x P T′ → Alike T T′
+  receives-alike : (B : List Thread) (c x : ℕ) (P : Process) (T T′ : Agent) → Receives Δ δ B c x P T → Receives Δ δ B c x P T′ → Alike (before B) T T′
   unfolding Receives
   receives-alike [] c x P T T′ s s′ = absurd s
   receives-alike (u ∷ C) c x P T T′ (ĉ, v, R, w, e, i, f, q) (ĉ′, v′, R′, w′, e′, i′, f′, q′) =
-      let z : ĉ′ ≡ ĉ = same-channel δ c ĉ′ ĉ e′ e in other-output u ĉ v v′ R R′ i (rw z at i′)
+      let z : ĉ′ ≡ ĉ = same-channel δ c ĉ′ ĉ e′ e in
+      other-output (thread Γ δ S) u C P ĉ x v v′ R R′ w w′ refl i (rw z at i′) f f′ q q′
+
+  module _ (B : List Thread) where
+    action-alike : (α : Prefix) (P : Process) (T T′ : Agent) → ByAction Δ δ B α P T → ByAction Δ δ B α P T′ → Alike (before B) T T′
+    unfolding ByAction
+    action-alike tau P T T′ e e′ = same-end (e ∙ sym e′)
+    action-alike (output c v) P T T′ s s′ = sends-alike B c v P T T′ s s′
+    action-alike (input c x) P T T′ s s′ = receives-alike B c x P T T′ s s′
+    action-alike (newChannel c) P T T′ (ĉ, f, e) (ĉ′, f′, e′) = other-name (thread Γ δ S) B c P ĉ ĉ′ refl f f′ e e′
+    action-alike (newThread R) P T T′ e e′ = same-end (e ∙ sym e′)
+    action-alike (assign x e) P T T′ a a′ = absurd a
+
+    commitment-same : (α : Prefix) (P : Process) (Q : Sum) (T T′ : Agent) → ByCommitment Δ Γ δ B α P Q T → ByCommitment Δ Γ δ B α P Q T′ → T ≡ T′
+    unfolding ByCommitment
+    commitment-same tau P Q T T′ a a′ = absurd a
+    commitment-same (output c v) P Q T T′ (ĉ, e, f, q) (ĉ′, e′, f′, q′) = let z : ĉ ≡ ĉ′ = same-channel δ c ĉ ĉ′ e e′ in (rw z at q) ∙ sym q′
+    commitment-same (input c x) P Q T T′ (ĉ, e, f, q) (ĉ′, e′, f′, q′) = let z : ĉ ≡ ĉ′ = same-channel δ c ĉ ĉ′ e e′ in (rw z at q) ∙ sym q′
+    commitment-same (newChannel c) P Q T T′ a a′ = absurd a
+    commitment-same (newThread R) P Q T T′ a a′ = absurd a
+    commitment-same (assign x e) P Q T T′ a a′ = absurd a
 
   -- a neighbour that is met has a commitment, so that nothing is committed to instead
-  sends-only : (C : List Thread) (c v ĉ′ : ℕ) (P : Process) (T T′ : Agent) → Sends def Δ Γ δ B C c v P T → look δ c ≡ some (channel ĉ′)
-      → ((t : Thread) → t ∈ C → (x : ℕ) (S : Process) → takes ĉ′ x S ∈ t .commitments → ⊥) → Alike T T′
+  sends-only : (B : List Thread) (c v ĉ′ : ℕ) (P : Process) (T : Agent) → Sends Δ δ B c v P T → look δ c ≡ some (channel ĉ′)
+      → ((t : Thread) → t ∈ B → (x : ℕ) (S : Process) → takes ĉ′ x S ∈ t .commitments → ⊥) → ⊥
   unfolding Sends
-  sends-only [] c v ĉ′ P T T′ s e′ f = absurd s
-  sends-only (u ∷ C) c v ĉ′ P T T′ (ĉ, x, R, w, e, i, g, q) e′ f =
-      let z : ĉ ≡ ĉ′ = same-channel δ c ĉ ĉ′ e e′ in absurd (f u (inl refl) x R (rw z at i))
+  sends-only [] c v ĉ′ P T s e′ f = s
+  sends-only (u ∷ C) c v ĉ′ P T (ĉ, x, R, w, e, i, g, q) e′ f = let z : ĉ ≡ ĉ′ = same-channel δ c ĉ ĉ′ e e′ in f u (inl refl) x R (rw z at i)
 
-  receives-only : (C : List Thread) (c x ĉ′ : ℕ) (P : Process) (T T′ : Agent) → Receives def Δ Γ δ B C c x P T → look δ c ≡ some (channel ĉ′)
-      → ((t : Thread) → t ∈ C → (v : ℕ) (S : Process) → gives ĉ′ v S ∈ t .commitments → ⊥) → Alike T T′
+  receives-only : (B : List Thread) (c x ĉ′ : ℕ) (P : Process) (T : Agent) → Receives Δ δ B c x P T → look δ c ≡ some (channel ĉ′)
+      → ((t : Thread) → t ∈ B → (v : ℕ) (S : Process) → gives ĉ′ v S ∈ t .commitments → ⊥) → ⊥
   unfolding Receives
-  receives-only [] c x ĉ′ P T T′ s e′ f = absurd s
-  receives-only (u ∷ C) c x ĉ′ P T T′ (ĉ, v, R, w, e, i, g, q) e′ f =
-      let z : ĉ ≡ ĉ′ = same-channel δ c ĉ ĉ′ e e′ in absurd (f u (inl refl) v R (rw z at i))
+  receives-only [] c x ĉ′ P T s e′ f = s
+  receives-only (u ∷ C) c x ĉ′ P T (ĉ, v, R, w, e, i, g, q) e′ f = let z : ĉ ≡ ĉ′ = same-channel δ c ĉ ĉ′ e e′ in f u (inl refl) v R (rw z at i)
 
-  swapped : {T T′ : Agent} → Alike T T′ → Alike T′ T
-  swapped (same-end e) = same-end (sym e)
-  swapped (other-name Δ δ c P B ĉ ĉ′ e f) = other-name Δ δ c P B ĉ′ ĉ f e
-  swapped (other-input u ĉ x x′ R R′ i i′) = other-input u ĉ x′ x R′ R i′ i
-  swapped (other-output u ĉ v v′ R R′ i i′) = other-output u ĉ v′ v R′ R i′ i
+  module _ (B : List Thread) where
+    pub not-both : (α : Prefix) (P : Process) (Q : Sum) (T T′ : Agent) → ByAction Δ δ B α P T → ByCommitment Δ Γ δ B α P Q T′ → ⊥
+    unfolding ByAction ByCommitment
+    not-both tau P Q T T′ a k = k
+    not-both (output c v) P Q T T′ a (ĉ, e, f, q) = sends-only B c v ĉ P T a e f
+    not-both (input c x) P Q T T′ a (ĉ, e, f, q) = receives-only B c x ĉ P T a e f
+    not-both (newChannel c) P Q T T′ a k = k
+    not-both (newThread R) P Q T T′ a k = k
+    not-both (assign x e) P Q T T′ a k = k
 
-  prefix-alike : (α : Prefix) (P : Process) (Q : Sum) (T T′ : Agent) → ByPrefix def Δ Γ δ B α P Q T → ByPrefix def Δ Γ δ B α P Q T′ → Alike T T′
-  unfolding ByPrefix Commits-out Commits-in
-  prefix-alike tau P Q T T′ e e′ = same-end (e ∙ sym e′)
-  prefix-alike (output c v) P Q T T′ (inl s) (inl s′) = sends-alike B c v P T T′ s s′
-  prefix-alike (output c v) P Q T T′ (inl s) (inr (ĉ, e, f, q)) = sends-only B c v ĉ P T T′ s e f
-  prefix-alike (output c v) P Q T T′ (inr (ĉ, e, f, q)) (inl s) = swapped (sends-only B c v ĉ P T′ T s e f)
-  prefix-alike (output c v) P Q T T′ (inr (ĉ, e, f, q)) (inr (ĉ′, e′, f′, q′)) = let z : ĉ ≡ ĉ′ = same-channel δ c ĉ ĉ′ e e′ in same-end ((rw z at q) ∙ sym q′)
-  prefix-alike (input c x) P Q T T′ (inl s) (inl s′) = receives-alike B c x P T T′ s s′
-  prefix-alike (input c x) P Q T T′ (inl s) (inr (ĉ, e, f, q)) = receives-only B c x ĉ P T T′ s e f
-  prefix-alike (input c x) P Q T T′ (inr (ĉ, e, f, q)) (inl s) = swapped (receives-only B c x ĉ P T′ T s e f)
-  prefix-alike (input c x) P Q T T′ (inr (ĉ, e, f, q)) (inr (ĉ′, e′, f′, q′)) = let z : ĉ ≡ ĉ′ = same-channel δ c ĉ ĉ′ e e′ in same-end ((rw z at q) ∙ sym q′)
-  prefix-alike (newChannel c) P Q T T′ (ĉ, f, e) (ĉ′, f′, e′) = other-name Δ δ c P B ĉ ĉ′ e e′
-  prefix-alike (newThread R) P Q T T′ e e′ = same-end (e ∙ sym e′)
-  prefix-alike (assign x e) P Q T T′ a b = absurd a
+    prefix-alike : (k k′ : Bool) (α : Prefix) (P : Process) (Q : Sum) (T T′ : Agent) → ByPrefix Δ Γ δ B k α P Q T → ByPrefix Δ Γ δ B k′ α P Q T′
+        → Alike (before B) T T′
+    unfolding ByPrefix
+    prefix-alike false false α P Q T T′ a a′ = action-alike B α P T T′ a a′
+    prefix-alike false true α P Q T T′ a a′ = absurd (not-both α P Q T T′ a a′)
+    prefix-alike true false α P Q T T′ a a′ = absurd (not-both α P Q T′ T a′ a)
+    prefix-alike true true α P Q T T′ a a′ = same-end (commitment-same B α P Q T T′ a a′)
 
-  sum-alike : (Q : Sum) (T T′ : Agent) → BySum def Δ Γ δ B Q T → BySum def Δ Γ δ B Q T′ → Alike T T′
-  unfolding BySum
-  sum-alike nothing T T′ a b = absurd a
-  sum-alike (branch g α P Q) T T′ (inl (f, a)) (inl (f′, a′)) = sum-alike Q T T′ a a′
-  sum-alike (branch g α P Q) T T′ (inl (f, a)) (inr (f′, a′)) = contra f′ f
-  sum-alike (branch g α P Q) T T′ (inr (f, a)) (inl (f′, a′)) = contra f f′
-  sum-alike (branch g α P Q) T T′ (inr (f, a)) (inr (f′, a′)) = prefix-alike α P Q T T′ a a′
-  sum-alike (wait Q) T T′ a b = absurd a
+    sum-alike : (k k′ : Bool) (Q : Sum) (T T′ : Agent) → BySum Δ Γ δ B k Q T → BySum Δ Γ δ B k′ Q T′ → Alike (before B) T T′
+    unfolding BySum
+    sum-alike k k′ nothing T T′ a b = absurd a
+    sum-alike k k′ (branch g α P Q) T T′ (inl (f, a)) (inl (f′, a′)) = sum-alike k k′ Q T T′ a a′
+    sum-alike k k′ (branch g α P Q) T T′ (inl (f, a)) (inr (f′, a′)) = contra f′ f
+    sum-alike k k′ (branch g α P Q) T T′ (inr (f, a)) (inl (f′, a′)) = contra f f′
+    sum-alike k k′ (branch g α P Q) T T′ (inr (f, a)) (inr (f′, a′)) = prefix-alike k k′ α P Q T T′ a a′
+    sum-alike k k′ (wait Q) T T′ a b = absurd a
 
-  process-alike : (P : Process) (T T′ : Agent) → ByProcess def Δ Γ δ B P T → ByProcess def Δ Γ δ B P T′ → Alike T T′
-  unfolding ByProcess
-  process-alike end T T′ e e′ = same-end (e ∙ sym e′)
-  process-alike (choice Q) T T′ a a′ = sum-alike Q T T′ a a′
-  process-alike (invoke D vs) T T′ (ws, e, q) (ws′, e′, q′) = let z : map some ws ≡ map some ws′ = sym e ∙ e′ in same-end ((rw z at q) ∙ sym q′)
+    process-alike : (def : ℕ → Process) (k k′ : Bool) (P : Process) (T T′ : Agent) → ByProcess Δ Γ δ B def k P T → ByProcess Δ Γ δ B def k′ P T′
+        → Alike (before B) T T′
+    unfolding ByProcess
+    process-alike def k k′ (choice Q) T T′ a a′ = sum-alike k k′ Q T T′ a a′
+    process-alike def false false end T T′ e e′ = same-end (e ∙ sym e′)
+    process-alike def false true end T T′ e e′ = absurd e′
+    process-alike def true k′ end T T′ e e′ = absurd e
+    process-alike def false false (invoke D vs) T T′ (ws, e, q) (ws′, e′, q′) =
+        let z : map some ws ≡ map some ws′ = sym e ∙ e′ in same-end ((rw z at q) ∙ sym q′)
+    process-alike def false true (invoke D vs) T T′ a a′ = absurd a′
+    process-alike def true k′ (invoke D vs) T T′ a a′ = absurd a
 
-of-alike : (def : ℕ → Process) (Δ : Channels) (A : List Thread) (T T′ : Agent) → Of def Δ A T → Of def Δ A T′ → Alike T T′
+of-alike : (def : ℕ → Process) (Δ : Channels) (A : List Thread) (k k′ : Bool) (T T′ : Agent) → Of def Δ A k T → Of def Δ A k′ T′ → Alike (agent Δ A) T T′
 unfolding Of
-of-alike def Δ [] T T′ a a′ = absurd a
-of-alike def Δ (t ∷ B) T T′ a a′ = process-alike def Δ (t .commitments) (t .env) B (t .process) T T′ a a′
+of-alike def Δ [] k k′ T T′ a a′ = absurd a
+of-alike def Δ (t ∷ B) k k′ T T′ a a′ = process-alike Δ (t .commitments) (t .env) (t .process) B def k k′ (t .process) T T′ a a′
 
 -- two reductions of the first thread from one agent end in the same agent, but for the name of a new channel and the commitment that is met
-pub settled-choice : (def : ℕ → Process) {A T T′ : Agent} → Acts def Nothing A T → Acts def Nothing A T′ → Alike T T′
-settled-choice def {A} {T} {T′} r r′ = of-alike def (A .channels) (A .threads) T T′ (acts-of def r) (acts-of def r′)
+pub settled-choice : (def : ℕ → Process) {A T T′ : Agent} → Acts def Nothing A T → Acts def Nothing A T′ → Alike A T T′
+settled-choice def {A} {T} {T′} r r′ =
+    of-alike def (A .channels) (A .threads) (commits def r) (commits def r′) T T′ (acts-of def r) (acts-of def r′)
 
 -- ---- along a turn
 
 -- at each point of it every reduction of the first thread by 002's rules is like the one that is made
 unfoldable pub Forced : (def : ℕ → Process) {A B : Agent} → Run def Nothing A B → Type 0
-Forced def (last {A} {B} r) = (T : Agent) → Acts def Nothing A T → Alike B T
-Forced def (pass {Δ} {t} {t′} {B} {C} r w) = ((T : Agent) → Acts def Nothing (agent Δ (t ∷ B)) T → Alike (agent Δ (t′ ∷ B)) T) × Forced def w
+Forced def (last {A} {B} r) = (T : Agent) → Acts def Nothing A T → Alike A B T
+Forced def (pass {Δ} {t} {t′} {B} {C} r w) =
+    ((T : Agent) → Acts def Nothing (agent Δ (t ∷ B)) T → Alike (agent Δ (t ∷ B)) (agent Δ (t′ ∷ B)) T) × Forced def w
 
--- so of a turn by 002's rules alone nothing could have gone otherwise, but for names of channels and for partners
+-- so of a turn by 002's rules alone nothing could have gone otherwise, but for names of channels and for the commitments that are met
 pub turn-forced : (def : ℕ → Process) {A B : Agent} (w : Run def Nothing A B) → Forced def w
 unfolding Forced
 turn-forced def (last r) = λ T r′. settled-choice def r r′

@@ -1,17 +1,19 @@
--- The rules at work: the first example of 002's section 3.2, and what the published rules alone do with branches whose guards are false. Assumes nothing.
+-- The rules at work: the first example of 002's section 3.2, what they leave open and what they exclude, and what the published rules alone do with branches
+-- whose guards are false. Assumes nothing.
 use Prim.Native.Nat.{ℕ}
 use native.Mathlib.Omega.{arith}
-use mathlib.Core.Path.{_≡_, refl}
+use mathlib.Core.Path.{_≡_, refl, sym, _∙_, ap}
 use mathlib.Core.Logic.{inl, inr, ⊎-elim}
 use mathlib.Core.Bool.{false}
 use mathlib.Core.List.{List, [], _∷_}
-use mathlib.Core.Option.{some}
+use mathlib.Core.Option.{none, some}
 use Rattle.numbers.specs.Search.Laws.{contra}
 use Rattle.published.specs.Syntax.{Guard, always, Process, choice, nothing, branch, wait, Prefix, output, input, andWait, waiting, someWait}
-use Rattle.published.specs.Agents.{_∈_, channel, number, Env, bind, holds, Commitment, gives, takes, Thread, thread, Channels, Agent, agent}
-use Rattle.published.specs.Rules.{swapped, Acts, out, recv, Reduces, acts, exchange, stays, goes, Reaches, Nothing}
+use Rattle.published.specs.Agents.{_∈_, channel, number, Env, look, bind, holds, Commitment, gives, takes, Thread, thread, Channels, Agent, agent, nth}
+use Rattle.published.specs.Rules.{swapped, Acts, send, out, recv, Reduces, acts, exchange, stays, goes, Reaches, Nothing}
 use Rattle.published.specs.Enabling.{Enabled, active}
-use Rattle.published.specs.Choices.{BySum, ByProcess, Of, acts-of}
+use Rattle.published.specs.Bindings.{clash}
+use Rattle.published.specs.Choices.{BySum, ByProcess, Of, acts-of, Alike, same-end, other-name, other-input, other-output, settled-choice}
 
 -- ---- [true] a!v, P + [true] b!w, Q ∥ [true] b?(x), R + [true] a?(y), S, with channels 0 and 1 in the variables 0 and 1 of both
 
@@ -51,6 +53,65 @@ module _ (def : ℕ → Process) (Δ : Channels) (P Q R S : Process) (n m : ℕ)
   pub right-meets : Reduces def Nothing (agent Δ (waiting-left ∷ right-thread ∷ [])) (agent Δ (thread [] left Q ∷ thread [] (bind right 2 (number m)) R ∷ []))
   unfolding holds
   right-meets = exchange swapped (acts (recv 1 3 (number m) refl refl (inr (inl refl)) refl)) swapped
+
+-- ---- [true] a!v, P ∥ [a ⇒ x: R, a ⇒ y: S], with channel 0 in variable 0 of both: two reductions, and an agent that is not like their ends
+
+module _ (def : ℕ → Process) (Δ : Channels) (P R S W : Process) (n : ℕ) where
+  abbrev giver : Env
+  giver = some (channel 0) ∷ some (number n) ∷ []
+
+  abbrev taker : Env
+  taker = some (channel 0) ∷ []
+
+  abbrev taking : Thread
+  taking = thread (takes 0 1 R ∷ takes 0 2 S ∷ []) taker W
+
+  abbrev giving : Agent
+  giving = agent Δ (thread [] giver (choice (branch always (output 0 1) P nothing)) ∷ taking ∷ [])
+
+  -- by the first commitment of the neighbour, and by the second
+  abbrev by-first : Agent
+  by-first = agent Δ (thread [] giver P ∷ thread [] (bind taker 1 (number n)) R ∷ [])
+
+  abbrev by-second : Agent
+  by-second = agent Δ (thread [] giver P ∷ thread [] (bind taker 2 (number n)) S ∷ [])
+
+  meets-first : Acts def Nothing giving by-first
+  unfolding holds
+  meets-first = send 0 1 (number n) refl refl (inl refl) refl
+
+  meets-second : Acts def Nothing giving by-second
+  unfolding holds
+  meets-second = send 0 2 (number n) refl refl (inr (inl refl)) refl
+
+  -- the two ends differ ...
+  pub ends-differ : by-first ≡ by-second → ⊥
+  unfolding bind
+  ends-differ q = clash (let e : none ≡ some (number n) = ap (λ (X : Agent). look (nth (X .threads) 1 .env) 2) q in cc)
+
+  -- ... in no more than the commitment that is met
+  pub ends-alike : Alike giving by-first by-second
+  ends-alike = settled-choice def meets-first meets-second
+
+  -- no reduction lets the first thread go on while its neighbour stays as it is
+  abbrev alone : Agent
+  alone = agent Δ (thread [] giver P ∷ taking ∷ [])
+
+  commitments-second : Agent → List Commitment
+  commitments-second X = nth (X .threads) 1 .commitments
+
+  still-committed : {X : Type 0} → (takes 0 1 R ∷ takes 0 2 S ∷ []) ≡ [] → X
+  still-committed e = clash cc
+
+  pub not-alike : Alike giving by-first alone → ⊥
+  unfolding commitments-second
+  not-alike (same-end e) = still-committed (sym (ap commitments-second e))
+  not-alike (other-name t B c Q ĉ ĉ′ e f f′ q q′) =
+      let z : takes 0 1 R ∷ takes 0 2 S ∷ [] ≡ nth (t ∷ B) 1 .commitments = ap (λ (l : List Thread). nth l 1 .commitments) e in
+      let y : [] ≡ nth (t ∷ B) 1 .commitments = ap commitments-second q in
+      still-committed (z ∙ sym y)
+  not-alike (other-input t u C Q ĉ x x′ R₁ R₂ w e i i′ q q′) = still-committed (ap commitments-second q′)
+  not-alike (other-output t u C Q ĉ x v v′ R₁ R₂ w w′ e i i′ h h′ q q′) = still-committed (ap commitments-second q′)
 
 -- ---- a choice whose guards are all false
 

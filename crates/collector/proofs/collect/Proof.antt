@@ -1,5 +1,4 @@
-use Rattle.engine.proofs.Laws.{admitted-indexed, admitted-length, admitted-sound}
-use Rattle.engine_laws.specs.Sound.Laws.{sound-settled}
+use Rattle.engine.specs.Admitted.{admitted}
 use borrow.Author.Needs.{needs}
 use Rattle.collector.proofs.Ends.{collect-refused, collect-admitted}
 use Rattle.collector.proofs.collect.Statement.{statement}
@@ -14,8 +13,8 @@ collect-spec =
     (λ c. search needs)
     (λ c. search needs)
     (λ c. search needs)
-    (λ c κs. (search admitted-indexed, search (sound-settled, admitted-sound)))
-    (λ c κs. search admitted-length)
+    (λ c κs. (search admitted, search admitted))
+    (λ c κs. search admitted)
     (λ c. search needs)
     (λ c. search collect-refused)
     (λ c. search needs)

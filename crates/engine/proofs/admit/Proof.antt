@@ -1,4 +1,5 @@
-use Rattle.engine.proofs.Laws.{start-length, still-refused, state-sound, state-unsound, admitted-indexed, not-admitted, not-read}
+use Rattle.engine.proofs.Laws.{start-length, still-refused, state-sound, state-unsound, start-granted, is-sound, not-admitted}
+use Rattle.engine.specs.Admitted.{admitted}
 use borrow.Author.Needs.{needs}
 use Rattle.engine.proofs.admit.Statement.{statement}
 use Rattle.engine.proofs.admit.Tie as tie
@@ -11,10 +12,10 @@ admit-spec =
     (λ c. search needs)
     (λ c. search needs)
     (λ c κs. (search start-length, search needs))
-    (λ c κs. search admitted-indexed)
+    (λ c κs. search admitted)
     (λ c. search needs)
-    (λ c. (search state-sound, (λ e. search admitted-indexed, λ e. search)))
+    (λ c. (search state-sound, (λ e. search start-length, (λ e. search start-granted, (λ e. search admitted, (λ e. search, λ e. search is-sound))))))
     (λ c. search needs)
-    (λ c. (search still-refused, (λ e. search not-admitted, λ e. search not-read)))
+    (λ c. (search still-refused, (λ e. not-admitted _ e, (λ e. not-admitted _ e, (λ e. not-admitted _ e, (λ e. not-admitted _ e, λ e. not-admitted _ e))))))
     (λ c. search needs)
-    (λ c. (search state-unsound, (λ e. search not-admitted, λ e. search not-read))))
+    (λ c. (search state-unsound, (λ e. not-admitted _ e, (λ e. not-admitted _ e, (λ e. not-admitted _ e, (λ e. not-admitted _ e, λ e. not-admitted _ e)))))))

@@ -8,9 +8,9 @@ admit-start-spec =
     tie.close
     (tie.spec
     (λ c κs. search needs)
-    (λ c. (search lengths-wrong, λ e. search not-admitted))
+    (λ c. (search lengths-wrong, λ e. not-admitted _ e))
     (λ c κs. search needs)
     (λ c. search needs)
     (λ c. (search table-accepted, λ e. search accepted-indexed))
     (λ c. search needs)
-    (λ c. (search table-refused, λ e. search not-admitted)))
+    (λ c. (search table-refused, λ e. not-admitted _ e)))

@@ -1,4 +1,5 @@
-use Rattle.engine.proofs.Laws.{run-refused, run-admitted, admitted-indexed, admitted-length, admitted-granted, admitted-sound}
+use Rattle.engine.specs.Admitted.{admitted}
+use Rattle.engine.proofs.Laws.{run-refused, run-admitted}
 use borrow.Author.Needs.{needs}
 use Rattle.engine.proofs.run.Statement.{statement}
 use Rattle.engine.proofs.run.Tie as tie
@@ -12,8 +13,8 @@ run-spec =
     (λ c. search needs)
     (λ c. search needs)
     (λ c. search needs)
-    (λ c κs. (search admitted-indexed, (search admitted-granted, search admitted-sound)))
-    (λ c κs. search admitted-length)
+    (λ c κs. (search admitted, (search admitted, search admitted)))
+    (λ c κs. search admitted)
     (λ c. search needs)
     (λ c. search run-refused)
     (λ c. search needs)

@@ -1,4 +1,5 @@
-use Rattle.engine.proofs.Laws.{step-refused, step-admitted, admitted-indexed, admitted-length, admitted-granted, admitted-sound}
+use Rattle.engine.specs.Admitted.{admitted}
+use Rattle.engine.proofs.Laws.{step-refused, step-admitted}
 use borrow.Author.Needs.{needs}
 use Rattle.engine.proofs.step.Statement.{statement}
 use Rattle.engine.proofs.step.Tie as tie
@@ -12,8 +13,8 @@ step-spec =
     (λ c. search needs)
     (λ c. search needs)
     (λ c. search needs)
-    (λ c κs. (search admitted-indexed, (search admitted-granted, search admitted-sound)))
-    (λ c κs. search admitted-length)
+    (λ c κs. (search admitted, (search admitted, search admitted)))
+    (λ c κs. search admitted)
     (λ c. search needs)
     (λ c. search step-refused)
     (λ c. search needs)

@@ -84,8 +84,8 @@ module _ (file : List ℕ) where
 -- ---- a copy, one element after the other
 
 module _ (from to : List ℕ) (i : ℕ) (long : length to ≡ length from) (e : take i to ≡ take i from) where
-  pub copy-more : i < length from → take (i + 1) (set to i (getD from i 0)) ≡ take (i + 1) from
-  copy-more h = rw (add-one i, take-suc-set to i (getD from i 0) (omega arith), take-suc from i 0 h, e)
+  pub copy-more : (x : ℕ) → x ≡ getD from i 0 → i < length from → take (i + 1) (set to i x) ≡ take (i + 1) from
+  copy-more x f h = rw (f, add-one i, take-suc-set to i (getD from i 0) (omega arith), take-suc from i 0 h, e)
 
   pub copy-all : length from ≤ i → to ≡ from
   copy-all h = sym (take-all i to (omega arith)) ∙ e ∙ take-all i from h

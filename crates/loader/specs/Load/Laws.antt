@@ -44,20 +44,20 @@ table-bytes b h f =
     rw (joined-rows 865 12 (shorts b), take-all (865 * 12) (shorts b) long)
     (encode-numbers 2 b (omega arith) (bytes-fit b f))
 
--- ---- the answers
+-- ---- the answers, and the buffer t′ that t has become: the same, where the load is refused
 
-module _ (file t : List ℕ) (v : Verdict) (e : v ≡ verdict file) where
-  pub load-refused : (g : Ground) (l : ℕ) → v ≡ Fault g l → outcome (FileRefused g l) t ≡ loaded file t
+module _ (file t t′ : List ℕ) (v : Verdict) (e : v ≡ verdict file) where
+  pub load-refused : (g : Ground) (l : ℕ) → t′ ≡ t → v ≡ Fault g l → outcome (FileRefused g l) t′ ≡ loaded file t
   unfolding loaded afterVerdict
-  load-refused g l h = rw (← e, h)
+  load-refused g l a h = rw (← e, h, a)
 
   module _ (h : v ≡ Sound) where
-    pub load-length : (length t ≡ 20760 → ⊥) → outcome WrongLength t ≡ loaded file t
+    pub load-length : t′ ≡ t → (length t ≡ 20760 → ⊥) → outcome WrongLength t′ ≡ loaded file t
     unfolding loaded afterVerdict
-    load-length k = rw (← e, h, ne-eqb (length t) 20760 k)
+    load-length a k = rw (← e, h, ne-eqb (length t) 20760 k, a)
 
-    pub load-done : (b t′ : List ℕ) → t′ ≡ b → (v ≡ Sound → tableOf b ≡ fileTable file) → length t ≡ 20760 → length t′ ≡ length t → ((i : ℕ) → Fits w8 (getD t′ i 0)) → outcome Done t′ ≡ loaded file t
+    pub load-done : (b : List ℕ) → t′ ≡ b → (v ≡ Sound → tableOf b ≡ fileTable file) → length t ≡ 20760 → length t′ ≡ length t → ((i : ℕ) → Fits w8 (getD t′ i 0)) → outcome Done t′ ≡ loaded file t
     unfolding loaded afterVerdict
-    load-done b t′ a k m n f = rw (← e, h, eq-eqb (length t) 20760 m, ← k h, ← a, table-bytes t′ (n ∙ m) f)
+    load-done b a k m n f = rw (← e, h, eq-eqb (length t) 20760 m, ← k h, ← a, table-bytes t′ (n ∙ m) f)
 
 pub ruleset answers = (load-refused, load-length, load-done)

@@ -1,4 +1,4 @@
-use Rattle.moves.proofs.Ways.{tries}
+use Rattle.moves.specs.Tried.{tries}
 use borrow.Author.Needs.{needs}
 use Rattle.moves.proofs.branches_tried.Statement.{statement}
 use Rattle.moves.proofs.branches_tried.Tie as tie

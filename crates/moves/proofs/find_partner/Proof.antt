@@ -1,5 +1,5 @@
 -- `moves::find_partner` meets its contract. The loops: no thread passed answers, and of this thread no branch passed offers;
--- where one was seen to be opposed, the thread offers the other direction. Assumes nothing.
+-- where one was seen that competes, the thread offers the asker's own direction. Assumes nothing.
 use Prim.Native.Nat.{_≤_, _-_}
 use mathlib.Core.Path.{_≡_, refl, sym, _∙_}
 use mathlib.Core.Bool.{true}
@@ -12,19 +12,20 @@ use Rattle.state.specs.State.{stateOf, thread}
 use Rattle.rules.specs.Program.{opposite}
 use Rattle.rules.specs.Offers.{offersAt, offers, answers}
 use Rattle.rules.specs.declared.Partner.the-variants.{Nobody}
-use Rattle.moves.proofs.Search.{no-channel, threads-skipped, nobody-is, neither-passed, opposed-passed, other-offered, found-is, thread-passed, opposed-ends, waiting-less}
+use Rattle.moves.proofs.Search.{threads-skipped, nobody-is, neither-passed, competing-passed, other-offered, found-is, competing-ends, waiting-less}
+use Rattle.moves.specs.Tried.{no-channel, thread-passed}
 use Rattle.moves.proofs.find_partner.Statement.{statement}
 use Rattle.moves.proofs.find_partner.Tie as tie
 
 abbrev Inv-loop : tie.InvT-loop
-Inv-loop table index state t d c top limit nodes found₀ u n from opposed₀ i₀ found opposed i =
+Inv-loop table index state t d c top limit nodes found₀ u n from competes₀ i₀ found competes i =
     (i ≤ n)
     × (first (offersAt (tableOf table) (thread (stateOf state) u) d c) i ≡ i)
     × (found ≡ Nobody)
-    × (opposed ≡ true → offers (tableOf table) (thread (stateOf state) u) (opposite d) c ≡ true)
+    × (competes ≡ true → offers (tableOf table) (thread (stateOf state) u) (opposite d) c ≡ true)
 
 abbrev μ-loop : tie.MeasureT-loop
-μ-loop table index state t d c top limit nodes found₀ u n from opposed₀ i₀ found opposed i = n - i
+μ-loop table index state t d c top limit nodes found₀ u n from competes₀ i₀ found competes i = n - i
 
 abbrev Inv-threads : tie.InvT-threads
 Inv-threads table index state t d c top limit nodes found₀ u₀ found u =
@@ -60,7 +61,7 @@ find-partner-spec =
     (λ c. (
       search needs,
       ⊎-elim
-          (λ w. opposed-passed _ _ _ _ _ _ (c .before .before .before .loop .i) _ (c .before .before .before .before .first-row .ensures .0) (c .before .seen-in .result) (search) (search) (w .1 .given .1) (search))
+          (λ w. competing-passed _ _ _ _ _ _ (c .before .before .before .loop .i) _ (c .before .before .before .before .first-row .ensures .0) (c .before .seen-in .result) (search) (search) (w .1 .given .1) (search))
           (λ w. neither-passed _ _ _ _ _ _ (c .before .before .before .loop .i) _ (c .before .before .before .before .first-row .ensures .0) (c .before .seen-in .result) (search) (search) (w .1 .given .1) (search))
           (c .match .came),
       search needs,
@@ -75,4 +76,4 @@ find-partner-spec =
     (λ c. (search needs, threads-skipped _ _ _ _ _ _ _ (c .next-waiting2 .result) (c .next-waiting2 .ensures .0) (thread-passed _ _ _ _ _ _ (c .before .before .before .before .before .branches-tried .result) (c .before .before .before .loop .i) (search) (search) (search needs) (search needs) (search) (search)), search needs))
     (λ c. search nobody-is)
     (λ c. search found-is)
-    (λ c. c .before .before .loop .inv .2 ∙ opposed-ends _ _ _ _ _ _ (c .before .before .before .before .branches-tried .result) (c .before .before .loop .i) (search) (search) (search needs) (search needs) (search) _ (c .before .before .loop .inv .3) (c .if2 .taken) (search) _ (c .before .before .before .before .before .before .before .before .before .at-most-all .ensures) (search)))
+    (λ c. c .before .before .loop .inv .2 ∙ competing-ends _ _ _ _ _ _ (c .before .before .before .before .branches-tried .result) (c .before .before .loop .i) (search) (search) (search needs) (search needs) (search) _ (c .before .before .loop .inv .3) (c .if2 .taken) (search) _ (c .before .before .before .before .before .before .before .before .before .at-most-all .ensures) (search)))

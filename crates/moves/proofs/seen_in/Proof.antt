@@ -1,4 +1,4 @@
-use Rattle.moves.proofs.Ways.{seen-wanted, seen-unwanted, seen-opposed, seen-unopposed, seen-other}
+use Rattle.moves.proofs.Ways.{seen-answers, seen-no-answer, seen-competing, seen-not-competing, seen-other}
 use borrow.Author.Needs.{needs}
 use Rattle.moves.proofs.seen_in.Statement.{statement}
 use Rattle.moves.proofs.seen_in.Tie as tie
@@ -9,11 +9,11 @@ seen-in-spec =
     (tie.spec
     (λ c κs. search needs)
     (λ c κs. search needs)
-    (λ c. search seen-wanted)
-    (λ c. search seen-unwanted)
+    (λ c. search seen-answers)
+    (λ c. search seen-no-answer)
     (λ c κs. search needs)
     (λ c κs. search needs)
     (λ c κs. search needs)
-    (λ c. search seen-opposed)
-    (λ c. search (seen-unopposed, seen-other))
-    (λ c. search (seen-unopposed, seen-other)))
+    (λ c. search seen-competing)
+    (λ c. search (seen-not-competing, seen-other))
+    (λ c. search (seen-not-competing, seen-other)))

@@ -1,0 +1,95 @@
+-- A list of calls in a buffer, and their answers in another. The calls are those of the claim (`guarantee/specs/Claim.antt`), which says what they leave in
+-- the state's buffer (`afterAny`, `afterList`); the answers are the numbers that C gets. Assumes nothing.
+pub mod Laws
+use Prim.Native.Nat.{ℕ, suc, _+_, _*_, _<_, _%_}
+use native.Mathlib.Omega.{arith}
+use mathlib.Core.Bool.{cond}
+use mathlib.Core.List.{List, [], _∷_, _++_}
+use lib.Dec.{eqb}
+use lib.ListN.{getD, set}
+use lib.IntN.{pos}
+use mir.Syntax.{w32}
+use mir.Val.{toZ, ofZ}
+use Rattle.numbers.specs.Bytes.{words}
+use Rattle.engine_laws.specs.Lists.{step, give, take, run}
+use Rattle.pithread.specs.Interface.{stepResult, giveResult, takeResult, runResult, collectResult}
+use Rattle.guarantee.specs.Claim.{Any, on, collect, afterAny}
+use Rattle.pithread.specs.declared.StepAnswer.{StepAnswer}
+use Rattle.pithread.specs.declared.GiveAnswer.{GiveAnswer}
+use Rattle.pithread.specs.declared.TakeAnswer.{TakeAnswer}
+use Rattle.pithread.specs.declared.RunAnswer.{RunAnswer}
+use Rattle.pithread.specs.declared.CollectAnswer.{CollectAnswer}
+use Rattle.driver.specs.declared.Answer.{Answer}
+
+-- ---- calls
+
+-- the bits of a word, and of the number of steps
+abbrev pub pattern : ℕ → ℕ
+pattern v = v % 4294967296
+
+pub pattern-small : (v : ℕ) → pattern v < 4294967296
+pattern-small v = omega arith
+
+-- a call by three words. The first says which: 0 a step, 1 a give, 2 a take, 3 a run, any other a collection. The second is the thread, the port, or the
+-- number of steps, of which the lower 16 bits count; the third is the pattern of the number that is given
+unfoldable pub callBy : ℕ → ℕ → ℕ → Any
+callBy code a v =
+    cond (eqb code 0) (on (step a))
+    (cond (eqb code 1) (on (give a (pattern v) (pattern-small v)))
+    (cond (eqb code 2) (on (take a))
+    (cond (eqb code 3) (on (run (a % 65536)))
+    collect)))
+
+-- the calls of a list of words, three for each; a rest of fewer is no call
+unfoldable pub calledBy : List ℕ → List Any
+calledBy [] = []
+calledBy (c ∷ []) = []
+calledBy (c ∷ a ∷ []) = []
+calledBy (c ∷ a ∷ v ∷ ws) = callBy c a v ∷ calledBy ws
+
+-- the call of record i, counted from 0
+unfoldable pub callAt : List ℕ → ℕ → Any
+callAt ws i = callBy (getD ws (i * 3) 0) (getD ws (i * 3 + 1) 0) (getD ws (i * 3 + 2) 0)
+
+-- the calls of a buffer
+abbrev pub callsOf : List ℕ → List Any
+callsOf b = calledBy (words b)
+
+-- ---- answers
+
+-- the numbers of each answer in their order, and 0 in the place of those that it does not have
+unfoldable pub stepped : StepAnswer → Answer
+stepped a = record { refusal = a .refusal; second = a .node; third = a .act; fourth = a .branch; fifth = a .partner }
+
+unfoldable pub given : GiveAnswer → Answer
+given a = record { refusal = a .refusal; second = a .thread; third = pos 0; fourth = pos 0; fifth = pos 0 }
+
+unfoldable pub taken : TakeAnswer → Answer
+taken a = record { refusal = a .refusal; second = a .thread; third = a .number; fourth = pos 0; fifth = pos 0 }
+
+unfoldable pub ran : RunAnswer → Answer
+ran a = record { refusal = a .refusal; second = a .steps; third = a .reason; fourth = a .thread; fifth = pos 0 }
+
+unfoldable pub collected : CollectAnswer → Answer
+collected a = record { refusal = a .refusal; second = a .threads; third = pos 0; fourth = pos 0; fifth = pos 0 }
+
+-- what C is answered by a call on these buffers
+unfoldable pub answerTo : List ℕ → List ℕ → Any → Answer
+answerTo table state (on (step t)) = stepped (stepResult table state t .answer)
+answerTo table state (on (give p v h)) = given (giveResult table state p (toZ w32 v) .answer)
+answerTo table state (on (take p)) = taken (takeResult table state p .answer)
+answerTo table state (on (run n)) = ran (runResult table state n .answer)
+answerTo table state collect = collected (collectResult table state .answer)
+
+-- its five words, and those of a list of calls in turn, each on the bytes that the ones before it leave
+unfoldable pub wordsOf : Answer → List ℕ
+wordsOf a = ofZ w32 (a .refusal) ∷ ofZ w32 (a .second) ∷ ofZ w32 (a .third) ∷ ofZ w32 (a .fourth) ∷ ofZ w32 (a .fifth) ∷ []
+
+unfoldable pub answersTo : List ℕ → List ℕ → List Any → List ℕ
+answersTo table state [] = []
+answersTo table state (k ∷ ks) = wordsOf (answerTo table state k) ++ answersTo table (afterAny table state k) ks
+
+-- a buffer's words after these were written from place i on; a place past its end is not written
+unfoldable pub writtenFrom : List ℕ → ℕ → List ℕ → List ℕ
+writtenFrom b i [] = b
+writtenFrom b i (w ∷ ws) = writtenFrom (set b i w) (suc i) ws

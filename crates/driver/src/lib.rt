@@ -1,0 +1,149 @@
+// Works a whole list of calls, which lies in a buffer, by the functions that C calls, and lays their answers into another buffer. What it ensures follows
+// from the contracts of those functions alone: a contract that says less, or something else, leaves it unproved.
+ghost use mathlib.Core.Path.{_≡_};
+ghost use Prim.Native.Nat.{_<_, _+_, _*_, _/_, _%_};
+ghost use lib.ListN.{length, set};
+ghost use mir.Syntax.{w32};
+ghost use mir.Val.{ofZ};
+ghost use Rattle.numbers.specs.Bytes.{words};
+ghost use Rattle.engine_laws.specs.Lists.{step as Step, give as Give, take as Take, run as Run};
+ghost use Rattle.guarantee.specs.Claim.{on, collect as Collect, afterAny, afterList};
+ghost use Rattle.driver.specs.Encoding.{pattern, pattern-small, callBy, callAt, callsOf, answerTo, answersTo, wordsOf, writtenFrom};
+
+// The numbers of an answer in their order: the refusal, then those that the call has, then 0.
+pub struct Answer {
+    pub refusal: i32,
+    pub second: i32,
+    pub third: i32,
+    pub fourth: i32,
+    pub fifth: i32,
+}
+
+// The five calls, each by the exported function.
+fn step(table: &[u8], state: &mut [u8], thread: u32) -> Answer
+    ensures { λ _. ⌜ now (state .exit) ≡ afterAny (now (table .entry)) (now (state .entry)) (on (Step thread)) ⌝ }
+    ensures { λ r. ⌜ r ≡ answerTo (now (table .entry)) (now (state .entry)) (on (Step thread)) ⌝ }
+{
+    let answer = pithread::pithread_step(table, state, thread);
+    Answer {
+        refusal: answer.refusal,
+        second: answer.node,
+        third: answer.act,
+        fourth: answer.branch,
+        fifth: answer.partner,
+    }
+}
+
+fn give(table: &[u8], state: &mut [u8], port: u32, number: u32) -> Answer
+    ensures { λ _. ⌜ now (state .exit) ≡ afterAny (now (table .entry)) (now (state .entry)) (on (Give port (pattern number) (pattern-small number))) ⌝ }
+    ensures { λ r. ⌜ r ≡ answerTo (now (table .entry)) (now (state .entry)) (on (Give port (pattern number) (pattern-small number))) ⌝ }
+{
+    let answer = pithread::pithread_give(table, state, port, numbers::signed(number));
+    Answer {
+        refusal: answer.refusal,
+        second: answer.thread,
+        third: 0,
+        fourth: 0,
+        fifth: 0,
+    }
+}
+
+fn take(table: &[u8], state: &mut [u8], port: u32) -> Answer
+    ensures { λ _. ⌜ now (state .exit) ≡ afterAny (now (table .entry)) (now (state .entry)) (on (Take port)) ⌝ }
+    ensures { λ r. ⌜ r ≡ answerTo (now (table .entry)) (now (state .entry)) (on (Take port)) ⌝ }
+{
+    let answer = pithread::pithread_take(table, state, port);
+    Answer {
+        refusal: answer.refusal,
+        second: answer.thread,
+        third: answer.number,
+        fourth: 0,
+        fifth: 0,
+    }
+}
+
+fn run(table: &[u8], state: &mut [u8], n: u16) -> Answer
+    ensures { λ _. ⌜ now (state .exit) ≡ afterAny (now (table .entry)) (now (state .entry)) (on (Run n)) ⌝ }
+    ensures { λ r. ⌜ r ≡ answerTo (now (table .entry)) (now (state .entry)) (on (Run n)) ⌝ }
+{
+    let answer = pithread::pithread_run(table, state, n);
+    Answer {
+        refusal: answer.refusal,
+        second: answer.steps,
+        third: answer.reason,
+        fourth: answer.thread,
+        fifth: 0,
+    }
+}
+
+fn collect(table: &[u8], state: &mut [u8]) -> Answer
+    ensures { λ _. ⌜ now (state .exit) ≡ afterAny (now (table .entry)) (now (state .entry)) Collect ⌝ }
+    ensures { λ r. ⌜ r ≡ answerTo (now (table .entry)) (now (state .entry)) Collect ⌝ }
+{
+    let answer = pithread::pithread_collect(table, state);
+    Answer {
+        refusal: answer.refusal,
+        second: answer.threads,
+        third: 0,
+        fourth: 0,
+        fifth: 0,
+    }
+}
+
+// The call of these three words.
+fn work_call(table: &[u8], state: &mut [u8], code: u32, argument: u32, number: u32) -> Answer
+    ensures { λ _. ⌜ now (state .exit) ≡ afterAny (now (table .entry)) (now (state .entry)) (callBy code argument number) ⌝ }
+    ensures { λ r. ⌜ r ≡ answerTo (now (table .entry)) (now (state .entry)) (callBy code argument number) ⌝ }
+{
+    match code {
+        0 => step(table, state, argument),
+        1 => give(table, state, argument, number),
+        2 => take(table, state, argument),
+        3 => run(table, state, (argument % 65536) as u16),
+        _ => collect(table, state),
+    }
+}
+
+// The word at place i becomes the pattern of z.
+fn put_number(answers: &mut [u8], i: usize, z: i32)
+    ensures { λ _. ⌜ words (now (answers .exit)) ≡ set (words (now (answers .entry))) i (ofZ w32 z) ⌝ }
+{
+    numbers::put_word(answers, i, numbers::pattern(z));
+}
+
+// Lays the five words of an answer from place i on.
+fn put_answer(answers: &mut [u8], i: usize, answer: Answer)
+    requires { ⌜ i < 4611686018427387904 ⌝ }
+    ensures { λ _. ⌜ words (now (answers .exit)) ≡ writtenFrom (words (now (answers .entry))) i (wordsOf answer) ⌝ }
+{
+    put_number(answers, i, answer.refusal);
+    put_number(answers, i + 1, answer.second);
+    put_number(answers, i + 2, answer.third);
+    put_number(answers, i + 3, answer.fourth);
+    put_number(answers, i + 4, answer.fifth);
+}
+
+// Works the call of record i, and lays its answer as record i of the answers.
+fn work_record(table: &[u8], state: &mut [u8], calls: &[u8], answers: &mut [u8], i: usize)
+    requires { ⌜ i < length (now calls) / 12 ⌝ }
+    ensures { λ _. ⌜ now (state .exit) ≡ afterAny (now (table .entry)) (now (state .entry)) (callAt (words (now (calls .entry))) i) ⌝ }
+    ensures { λ _. ⌜ words (now (answers .exit)) ≡ writtenFrom (words (now (answers .entry))) (i * 5) (wordsOf (answerTo (now (table .entry)) (now (state .entry)) (callAt (words (now (calls .entry))) i))) ⌝ }
+{
+    let code = numbers::word_at(calls, i * 3);
+    let argument = numbers::word_at(calls, i * 3 + 1);
+    let number = numbers::word_at(calls, i * 3 + 2);
+    let answer = work_call(table, state, code, argument, number);
+    put_answer(answers, i * 5, answer);
+}
+
+// Works the calls in `calls`, in turn, and lays their answers into `answers`, as far as it goes. A call is a record of twelve bytes, three words with the
+// lowest byte first: which call, its thread, port or number of steps, and the number given; an answer is a record of twenty.
+#[no_mangle]
+pub extern "C" fn driver_work_list(table: &[u8], state: &mut [u8], calls: &[u8], answers: &mut [u8])
+    ensures { λ _. ⌜ now (state .exit) ≡ afterList (now (table .entry)) (now (state .entry)) (callsOf (now (calls .entry))) ⌝ }
+    ensures { λ _. ⌜ words (now (answers .exit)) ≡ writtenFrom (words (now (answers .entry))) 0 (answersTo (now (table .entry)) (now (state .entry)) (callsOf (now (calls .entry)))) ⌝ }
+{
+    for i in 0..calls.len() / 12 {
+        work_record(table, state, calls, answers, i);
+    }
+}
