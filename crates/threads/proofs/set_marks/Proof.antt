@@ -1,11 +1,11 @@
--- `collector::set_marks` meets its contract. The loop: the marks of the channels before the i-th of the list are set. Assumes nothing.
+-- `threads::set_marks` meets its contract. The loop: the channels before the i-th of the list are marked. Assumes nothing.
 use Prim.Native.Nat.{_≤_, _-_}
 use mathlib.Core.Path.{_≡_}
-use Rattle.collector.specs.Marking.{raisedTo}
+use Rattle.threads.specs.Looking.{raisedTo}
 use borrow.Author.Needs.{needs}
-use Rattle.collector.proofs.Ways.{raised-none, raised-more, raised-past}
-use Rattle.collector.proofs.set_marks.Statement.{statement}
-use Rattle.collector.proofs.set_marks.Tie as tie
+use Rattle.threads.proofs.Ways.{raised-none, raised-more, raised-past}
+use Rattle.threads.proofs.set_marks.Statement.{statement}
+use Rattle.threads.proofs.set_marks.Tie as tie
 
 abbrev Inv-loop : tie.InvT-loop
 Inv-loop marks₀ list i₀ marks i = (i ≤ 16) × (marks ≡ raisedTo marks₀ list i)
@@ -21,7 +21,6 @@ set-marks-spec =
     μ-loop
     (λ c. search (raised-none, needs))
     (λ c. search needs)
-    (λ c κs. search needs)
     (λ c κs. search needs)
     (λ c. search needs)
     (λ c. search needs)

@@ -1,7 +1,7 @@
 use borrow.Author.Needs.{needs}
-use Rattle.collector.proofs.Ways.{reaching}
-use Rattle.collector.proofs.reaches_by.Statement.{statement}
-use Rattle.collector.proofs.reaches_by.Tie as tie
+use Rattle.threads.proofs.Ways.{reaching}
+use Rattle.threads.proofs.reaches_by.Statement.{statement}
+use Rattle.threads.proofs.reaches_by.Tie as tie
 
 pub reaches-by-spec : {M : Type 1} → statement M
 reaches-by-spec =

@@ -1,7 +1,7 @@
 use borrow.Author.Needs.{needs}
-use Rattle.collector.proofs.Ways.{meetings}
-use Rattle.collector.proofs.is_meeting.Statement.{statement}
-use Rattle.collector.proofs.is_meeting.Tie as tie
+use Rattle.threads.proofs.Ways.{meetings}
+use Rattle.threads.proofs.is_meeting.Statement.{statement}
+use Rattle.threads.proofs.is_meeting.Tie as tie
 
 pub is-meeting-spec : {M : Type 1} → statement M
 is-meeting-spec =
