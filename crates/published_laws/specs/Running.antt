@@ -14,7 +14,7 @@ use Rattle.loader.specs.Load.{accepted}
 use Rattle.state.specs.State.{State, maxThreads, view, thread, standsAt, isReady, withMark, stateBytes}
 use Rattle.rules.specs.Offers.{partnerOf}
 use Rattle.rules.specs.Moves.{move, perform, valueBy, metByBench}
-use Rattle.rules.specs.Calls.{stepAnswer, stepEnd, canStep, stepBy, stepCall, bench, givenTo, giveBy, giveCall, takenFrom, takeBy, takeCall, nextReady, pastTurn, turnBy, Course, onward, oneMore, turnEnd, takeTurn, courseOf, runBy, runCall}
+use Rattle.rules.specs.Calls.{stepAnswer, stepEnd, canStep, stepBy, stepCall, bench, givenTo, giveBy, giveCall, takenFrom, takeBy, takeCall, nextReady, pastTurn, turnFor, turnBy, Course, onward, oneMore, turnEnd, takeTurn, courseOf, runBy, runCall}
 use Rattle.rules.specs.declared.Direction.the-variants.{Out, In}
 use Rattle.rules.specs.declared.Partner.{Partner}
 use Rattle.rules.specs.declared.Partner.the-variants.{Nobody, At}
@@ -54,7 +54,7 @@ use Rattle.published_laws.specs.Collecting.{collection-reduced}
 -- ---- runs
 
 went-allowed : (t : ℕ) (m : Move) → turnBy t m ≡ Went → Allowed m
-unfolding turnBy Allowed
+unfolding stepAnswer turnFor turnBy Allowed
 went-allowed t Ends e = tt
 went-allowed t Calls e = tt
 went-allowed t Waits e = tt
