@@ -1,8 +1,8 @@
-use Rattle.calls.proofs.Laws.{answer-arm}
+use Rattle.steps.specs.Made.Laws.{answer-arm}
 use Rattle.rules.specs.Calls.{stepAnswer}
 use borrow.Author.Needs.{needs}
-use Rattle.calls.proofs.step_answer.Statement.{statement}
-use Rattle.calls.proofs.step_answer.Tie as tie
+use Rattle.steps.proofs.step_answer.Statement.{statement}
+use Rattle.steps.proofs.step_answer.Tie as tie
 
 pub step-answer-spec : {M : Type 1} → statement M
 unfolding stepAnswer
