@@ -17,6 +17,8 @@ pub mod Enabling
 pub mod Collecting
 pub mod Running
 pub mod Choosing
+pub mod PassedOver
+pub mod Conversely
 pub mod Benches
 pub mod Starting
 pub mod Computation
