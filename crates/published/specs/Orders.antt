@@ -1,8 +1,17 @@
--- A thread that two orders of one product both have first may be taken away from both. Assumes nothing.
+-- Two orders of one product have the same length, and a thread that both have first may be taken away from both. Assumes nothing.
+use Prim.Native.Nat.{suc}
+use mathlib.Core.Path.{_≡_, refl, _∙_, ap}
 use mathlib.Core.List.{List, _∷_}
+use lib.ListN.{length}
 use Rattle.published.specs.Agents.{Thread}
-use Rattle.published.specs.Rules.{Rearranged, same-first, swapped, twice}
+use Rattle.published.specs.Rules.{Rearranged, none-left, same-first, swapped, twice}
 use Rattle.published.specs.Lists.{same-order, turned-back}
+
+pub same-length : {A B : List Thread} → Rearranged A B → length A ≡ length B
+same-length none-left = refl
+same-length (same-first r) = ap suc (same-length r)
+same-length swapped = refl
+same-length (twice r s) = same-length r ∙ same-length s
 
 -- A is B with the thread t more, at some place
 data More (t : Thread) : List Thread → List Thread → Type 0 where
