@@ -4,7 +4,7 @@ use Prim.Native.Nat.{ℕ}
 use native.Mathlib.Omega.{arith}
 use mathlib.Core.Path.{_≡_, refl, sym, _∙_, ap}
 use mathlib.Core.Logic.{inl, inr, ⊎-elim}
-use mathlib.Core.Bool.{false}
+use mathlib.Core.Bool.{Bool, false}
 use mathlib.Core.List.{List, [], _∷_}
 use mathlib.Core.Option.{none, some}
 use lib.ListN.{length}
@@ -68,7 +68,7 @@ module _ (def : ℕ → Process) (Δ : Channels) (P Q R S : Process) (n m : ℕ)
 
 -- ---- [true] a!v, P ∥ [a ⇒ x: R, a ⇒ y: S], with channel 0 in variable 0 of both: two reductions, and an agent that is not like their ends
 
-module _ (def : ℕ → Process) (Δ : Channels) (P R S W : Process) (n : ℕ) where
+module _ (def : ℕ → Process) (forNumbers : ℕ → ℕ → Bool) (Δ : Channels) (P R S W : Process) (n : ℕ) where
   abbrev giver : Env
   giver = some (channel 0) ∷ some (number n) ∷ []
 
@@ -152,7 +152,7 @@ module _ (def : ℕ → Process) (Δ : Channels) (P R S W : Process) (n : ℕ) w
   }
 
   -- ... in no more than the commitment
-  pub ends-upto : UpTo giving gives-first by-first by-second
+  pub ends-upto : UpTo def forNumbers giving gives-first by-first by-second
   ends-upto =
       other-taker taking taking [] [] P 0 1 2 R S (number n) (same-order (giving .threads)) (same-order (giving .threads)) (inl refl) (inr (inl refl))
       (refl, same-order (by-first .threads)) (refl, same-order (by-second .threads))
@@ -181,7 +181,7 @@ module _ (def : ℕ → Process) (Δ : Channels) (P R S W : Process) (n : ℕ) w
   no-giver u ĉ v Q (inr (inr z)) i = z
 
   -- but none in which nobody takes what is given
-  pub not-upto : UpTo giving gives-first by-first alone → ⊥
+  pub not-upto : UpTo def forNumbers giving gives-first by-first alone → ⊥
   not-upto (Whole.same-end D B (e, r) (e′, r′)) = not-in-first (in-rearranged taking (turned-back r) (in-rearranged taking r′ (inr (inl refl))))
   not-upto (Whole.other-name B c Q ĉ ĉ′ p f f′ (e, r) z) = not-in-first (in-rearranged taking (turned-back r) (inr (taking-behind B p)))
   not-upto (other-taker u u′ B B′ Q ĉ x x′ R₁ R₂ w p p′ i i′ (e, r) (e′, r′)) =
@@ -189,7 +189,7 @@ module _ (def : ℕ → Process) (Δ : Channels) (P R S W : Process) (n : ℕ) w
       ⊎-elim (λ q. bare-other _ refl q) (λ y. ⊎-elim (λ q. bare-other _ refl q) (λ z. none-behind B′ none z) y) (in-rearranged taking r′ (inr (inl refl)))
   not-upto (other-giver u u′ B B′ Q ĉ x v v′ R₁ R₂ w w′ p p′ i i′ f f′ z z′) = no-giver u ĉ v R₁ (in-rearranged u p (inr (inl refl))) i
   not-upto (other-waits B Γ m m′ p (e, r) z) = not-in-first (in-rearranged taking (turned-back r) (inr (taking-behind B p)))
-  not-upto (from-zero B D vs ws δ′ Q p q f z (e, r) y) = not-in-first (in-rearranged taking (turned-back r) (inr (taking-behind B p)))
+  not-upto (from-zero B D vs ws δ′ p q f z (e, r) y) = not-in-first (in-rearranged taking (turned-back r) (inr (taking-behind B p)))
 
 -- ---- a choice whose guards are all false
 

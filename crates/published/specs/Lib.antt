@@ -1,6 +1,7 @@
 pub mod Syntax
 pub mod Agents
 pub mod Rules
+pub mod Fired
 pub mod Enabling
 pub mod Bindings
 pub mod Lists

@@ -3,6 +3,7 @@ use Prim.Native.Nat.{ℕ, zero, suc, _<_}
 use native.Mathlib.Omega.{arith}
 use mathlib.Core.Path.{_≡_, refl}
 use mathlib.Core.Logic.{inl, inr, ⊎-elim, _≢_}
+use mathlib.Core.Bool.{Bool}
 use mathlib.Core.List.{List, [], _∷_, _++_}
 use lib.ListN.{length}
 use Rattle.published.specs.Syntax.{Process}
@@ -121,17 +122,20 @@ nothing-kept : (A B : Agent) → Nothing A B → Polar (A .threads) → Polar (B
 unfolding Nothing
 nothing-kept A B z h = absurd z
 
-ours-polar : {A B : Agent} → Ours A B → Polar (A .threads) → Polar (B .threads)
-ours-polar (skip g) h = h
-ours-polar (assigns {B = B} g) h = bare B (h .1)
-ours-polar (zeros z) h = h
+module _ (def : ℕ → Process) (forNumbers : ℕ → ℕ → Bool) where
+  ours-polar : {A B : Agent} → Ours def forNumbers A B → Polar (A .threads) → Polar (B .threads)
+  ours-polar (skip g) h = h
+  ours-polar (assigns {B = B} g) h = bare B (h .1)
+  ours-polar (zeros D z) h = h
 
-ours-kept : (A B : Agent) → Ours A B → Polar (A .threads) → Polar (B .threads)
-ours-kept A B m h = ours-polar m h
+  ours-kept : (A B : Agent) → Ours def forNumbers A B → Polar (A .threads) → Polar (B .threads)
+  ours-kept A B m h = ours-polar m h
 
 -- Proposition 2, of what the published rules reach from threads without commitments, and of what they reach together with document 01's own
 pub proposition-2 : (def : ℕ → Process) (A B : Agent) → Bare (A .threads) → Reaches def Nothing A B → OnePolarity (B .threads)
 proposition-2 def A B h p = polar-printed (B .threads) (polar-reached def Nothing nothing-kept p (bare-polar (A .threads) h))
 
-pub our-proposition-2 : (def : ℕ → Process) (A B : Agent) → Bare (A .threads) → Reaches def Ours A B → OnePolarity (B .threads)
-our-proposition-2 def A B h p = polar-printed (B .threads) (polar-reached def Ours ours-kept p (bare-polar (A .threads) h))
+pub our-proposition-2 : (def : ℕ → Process) (forNumbers : ℕ → ℕ → Bool) (A B : Agent) → Bare (A .threads) → Reaches def (Ours def forNumbers) A B
+    → OnePolarity (B .threads)
+our-proposition-2 def forNumbers A B h p =
+    polar-printed (B .threads) (polar-reached def (Ours def forNumbers) (ours-kept def forNumbers) p (bare-polar (A .threads) h))

@@ -8,10 +8,9 @@
 --  - A product has no order. (par) turns a product around, and two threads that meet need not be neighbours then; `exchange` says that the order does not count.
 use Prim.Native.Nat.{ℕ}
 use mathlib.Core.Path.{_≡_}
-use mathlib.Core.Bool.{true, false}
+use mathlib.Core.Bool.{Bool, true, false}
 use mathlib.Core.List.{List, [], _∷_, _++_, map}
-use mathlib.Core.Logic.{_⊎_}
-use mathlib.Core.Option.{none, some}
+use mathlib.Core.Option.{Option, none, some}
 use Rattle.published.specs.Syntax.{Guard, Expression, Process, end, choice, invoke, Sum, branch, Prefix, tau, output, input, newChannel, newThread, assign, andWait, waiting}
 use Rattle.published.specs.Agents.{_∈_, Value, channel, number, Env, look, bind, holds, valueOf, Commitment, gives, takes, Thread, thread, Channels, adding, Agent, agent, globalrc, Commits}
 
@@ -150,17 +149,27 @@ pub record Stepped (def : ℕ → Process) (More : Agent → Agent → Type 0) (
 --    only together with a reduction of the branches behind it (next). So a thread whose last guards are false, or all of them, never comes to Σ wait and
 --    counts as active for ever; in document 01 it waits.
 --  - assign: an assignment goes ahead as a tau does, and binds its variable to a number.
---  - zeros: variables for numbers that have no value yet are 0. (An environment is a list; variables behind its end are unbound too.)
-pub data Ours : Agent → Agent → Type 0 where
-  -- ḡ = false: Δ ⊢ [Γ; δ] : [g] P + Σ Qᵢ ∥ B → Δ ⊢ [Γ; δ] : Σ Qᵢ + wait ∥ B
-  skip : {Δ : Channels} {Γ : List Commitment} {δ : Env} {g : Guard} {α : Prefix} {P : Process} {Q : Sum} {B : List Thread}
-      → holds δ g ≡ false
-      → Ours (agent Δ (thread Γ δ (choice (branch g α P Q)) ∷ B)) (agent Δ (thread Γ δ (choice (andWait Q)) ∷ B))
-  -- ḡ = true: Δ ⊢ [Γ; δ] : [g] x := e, P + Σ Qᵢ ∥ B → Δ ⊢ [∅; δ, x ▷ ē] : P ∥ B
-  assigns : {Δ : Channels} {Γ : List Commitment} {δ : Env} {g : Guard} {x : ℕ} {e : Expression} {P : Process} {Q : Sum} {B : List Thread}
-      → holds δ g ≡ true
-      → Ours (agent Δ (thread Γ δ (choice (branch g (assign x e) P Q)) ∷ B)) (agent Δ (thread [] (bind δ x (number (valueOf δ e))) P ∷ B))
-  -- Δ ⊢ [Γ; δ] : P ∥ B → Δ ⊢ [Γ; δ, x ▷ 0, ..] : P ∥ B for some x that δ does not bind
-  zeros : {Δ : Channels} {Γ : List Commitment} {δ δ′ : Env} {P : Process} {B : List Thread}
-      → ((x : ℕ) → (look δ′ x ≡ look δ x) ⊎ ((look δ x ≡ none) × (look δ′ x ≡ some (number 0))))
-      → Ours (agent Δ (thread Γ δ P ∷ B)) (agent Δ (thread Γ δ′ P ∷ B))
+--  - zeros: where a definition begins, its variables for numbers that have no value yet are 0, and no other variable changes. (An environment is a list;
+--    variables behind its end are unbound too.)
+
+-- what a variable is bound to once it is 0 if it is for numbers and has no value
+unfoldable pub zeroed : Bool → Option Value → Option Value
+zeroed true none = some (number 0)
+zeroed true (some v) = some v
+zeroed false o = o
+
+-- forNumbers says which variables of each definition are for numbers
+module _ (def : ℕ → Process) (forNumbers : ℕ → ℕ → Bool) where
+  pub data Ours : Agent → Agent → Type 0 where
+    -- ḡ = false: Δ ⊢ [Γ; δ] : [g] P + Σ Qᵢ ∥ B → Δ ⊢ [Γ; δ] : Σ Qᵢ + wait ∥ B
+    skip : {Δ : Channels} {Γ : List Commitment} {δ : Env} {g : Guard} {α : Prefix} {P : Process} {Q : Sum} {B : List Thread}
+        → holds δ g ≡ false
+        → Ours (agent Δ (thread Γ δ (choice (branch g α P Q)) ∷ B)) (agent Δ (thread Γ δ (choice (andWait Q)) ∷ B))
+    -- ḡ = true: Δ ⊢ [Γ; δ] : [g] x := e, P + Σ Qᵢ ∥ B → Δ ⊢ [∅; δ, x ▷ ē] : P ∥ B
+    assigns : {Δ : Channels} {Γ : List Commitment} {δ : Env} {g : Guard} {x : ℕ} {e : Expression} {P : Process} {Q : Sum} {B : List Thread}
+        → holds δ g ≡ true
+        → Ours (agent Δ (thread Γ δ (choice (branch g (assign x e) P Q)) ∷ B)) (agent Δ (thread [] (bind δ x (number (valueOf δ e))) P ∷ B))
+    -- def D(..) = P: Δ ⊢ [∅; δ] : P ∥ B → Δ ⊢ [∅; δ, x ▷ 0, ..] : P ∥ B for each x that is for numbers in D and that δ does not bind
+    zeros : {Δ : Channels} {δ δ′ : Env} {B : List Thread} (D : ℕ)
+        → ((x : ℕ) → look δ′ x ≡ zeroed (forNumbers D x) (look δ x))
+        → Ours (agent Δ (thread [] δ (def D) ∷ B)) (agent Δ (thread [] δ′ (def D) ∷ B))

@@ -4,10 +4,10 @@ use mathlib.Core.Path.{_≡_, refl}
 use mathlib.Core.Logic.{_⊎_, inl, inr}
 use mathlib.Core.Bool.{Bool, true, false}
 use mathlib.Core.List.{List, [], _∷_, map}
-use mathlib.Core.Option.{none, some}
+use mathlib.Core.Option.{some}
 use Rattle.published.specs.Syntax.{Process, end, choice, invoke, Sum, nothing, branch, wait, Prefix, tau, output, input, newChannel, newThread, assign, waits, waiting}
-use Rattle.published.specs.Agents.{_∈_, Value, channel, number, Env, look, bind, Commitment, gives, takes, Thread, thread, Channels, adding, Agent, agent}
-use Rattle.published.specs.Rules.{Rearranged, Acts, Nothing, Run, last, pass, Turn}
+use Rattle.published.specs.Agents.{_∈_, Value, channel, Env, look, bind, Commitment, gives, takes, Thread, thread, Channels, adding, Agent, agent}
+use Rattle.published.specs.Rules.{Rearranged, Acts, Nothing, Run, last, pass, Turn, zeroed}
 use Rattle.published.specs.Choices.{commits, ByCommitment, ByPrefix, BySum, ByProcess, Of, acts-of}
 
 -- ---- whole turns
@@ -39,37 +39,35 @@ pub record WholeTurn (def : ℕ → Process) (A : Agent) (t : Thread) (T : Agent
 abbrev pub Is : Agent → Channels → List Thread → Type 0
 Is T Δ A = (T .channels ≡ Δ) × Rearranged A (T .threads)
 
--- δ′ is δ, but that variables without a value may be 0
-abbrev pub Filled : Env → Env → Type 0
-Filled δ δ′ = (x : ℕ) → (look δ′ x ≡ look δ x) ⊎ ((look δ x ≡ none) × (look δ′ x ≡ some (number 0)))
-
--- two ends, T and T′, of a turn of thread t from the agent A
-pub data UpTo (A : Agent) (t : Thread) (T T′ : Agent) : Type 0 where
-  -- the same threads
-  same-end : (Δ : Channels) (B : List Thread) → Is T Δ B → Is T′ Δ B → UpTo A t T T′
-  -- (new): the name of the channel, which is a new one
-  other-name : (B : List Thread) (c : ℕ) (P : Process) (ĉ ĉ′ : ℕ) → Rearranged (A .threads) (t ∷ B) → A .channels ĉ ≡ false → A .channels ĉ′ ≡ false
-      → Is T (adding (A .channels) ĉ) (thread [] (bind (t .env) c (channel ĉ)) P ∷ B)
-      → Is T′ (adding (A .channels) ĉ′) (thread [] (bind (t .env) c (channel ĉ′)) P ∷ B) → UpTo A t T T′
-  -- (send): which thread takes w, u or u′, and by which commitment on the channel. Each leaves all others, B or B′, as they were
-  other-taker : (u u′ : Thread) (B B′ : List Thread) (P : Process) (ĉ x x′ : ℕ) (R R′ : Process) (w : Value)
-      → Rearranged (A .threads) (t ∷ u ∷ B) → Rearranged (A .threads) (t ∷ u′ ∷ B′) → takes ĉ x R ∈ u .commitments → takes ĉ x′ R′ ∈ u′ .commitments
-      → Is T (A .channels) (thread [] (t .env) P ∷ thread [] (bind (u .env) x w) R ∷ B)
-      → Is T′ (A .channels) (thread [] (t .env) P ∷ thread [] (bind (u′ .env) x′ w) R′ ∷ B′) → UpTo A t T T′
-  -- (recv): which thread gives, and by which commitment on the channel, and so what is received
-  other-giver : (u u′ : Thread) (B B′ : List Thread) (P : Process) (ĉ x v v′ : ℕ) (R R′ : Process) (w w′ : Value)
-      → Rearranged (A .threads) (t ∷ u ∷ B) → Rearranged (A .threads) (t ∷ u′ ∷ B′) → gives ĉ v R ∈ u .commitments → gives ĉ v′ R′ ∈ u′ .commitments
-      → look (u .env) v ≡ some w → look (u′ .env) v′ ≡ some w′
-      → Is T (A .channels) (thread [] (bind (t .env) x w) P ∷ thread [] (u .env) R ∷ B)
-      → Is T′ (A .channels) (thread [] (bind (t .env) x w′) P ∷ thread [] (u′ .env) R′ ∷ B′) → UpTo A t T T′
-  -- document 01 leaves a wait for a branch with a false guard too (skip): how many waits there are in Σ wait
-  other-waits : (B : List Thread) (Γ : List Commitment) (n n′ : ℕ) → Rearranged (A .threads) (t ∷ B)
-      → Is T (A .channels) (thread Γ (t .env) (choice (waits (suc n))) ∷ B)
-      → Is T′ (A .channels) (thread Γ (t .env) (choice (waits (suc n′))) ∷ B) → UpTo A t T T′
-  -- document 01 begins numbers with 0 (zeros): numbers without a value after (call)
-  from-zero : (B : List Thread) (D : ℕ) (vs : List ℕ) (ws : List Value) (δ′ : Env) (P : Process) → Rearranged (A .threads) (t ∷ B)
-      → t .process ≡ invoke D vs → map (look (t .env)) vs ≡ map some ws → Filled (map some ws) δ′
-      → Is T (A .channels) (thread [] (map some ws) P ∷ B) → Is T′ (A .channels) (thread [] δ′ P ∷ B) → UpTo A t T T′
+-- forNumbers says which variables of each definition are for numbers, as in `Ours`
+module _ (def : ℕ → Process) (forNumbers : ℕ → ℕ → Bool) where
+  -- two ends, T and T′, of a turn of thread t from the agent A
+  pub data UpTo (A : Agent) (t : Thread) (T T′ : Agent) : Type 0 where
+    -- the same threads
+    same-end : (Δ : Channels) (B : List Thread) → Is T Δ B → Is T′ Δ B → UpTo A t T T′
+    -- (new): the name of the channel, which is a new one
+    other-name : (B : List Thread) (c : ℕ) (P : Process) (ĉ ĉ′ : ℕ) → Rearranged (A .threads) (t ∷ B) → A .channels ĉ ≡ false → A .channels ĉ′ ≡ false
+        → Is T (adding (A .channels) ĉ) (thread [] (bind (t .env) c (channel ĉ)) P ∷ B)
+        → Is T′ (adding (A .channels) ĉ′) (thread [] (bind (t .env) c (channel ĉ′)) P ∷ B) → UpTo A t T T′
+    -- (send): which thread takes w, u or u′, and by which commitment on the channel. Each leaves all others, B or B′, as they were
+    other-taker : (u u′ : Thread) (B B′ : List Thread) (P : Process) (ĉ x x′ : ℕ) (R R′ : Process) (w : Value)
+        → Rearranged (A .threads) (t ∷ u ∷ B) → Rearranged (A .threads) (t ∷ u′ ∷ B′) → takes ĉ x R ∈ u .commitments → takes ĉ x′ R′ ∈ u′ .commitments
+        → Is T (A .channels) (thread [] (t .env) P ∷ thread [] (bind (u .env) x w) R ∷ B)
+        → Is T′ (A .channels) (thread [] (t .env) P ∷ thread [] (bind (u′ .env) x′ w) R′ ∷ B′) → UpTo A t T T′
+    -- (recv): which thread gives, and by which commitment on the channel, and so what is received
+    other-giver : (u u′ : Thread) (B B′ : List Thread) (P : Process) (ĉ x v v′ : ℕ) (R R′ : Process) (w w′ : Value)
+        → Rearranged (A .threads) (t ∷ u ∷ B) → Rearranged (A .threads) (t ∷ u′ ∷ B′) → gives ĉ v R ∈ u .commitments → gives ĉ v′ R′ ∈ u′ .commitments
+        → look (u .env) v ≡ some w → look (u′ .env) v′ ≡ some w′
+        → Is T (A .channels) (thread [] (bind (t .env) x w) P ∷ thread [] (u .env) R ∷ B)
+        → Is T′ (A .channels) (thread [] (bind (t .env) x w′) P ∷ thread [] (u′ .env) R′ ∷ B′) → UpTo A t T T′
+    -- document 01 leaves a wait for a branch with a false guard too (skip): how many waits there are in Σ wait
+    other-waits : (B : List Thread) (Γ : List Commitment) (n n′ : ℕ) → Rearranged (A .threads) (t ∷ B)
+        → Is T (A .channels) (thread Γ (t .env) (choice (waits (suc n))) ∷ B)
+        → Is T′ (A .channels) (thread Γ (t .env) (choice (waits (suc n′))) ∷ B) → UpTo A t T T′
+    -- document 01 begins numbers with 0 (zeros): what they are bound to after (call)
+    from-zero : (B : List Thread) (D : ℕ) (vs : List ℕ) (ws : List Value) (δ′ : Env) → Rearranged (A .threads) (t ∷ B)
+        → t .process ≡ invoke D vs → map (look (t .env)) vs ≡ map some ws → ((x : ℕ) → look δ′ x ≡ zeroed (forNumbers D x) (look (map some ws) x))
+        → Is T (A .channels) (thread [] (map some ws) (def D) ∷ B) → Is T′ (A .channels) (thread [] δ′ (def D) ∷ B) → UpTo A t T T′
 
 -- ---- the first reduction of a whole turn
 

@@ -1,5 +1,5 @@
 -- The moves of a thread alone are reductions: an end, a call, a wait, a tau or an assignment, a new channel. Assumes nothing but what the table grants.
-use Prim.Native.Nat.{ℕ, zero, suc, _+_, _<_}
+use Prim.Native.Nat.{ℕ, zero, suc, _+_, _-_, _<_}
 use native.Mathlib.Omega.{arith}
 use mathlib.Core.Path.{_≡_, refl, _∙_, fun-ext}
 use mathlib.Core.Logic.{inl, _≢_}
@@ -27,10 +27,12 @@ use Rattle.engine_laws.specs.Chosen.{Open, Creating}
 use Rattle.published.specs.Syntax.{Process, end, invoke, Sum, nothing, waits}
 use Rattle.published.specs.Agents as Agents
 use Rattle.published.specs.Agents.{_∈_, Commitment, Thread, Channels, adding, Agent, agent}
-use Rattle.published.specs.Rules.{Rearranged, same-first, swapped, twice, Acts, step, new, inert, more, Run, last, Turn, Ours, assigns}
+use Rattle.published.specs.Rules.{Rearranged, same-first, swapped, twice, step, new, inert, more, last, assigns}
+use Rattle.published.specs.Fired as Fired
+use Rattle.published.specs.Fired.{Rule, by-inert, by-step, by-new, by-passing, by-assigns, Fired, fired, Labels, ours-fire, firing, ActsBy, RunBy, TurnBy}
 use Rattle.published.specs.Lists.{same-order, turned-back}
 use Rattle.published_laws.specs.Readable.{Readable}
-use Rattle.published_laws.specs.Standing.{guardOf, prefixOf, sumBefore, nodeProcess, processAt, bodyOf, envOf, commitmentsFrom, waitingThread, readyThread, threadOf, threadsOf, channelsOf, agentOf}
+use Rattle.published_laws.specs.Standing.{guardOf, prefixOf, sumBefore, nodeProcess, processAt, bodyOf, forNumbers, envOf, commitmentsFrom, waitingThread, readyThread, threadOf, threadsOf, channelsOf, agentOf, OurRules, OurLabels}
 use Rattle.published_laws.specs.Unrolled.{process-at}
 use Rattle.published_laws.specs.Environments.{env-same, guard-same}
 use Rattle.published_laws.specs.Products.{Bench, ready-thread, waiting-thread, stored-first, row-first}
@@ -39,9 +41,13 @@ use Rattle.published_laws.specs.Passing.{Passed, others, tip, midway, le
 use Rattle.published_laws.specs.Afterwards.{tau-thread, assigned-thread, created-thread}
 
 -- a turn, by its reductions
-pub turn-by : (def : ℕ → Process) (More : Agent → Agent → Type 0) {A B P : List Thread} {t : Thread} {Δ : Channels} {T : Agent} → Rearranged A (t ∷ B)
-    → Run def More (agent Δ (t ∷ B)) T → Rearranged (T .threads) P → Turn def More (agent Δ A) t (agent (T .channels) P)
-turn-by def More {B = B} {T = T} p w q = record { others = B; brought = p; product = T .threads; run = w; put-back = q }
+pub turn-by : (def : ℕ → Process) (More : Agent → Agent → Type 0) (own : Labels More) (f : Fired) {A B P : List Thread} {t : Thread} {Δ : Channels} {T : Agent}
+    → Rearranged A (t ∷ B) → RunBy def More own f (agent Δ (t ∷ B)) T → Rearranged (T .threads) P
+    → TurnBy def More own (agent Δ A) t f (agent (T .channels) P)
+turn-by def More own f {B = B} {T = T} p (w, e) q = record {
+  turn = record { others = B; brought = p; product = T .threads; run = w; put-back = q };
+  ends = e;
+}
 
 module _ (tb : Table) (g : Granted tb) (rd : Readable tb) (s : State) (o : Orderly tb s) (t : ℕ) (l : t < maxThreads) (ready : isReady (thread s t) ≡ true)
     (b : Thread) (bn : Bench tb b) where
@@ -92,12 +98,12 @@ module _ (tb : Table) (g : Granted tb) (rd : Readable tb) (s : State) (o : Order
 
   -- ---- (inert)
 
-  pub ends-reduced : (More : Agent → Agent → Type 0) → kindOf tb (standsAt (thread s t)) ≢ 1 → kindOf tb (standsAt (thread s t)) ≢ 2
-      → Turn (bodyOf tb) More (agentOf tb b s) (readyThread tb (thread s t)) (agentOf tb b (written tb s t Ends))
-  unfolding agentOf channelsOf written withThread others
-  ends-reduced More m n =
+  pub ends-reduced : (More : Agent → Agent → Type 0) (own : Labels More) → kindOf tb (standsAt (thread s t)) ≢ 1 → kindOf tb (standsAt (thread s t)) ≢ 2
+      → TurnBy (bodyOf tb) More own (agentOf tb b s) (readyThread tb (thread s t)) (fired 0 by-inert) (agentOf tb b (written tb s t Ends))
+  unfolding agentOf channelsOf written withThread others firing Fired.Ends
+  ends-reduced More own m n =
       let start = rw (at-end m n) at own-first in
-      rw (at-end m n) (turn-by (bodyOf tb) More {T = agent (channelsOf s) rest} start (last inert) (same-order rest))
+      rw (at-end m n) (turn-by (bodyOf tb) More own (fired 0 by-inert) {T = agent (channelsOf s) rest} start (last inert, refl) (same-order rest))
 
   -- ---- a wait: (out), (in) and skip
 
@@ -116,71 +122,75 @@ module _ (tb : Table) (g : Granted tb) (rd : Readable tb) (s : State) (o : Order
         commitments-same tb row (waitingRow row) node slots (waiting-guard row tb) (branchCount tb (standsAt row)) 0,
       )
 
-  module _ (More : Agent → Agent → Type 0)
+  module _ (More : Agent → Agent → Type 0) (own : Labels More)
       (skips : (i : ℕ) → i < branchCount tb (standsAt (thread s t)) → guardHolds tb (branchAt tb (standsAt (thread s t)) i) (thread s t) ≡ false
-      → (A C : Agent) → Ours A C → More A C) where
+      → (A C : Agent) (x : OurRules tb A C) → (y : More A C) × (own A C y ≡ ours-fire (bodyOf tb) (forNumbers tb) A C x)) where
     waits-by : (n : ℕ) → branchCount tb (standsAt (thread s t)) ≡ n → 0 < n → kindOf tb (standsAt (thread s t)) ≡ 1
         → ((j : ℕ) → j < branchCount tb (standsAt (thread s t)) → Passed tb s t j)
-        → Turn (bodyOf tb) More (agentOf tb b s) (readyThread tb (thread s t)) (agentOf tb b (written tb s t Waits))
+        → TurnBy (bodyOf tb) More own (agentOf tb b s) (readyThread tb (thread s t)) (fired (n - 1) by-passing) (agentOf tb b (written tb s t Waits))
     unfolding agentOf channelsOf written withThread waits
     waits-by zero e z k p = absurd (omega arith)
     waits-by (suc n) e z k p =
         let Δ = channelsOf s in
         let row = thread s t in
         let q = sumBefore tb (processAt tb) nothing (standsAt row) 0 (suc n) in
-        let all = pass-all tb g rd s o t l ready b bn More skips rest (λ x i. i) Δ n 0 (omega arith) p [] in
+        let all = pass-all tb g rd s o t l ready b bn More own skips rest (λ x i. i) Δ n 0 (omega arith) p [] in
         let no-more : 0 + suc n ≡ suc n = omega arith in
-        let w : Run (bodyOf tb) More (agent Δ (midway tb g rd s o t l ready b bn [] q ∷ rest)) (agent Δ (threadOf tb (waitingRow row) ∷ rest)) =
+        let w : RunBy (bodyOf tb) More own (fired n by-passing) (agent Δ (midway tb g rd s o t l ready b bn [] q ∷ rest))
+        (agent Δ (threadOf tb (waitingRow row) ∷ rest)) =
         rw (wait-thread, e) (rw no-more at all) in
         let start : Rearranged (b ∷ threadsOf tb (s .threads)) (midway tb g rd s o t l ready b bn [] q ∷ rest) = rw (at-choice k, e) at own-first in
-        rw (at-choice k, e) (turn-by (bodyOf tb) More {T = agent Δ (threadOf tb (waitingRow row) ∷ rest)} start w
+        let last-one : suc n - 1 ≡ n = omega arith in
+        rw (at-choice k, e, last-one) (turn-by (bodyOf tb) More own (fired n by-passing) {T = agent Δ (threadOf tb (waitingRow row) ∷ rest)} start w
         (turned-back (new-first (waitingRow row) (waiting-used (waitingRow row) (waiting-waits row)))))
 
     pub waits-reduced : kindOf tb (standsAt (thread s t)) ≡ 1 → ((j : ℕ) → j < branchCount tb (standsAt (thread s t)) → Passed tb s t j)
-        → Turn (bodyOf tb) More (agentOf tb b s) (readyThread tb (thread s t)) (agentOf tb b (written tb s t Waits))
+        → TurnBy (bodyOf tb) More own (agentOf tb b s) (readyThread tb (thread s t)) (fired (branchCount tb (standsAt (thread s t)) - 1) by-passing)
+        (agentOf tb b (written tb s t Waits))
     waits-reduced k p = waits-by (branchCount tb (standsAt (thread s t))) refl (rd .some-branch (standsAt (thread s t)) node-in k) k p
 
   -- ---- the first branch that goes ahead is branch k
 
-  module _ (More : Agent → Agent → Type 0) (k : ℕ) (kind : kindOf tb (standsAt (thread s t)) ≡ 1) (m : k < branchCount tb (standsAt (thread s t)))
+  module _ (More : Agent → Agent → Type 0) (own : Labels More) (k : ℕ) (kind : kindOf tb (standsAt (thread s t)) ≡ 1) (m : k < branchCount tb (standsAt (thread s t)))
       (before : (j : ℕ) → j < k → Passed tb s t j) where
-    -- beside the threads B: from a reduction of it, whatever was committed and whatever branches are behind it
-    pub led : (B : List Thread) (D : Channels) (h : Thread) (C P : List Thread) → Rearranged (others tb g rd s o t l ready b bn) B
+    -- beside the threads B: from a reduction of it by rule r, whatever was committed and whatever branches are behind it
+    pub led : (r : Rule) (B : List Thread) (D : Channels) (h : Thread) (C P : List Thread) → Rearranged (others tb g rd s o t l ready b bn) B
         → (among : (x : Thread) → x ∈ B → x ∈ others tb g rd s o t l ready b bn)
-        → ((Γ : List Commitment) (q : Sum) → Acts (bodyOf tb) More
+        → ((Γ : List Commitment) (q : Sum) → ActsBy (bodyOf tb) More own (fired 0 r)
         (agent (channelsOf s) (midway tb g rd s o t l ready b bn Γ (tip tb g rd s o t l ready b bn k q) ∷ B)) (agent D (h ∷ C)))
         → Rearranged (h ∷ C) P
-        → Turn (bodyOf tb) More (agent (channelsOf s) (b ∷ threadsOf tb (s .threads))) (readyThread tb (thread s t)) (agent D P)
-    led B D h C P p among act q =
+        → TurnBy (bodyOf tb) More own (agent (channelsOf s) (b ∷ threadsOf tb (s .threads))) (readyThread tb (thread s t)) (fired k r) (agent D P)
+    led r B D h C P p among act q =
         let n = standsAt (thread s t) in
         let Q = sumBefore tb (processAt tb) nothing n 0 (branchCount tb n) in
         let z : k ≡ 0 + k = omega arith in
-        let x = lead tb g rd s o t l ready b bn More B among (channelsOf s) D h C k m before (λ Γ r. inl (act Γ r)) (branchCount tb n) k 0 m z [] nothing in
-        let w = leads-run tb g rd s o t l ready b bn More B among (channelsOf s) D h C [] Q x in
+        let x = lead tb g rd s o t l ready b bn More own B among (channelsOf s) D h C k m before r (λ Γ y. inl (act Γ y)) (branchCount tb n) k 0 m z [] nothing in
+        let w = leads-run tb g rd s o t l ready b bn More own B among (channelsOf s) D h C (fired k r) [] Q x in
         let start = rw (at-choice kind) at own-first in
-        rw (at-choice kind) (turn-by (bodyOf tb) More (twice start (same-first p)) w q)
+        rw (at-choice kind) (turn-by (bodyOf tb) More own (fired k r) (twice start (same-first p)) w q)
 
     -- it writes the row of the thread alone
-    single : (row : List ℕ) → inUse row ≡ true → (D : Channels)
-        → ((Γ : List Commitment) (q : Sum) → Acts (bodyOf tb) More
+    single : (r : Rule) (row : List ℕ) → inUse row ≡ true → (D : Channels)
+        → ((Γ : List Commitment) (q : Sum) → ActsBy (bodyOf tb) More own (fired 0 r)
         (agent (channelsOf s) (midway tb g rd s o t l ready b bn Γ (tip tb g rd s o t l ready b bn k q) ∷ rest))
         (agent D (threadOf tb row ∷ rest)))
-        → Turn (bodyOf tb) More (agent (channelsOf s) (b ∷ threadsOf tb (s .threads))) (readyThread tb (thread s t))
+        → TurnBy (bodyOf tb) More own (agent (channelsOf s) (b ∷ threadsOf tb (s .threads))) (readyThread tb (thread s t)) (fired k r)
         (agent D (b ∷ threadsOf tb (set (s .threads) t row)))
-    single row u D f =
-        led rest D (threadOf tb row) rest (b ∷ threadsOf tb (set (s .threads) t row)) (same-order rest) (λ x i. i) f (turned-back (new-first row u))
+    single r row u D f =
+        led r rest D (threadOf tb row) rest (b ∷ threadsOf tb (set (s .threads) t row)) (same-order rest) (λ x i. i) f (turned-back (new-first row u))
 
     guard-true : guardHolds tb (branchAt tb (standsAt (thread s t)) k) (thread s t) ≡ true
         → Agents.holds (envOf tb (thread s t)) (guardOf tb (branchAt tb (standsAt (thread s t)) k)) ≡ true
     guard-true e = guard-same tb g rd (typeIn s) (thread s t) sound used k m ∙ e
 
     -- (step)
-    pub tau-reduced : Open tb s t k Tau → Turn (bodyOf tb) More (agentOf tb b s) (readyThread tb (thread s t)) (agentOf tb b (written tb s t (Goes k)))
-    unfolding agentOf channelsOf written withThread tip prefixOf
+    pub tau-reduced : Open tb s t k Tau
+        → TurnBy (bodyOf tb) More own (agentOf tb b s) (readyThread tb (thread s t)) (fired k by-step) (agentOf tb b (written tb s t (Goes k)))
+    unfolding agentOf channelsOf written withThread tip prefixOf firing
     tau-reduced x =
         let row = thread s t in
-        single (goneBy tb row k) (ready-used (goneBy tb row k) (goneBy-ready tb row k)) (channelsOf s)
-        (λ Γ q. rw (tau-thread tb g rd (typeIn s) row sound used k m (x .does), x .does) (step (guard-true (x .passes))))
+        single by-step (goneBy tb row k) (ready-used (goneBy tb row k) (goneBy-ready tb row k)) (channelsOf s)
+        (λ Γ q. rw (tau-thread tb g rd (typeIn s) row sound used k m (x .does), x .does) (step (guard-true (x .passes)), refl))
 
     -- (new)
     module _ (c : ℕ) (x : Creating tb s t k c) where
@@ -197,21 +207,24 @@ module _ (tb : Table) (g : Granted tb) (rd : Readable tb) (s : State) (o : Order
           rw (q, eq-eqb c c refl, typed-same s (o .shaped) c y (x .channel-in), ne-eqb y 0 type-there))
           (λ z. rw (z, typed-other s (o .shaped) c y (x .channel-in) e (eqb-false e c z))))
 
-      pub creation-reduced : Turn (bodyOf tb) More (agentOf tb b s) (readyThread tb (thread s t)) (agentOf tb b (written tb s t (Creates k c)))
-      unfolding agentOf channelsOf written withMark typed withThread withChannel tip prefixOf
+      pub creation-reduced : TurnBy (bodyOf tb) More own (agentOf tb b s) (readyThread tb (thread s t)) (fired k (by-new c))
+          (agentOf tb b (written tb s t (Creates k c)))
+      unfolding agentOf channelsOf written withMark typed withThread withChannel tip prefixOf firing
       creation-reduced =
           let row = thread s t in
           let free : channelsOf s c ≡ false = rw (x .untyped) in
           rw channels-with
-          (single (createdBy tb row k c) (ready-used (createdBy tb row k c) (createdBy-ready tb row k c)) (adding (channelsOf s) c)
+          (single (by-new c) (createdBy tb row k c) (ready-used (createdBy tb row k c) (createdBy-ready tb row k c)) (adding (channelsOf s) c)
           (λ Γ q. rw (created-thread tb g rd (typeIn s) row sound used k m (x .takes .does) c (x .channel-in), x .takes .does)
-          (new c (guard-true (x .takes .passes)) free)))
+          (new c (guard-true (x .takes .passes)) free, refl)))
 
   -- an assignment, document 01's own
   pub assignment-reduced : (k : ℕ) → kindOf tb (standsAt (thread s t)) ≡ 1 → k < branchCount tb (standsAt (thread s t)) → ((j : ℕ) → j < k → Passed tb s t j)
-      → Open tb s t k Assignment → Turn (bodyOf tb) Ours (agentOf tb b s) (readyThread tb (thread s t)) (agentOf tb b (written tb s t (Goes k)))
-  unfolding agentOf channelsOf written withThread tip prefixOf
+      → Open tb s t k Assignment
+      → TurnBy (bodyOf tb) (OurRules tb) (OurLabels tb) (agentOf tb b s) (readyThread tb (thread s t)) (fired k by-assigns) (agentOf tb b (written tb s t (Goes k)))
+  unfolding agentOf channelsOf written withThread tip prefixOf firing ours-fire
   assignment-reduced k kind m before x =
       let row = thread s t in
-      single Ours k kind m before (goneBy tb row k) (ready-used (goneBy tb row k) (goneBy-ready tb row k)) (channelsOf s)
-      (λ Γ q. rw (assigned-thread tb g rd (typeIn s) row sound used k m (x .does), x .does) (more (assigns (guard-true Ours k kind m before (x .passes)))))
+      single (OurRules tb) (OurLabels tb) k kind m before by-assigns (goneBy tb row k) (ready-used (goneBy tb row k) (goneBy-ready tb row k)) (channelsOf s)
+      (λ Γ q. rw (assigned-thread tb g rd (typeIn s) row sound used k m (x .does), x .does)
+      (more (assigns (guard-true (OurRules tb) (OurLabels tb) k kind m before (x .passes))), refl))

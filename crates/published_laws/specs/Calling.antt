@@ -1,9 +1,10 @@
--- A call is (call), and zeros for the numbers that the definition has besides its parameters. Assumes nothing but what the table grants.
+-- A call is (call), and zeros for the numbers that the definition has besides its parameters; where it has none, (call) alone. Assumes nothing but what the
+-- table grants.
 use Prim.Native.Nat.{ℕ, suc, _<_, _≤_}
 use native.Mathlib.Omega.{arith}
 use mathlib.Core.Path.{_≡_, refl, sym, _∙_, ap}
-use mathlib.Core.Logic.{_⊎_, inl, inr, ⊎-elim, _≢_}
-use mathlib.Core.Bool.{true, cond}
+use mathlib.Core.Logic.{inr, _≢_}
+use mathlib.Core.Bool.{Bool, true, false, cond}
 use mathlib.Core.List.{List, [], _∷_, map}
 use mathlib.Core.Option.{none, some, Option·getD}
 use lib.Dec.{ltb, eqb}
@@ -22,12 +23,15 @@ use Rattle.rules.specs.declared.Move.the-variants.{Calls}
 use Rattle.granted.specs.Granted.{Granted, Calling, Definition}
 use Rattle.engine_laws.specs.Reading.Laws.{head-slot, ready-used}
 use Rattle.engine_laws.specs.Sound.{RowSound, Orderly}
+use Rattle.published.specs.Syntax.{invoke}
 use Rattle.published.specs.Agents as Agents
-use Rattle.published.specs.Agents.{Value, Env, look, Thread, agent}
-use Rattle.published.specs.Rules.{Rearranged, call, more, last, pass, Turn, Ours, zeros}
+use Rattle.published.specs.Agents.{Value, Env, look, Thread, Agent, agent}
+use Rattle.published.specs.Rules.{Rearranged, call, more, last, pass, zeroed, zeros}
+use Rattle.published.specs.Fired.{by-call, fired, Labels, ours-fire, firing, Ends, RunBy, TurnBy}
 use Rattle.published.specs.Lists.{turned-back}
 use Rattle.published_laws.specs.Readable.{Readable}
-use Rattle.published_laws.specs.Standing.{bodyOf, valueAs, slotValue, envOf, readyThread, threadOf, threadsOf, channelsOf, agentOf}
+use Rattle.published_laws.specs.Standing.{bodyOf, forNumbers, valueAs, slotValue, envOf, readyThread, threadOf, threadsOf, channelsOf, agentOf, OurRules, OurLabels}
+use Rattle.published_laws.specs.Trimmed.{look-trimmed, trimmed-same, trimmed-given}
 use Rattle.published_laws.specs.Environments.{number-value, look-env, look-past, slot-value, filled-value, look-filled}
 use Rattle.published_laws.specs.Products.{Bench}
 use Rattle.published_laws.specs.Passing.{others}
@@ -51,13 +55,17 @@ no-value ty n = rw (ne-eqb ty 0 n)
 -- ---- what stands in a slot that is no parameter
 
 -- nothing, or 0 where it is for numbers
-blank-value : (tb : Table) (d k : ℕ) → k < slotCount tb d
-    → (valueAs (slotType tb d k) (blank tb d k) ≡ none) ⊎ (valueAs (slotType tb d k) (blank tb d k) ≡ some (Agents.number 0))
-unfolding blank channelSlot
+blank-value : (tb : Table) (d k : ℕ) → k < slotCount tb d → valueAs (slotType tb d k) (blank tb d k) ≡ zeroed (forNumbers tb d k) none
+unfolding blank channelSlot forNumbers zeroed
 blank-value tb d k l =
     caseB (eqb (slotType tb d k) 0)
-    (λ y. inr (rw (lt-ltb k (slotCount tb d) l, y) (number-value (slotType tb d k) 0 (eqb-true (slotType tb d k) 0 y))))
-    (λ y. inl (rw (lt-ltb k (slotCount tb d) l, y) (no-value (slotType tb d k) (eqb-false (slotType tb d k) 0 y))))
+    (λ y. rw (lt-ltb k (slotCount tb d) l, y) (number-value (slotType tb d k) 0 (eqb-true (slotType tb d k) 0 y)))
+    (λ y. rw (lt-ltb k (slotCount tb d) l, y) (no-value (slotType tb d k) (eqb-false (slotType tb d k) 0 y)))
+
+zeroed-some : (y : Bool) (v : Value) → zeroed y (some v) ≡ some v
+unfolding zeroed
+zeroed-some true v = refl
+zeroed-some false v = refl
 
 module _ (tb : Table) (g : Granted tb) (rd : Readable tb) (s : State) (o : Orderly tb s) (t : ℕ) (l : t < maxThreads) (ready : isReady (thread s t) ≡ true)
     (b : Thread) (bn : Bench tb b) (kind : kindOf tb (standsAt (thread s t)) ≡ 2) where
@@ -148,8 +156,8 @@ module _ (tb : Table) (g : Granted tb) (rd : Readable tb) (s : State) (o : Order
       (λ y. look-past tb after k (ltb-false k rowSlots y))
 
   -- the parameters have the arguments' values, and the numbers besides are 0
-  pub entered-zeros : (x : ℕ) → (look (envOf tb after) x ≡ look (map some values) x)
-      ⊎ ((look (map some values) x ≡ none) × (look (envOf tb after) x ≡ some (Agents.number 0)))
+  pub entered-zeros : (x : ℕ) → look (envOf tb after) x ≡ zeroed (forNumbers tb d x) (look (map some values) x)
+  unfolding forNumbers zeroed
   entered-zeros x =
       caseB (ltb x (slotCount tb d))
       (λ y. let n = ltb-true x (slotCount tb d) y in
@@ -160,12 +168,12 @@ module _ (tb : Table) (g : Granted tb) (rd : Readable tb) (s : State) (o : Order
       let h : look δ (arg x) ≡ valueAs (slotType tb d x) (slotOf (thread s t) (arg x)) =
       look-filled tb g rd (typeIn s) (thread s t) sound used (arg x) (calling .argument-slot x p)
       ∙ ap (λ (ty : ℕ). valueAs ty (slotOf (thread s t) (arg x))) (calling .argument-typed x p) in
-      inl (rw z at v ∙ sym h ∙ argument-value x p ∙ sym (given-value x p)))
+      rw z at v ∙ sym h ∙ argument-value x p ∙ sym (zeroed-some (forNumbers tb d x) (valueFor x))
+      ∙ ap (zeroed (forNumbers tb d x)) (sym (given-value x p)))
       (λ z. let p = ltb-false x (parameters tb d) z in
-      let e : look (envOf tb after) x ≡ valueAs (slotType tb d x) (blank tb d x) = rw z at v in
-      ⊎-elim (λ q. inl (e ∙ q ∙ sym (given-none x p))) (λ q. inr (given-none x p, e ∙ q)) (blank-value tb d x n)))
+      (rw z at v) ∙ blank-value tb d x n ∙ ap (zeroed (forNumbers tb d x)) (sym (given-none x p))))
       (λ y. let n = ltb-false x (slotCount tb d) y in
-      inl (after-none x n ∙ sym (given-none x (omega (arith, entry .few-parameters)))))
+      after-none x n ∙ rw (y, given-none x (omega (arith, entry .few-parameters))))
 
   pub after-thread : threadOf tb after ≡ Agents.thread [] (envOf tb after) (bodyOf tb d)
   unfolding bodyOf entered
@@ -175,13 +183,44 @@ module _ (tb : Table) (g : Granted tb) (rd : Readable tb) (s : State) (o : Order
   unfolding entered
   after-used = refl
 
-  -- (call)
-  pub calls-reduced : Turn (bodyOf tb) Ours (agentOf tb b s) (readyThread tb (thread s t)) (agentOf tb b (written tb s t Calls))
-  unfolding agentOf channelsOf written withThread
-  calls-reduced =
-      let rest = others tb g rd s o t l ready b bn in
-      let start = rw (at-call tb g rd s o t l ready b bn kind) at (own-first tb g rd s o t l ready b bn) in
-      let end : Rearranged (Agents.thread [] (envOf tb after) (bodyOf tb d) ∷ rest) (b ∷ threadsOf tb (set (s .threads) t after)) =
-      rw after-thread at (turned-back (new-first tb g rd s o t l ready b bn after after-used)) in
-      rw (at-call tb g rd s o t l ready b bn kind) (turn-by (bodyOf tb) Ours {T = agent (channelsOf s) (Agents.thread [] (envOf tb after) (bodyOf tb d) ∷ rest)}
-      start (pass (call values evaluated) (last (more (zeros entered-zeros)))) end)
+  -- ---- (call)
+
+  module _ (More : Agent → Agent → Type 0) (own : Labels More) where
+    by-run : RunBy (bodyOf tb) More own (fired 0 by-call)
+        (agent (channelsOf s) (Agents.thread [] δ (invoke d (tabulate (parameters tb d) arg)) ∷ others tb g rd s o t l ready b bn))
+        (agent (channelsOf s) (Agents.thread [] (envOf tb after) (bodyOf tb d) ∷ others tb g rd s o t l ready b bn))
+        → TurnBy (bodyOf tb) More own (agentOf tb b s) (readyThread tb (thread s t)) (fired 0 by-call) (agentOf tb b (written tb s t Calls))
+    unfolding agentOf channelsOf written withThread
+    by-run w =
+        let rest = others tb g rd s o t l ready b bn in
+        let start = rw (at-call tb g rd s o t l ready b bn kind) at (own-first tb g rd s o t l ready b bn) in
+        let end : Rearranged (Agents.thread [] (envOf tb after) (bodyOf tb d) ∷ rest) (b ∷ threadsOf tb (set (s .threads) t after)) =
+        rw after-thread at (turned-back (new-first tb g rd s o t l ready b bn after after-used)) in
+        rw (at-call tb g rd s o t l ready b bn kind)
+        (turn-by (bodyOf tb) More own (fired 0 by-call) {T = agent (channelsOf s) (Agents.thread [] (envOf tb after) (bodyOf tb d) ∷ rest)} start w end)
+
+  -- and then zeros
+  pub calls-reduced : TurnBy (bodyOf tb) (OurRules tb) (OurLabels tb) (agentOf tb b s) (readyThread tb (thread s t)) (fired 0 by-call)
+      (agentOf tb b (written tb s t Calls))
+  unfolding firing ours-fire Ends
+  calls-reduced = by-run (OurRules tb) (OurLabels tb) (pass (call values evaluated) (last (more (zeros d entered-zeros))), inr (refl, refl, refl))
+
+  -- by 002 alone, where the definition has no numbers besides its parameters
+  module _ (no-numbers : (k : ℕ) → parameters tb (callee tb (standsAt (thread s t))) ≤ k → forNumbers tb (callee tb (standsAt (thread s t))) k ≡ false) where
+    nothing-zeroed : (x : ℕ) → zeroed (forNumbers tb d x) (look (map some values) x) ≡ look (map some values) x
+    unfolding zeroed
+    nothing-zeroed x =
+        caseB (ltb x (parameters tb d))
+        (λ z. rw (given-value x (ltb-true x (parameters tb d) z)) (zeroed-some (forNumbers tb d x) (valueFor x)))
+        (λ z. rw (no-numbers x (ltb-false x (parameters tb d) z)))
+
+    as-given : envOf tb after ≡ map some values
+    unfolding envOf
+    as-given =
+        trimmed-same (tabulate rowSlots (slotValue tb after)) (map some values)
+        (λ x. sym (look-trimmed (tabulate rowSlots (slotValue tb after)) x) ∙ entered-zeros x ∙ nothing-zeroed x) ∙ trimmed-given values
+
+    pub calls-published : (More : Agent → Agent → Type 0) (own : Labels More)
+        → TurnBy (bodyOf tb) More own (agentOf tb b s) (readyThread tb (thread s t)) (fired 0 by-call) (agentOf tb b (written tb s t Calls))
+    unfolding firing Ends
+    calls-published More own = by-run More own (rw as-given (last (call values evaluated), refl))

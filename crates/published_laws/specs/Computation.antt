@@ -15,7 +15,7 @@ use Rattle.table.specs.Table.{Table, tableOf, ports}
 use Rattle.loader.specs.Load.{tableLength, accepted}
 use Rattle.state.specs.State.{stateLength, view, thread}
 use Rattle.rules.specs.Start.{entered, started}
-use Rattle.rules.specs.Calls.{startBy, startCall, stepCall, giveBy, giveCall, takeBy, takeCall, runCall}
+use Rattle.rules.specs.Calls.{startBy, startCall, stepCall, giveBy, giveCall, takeBy, takeCall, courseOf, runCall}
 use Rattle.rules.specs.declared.Stepped.{Stepped}
 use Rattle.rules.specs.declared.Stepped.the-variants as Stepped
 use Rattle.rules.specs.declared.Given.{Given}
@@ -37,13 +37,14 @@ use Rattle.guarantee.specs.Kept.{list-sound}
 use Rattle.published.specs.Syntax.{Process, choice, nothing, branch, always, output, input, assign, constant, waiting, someWait}
 use Rattle.published.specs.Agents as Agents
 use Rattle.published.specs.Agents.{_∈_, Value, refers, valueOf, Thread}
-use Rattle.published.specs.Rules.{Reduces, acts, more, stays, goes, Reaches, Ours, assigns}
+use Rattle.published.specs.Rules.{Reduces, acts, more, stays, goes, Reaches, assigns}
+use Rattle.published.specs.Fired.{turns-reach}
 use Rattle.published.specs.Lists.{many-on, stepped-reaches}
 use Rattle.published.specs.Polarity.{OnePolarity, Bare, our-proposition-2}
-use Rattle.published_laws.specs.Standing.{bodyOf, envOf, threadOf, agentOf}
+use Rattle.published_laws.specs.Standing.{bodyOf, forNumbers, envOf, threadOf, agentOf, OurRules, OurLabels}
 use Rattle.published_laws.specs.Benches.{portsAnd, bench-is, look-port, look-own, bind-own}
 use Rattle.published_laws.specs.Starting.{started-agent}
-use Rattle.published_laws.specs.Running.{step-call-reduced, run-call-reduced, give-call-reduced, take-call-reduced, collect-call-reduced}
+use Rattle.published_laws.specs.Running.{step-call-reduced, run-done, run-call-reduced, give-call-reduced, take-call-reduced, collect-call-reduced}
 
 -- what the bench's own variable has: nothing yet, or a number
 pub data Own : Option Value → Type 0 where
@@ -67,7 +68,7 @@ module _ (table : List ℕ) (ok : accepted table ≡ true) (fit : (i : ℕ) → 
   pub record Leads (state later : List ℕ) (E E′ : Process) : Type 0 where
     pub acts-first : waiting E ≡ false
     pub from : (o : Option Value) → Own o
-        → (o′ : Option Value) × Own o′ × Reaches (bodyOf (tableOf table)) Ours (agentOf (tableOf table) (benchAt o E) (view state))
+        → (o′ : Option Value) × Own o′ × Reaches (bodyOf (tableOf table)) (OurRules (tableOf table)) (agentOf (tableOf table) (benchAt o E) (view state))
         (agentOf (tableOf table) (benchAt o′ E′) (view later))
 
   -- nothing happens
@@ -77,7 +78,7 @@ module _ (table : List ℕ) (ok : accepted table ≡ true) (fit : (i : ℕ) → 
   leads-on : (s t u : List ℕ) (E F G : Process) → Leads s t E F → Leads t u F G → Leads s u E G
   leads-on s t u E F G a b = record {
     acts-first = a .acts-first;
-    from = λ o h. (let (p, i, x) = a .from o h in let (q, j, y) = b .from p i in (q, j, many-on (Reduces (bodyOf tb) Ours) x y));
+    from = λ o h. (let (p, i, x) = a .from o h in let (q, j, y) = b .from p i in (q, j, many-on (Reduces (bodyOf tb) (OurRules tb)) x y));
   }
 
   module _ (state : List ℕ) (sb : SoundBuffer table state) (E′ : Process) (w : waiting E′ ≡ false) where
@@ -89,9 +90,9 @@ module _ (table : List ℕ) (ok : accepted table ≡ true) (fit : (i : ℕ) → 
       from = λ o h. (
         o,
         h,
-        stepped-reaches (bodyOf tb) Ours (agentOf tb (benchAt o E′) (view state)) (threadOf tb (thread (view state) t))
+        stepped-reaches (bodyOf tb) (OurRules tb) (agentOf tb (benchAt o E′) (view state)) (threadOf tb (thread (view state) t))
             (agentOf tb (benchAt o E′) (view (stepCall table state t .state)))
-            (step-call-reduced table ok fit state sb (benchAt o E′) (bench-is tb o (own-refers o h) E′ w) t n d e),
+            (step-call-reduced table ok fit state sb (benchAt o E′) (bench-is tb o (own-refers o h) E′ w) t n d e .2 .stepped),
       );
     }
     stepped-by t (Stepped.Refused r) e = nothing-happens state (stepCall table state t .state) (step-refused-keeps table state t r e) E′ w
@@ -99,13 +100,19 @@ module _ (table : List ℕ) (ok : accepted table ≡ true) (fit : (i : ℕ) → 
     ran-by : (n : ℕ) → Leads state (runCall table state n .state) E′ E′
     ran-by n = record {
       acts-first = w;
-      from = λ o h. (o, h, run-call-reduced table ok fit state sb (benchAt o E′) (bench-is tb o (own-refers o h) E′ w) n);
+      from = λ o h. (
+        o,
+        h,
+        turns-reach (bodyOf tb) (OurRules tb) (OurLabels tb)
+            (run-call-reduced table ok fit state sb (benchAt o E′) (bench-is tb o (own-refers o h) E′ w) n (courseOf tb n (view state) .steps)
+            (courseOf tb n (view state) .reason) (run-done table ok fit state sb (benchAt o E′) (bench-is tb o (own-refers o h) E′ w) n)),
+      );
     }
 
     collected-by : Leads state (collectCall table state .state) E′ E′
     collected-by = record {
       acts-first = w;
-      from = λ o h. (o, h, collect-call-reduced table ok fit state sb (benchAt o E′) (bench-is tb o (own-refers o h) E′ w) (bodyOf tb) Ours);
+      from = λ o h. (o, h, collect-call-reduced table ok fit state sb (benchAt o E′) (bench-is tb o (own-refers o h) E′ w) (bodyOf tb) (OurRules tb));
     }
 
     -- ---- give: the bench sets its variable to the number, and sends it
@@ -119,7 +126,7 @@ module _ (table : List ℕ) (ok : accepted table ≡ true) (fit : (i : ℕ) → 
     sending p = choice (branch always (output p (ports (tableOf table))) E′ nothing)
 
     set-first : (p v : ℕ) (o : Option Value)
-        → Reaches (bodyOf tb) Ours (agentOf tb (benchAt o (choice (branch always (assign (ports tb) (constant v)) (sending p) nothing))) (view state))
+        → Reaches (bodyOf tb) (OurRules tb) (agentOf tb (benchAt o (choice (branch always (assign (ports tb) (constant v)) (sending p) nothing))) (view state))
         (agentOf tb (benchAt (some (Agents.number v)) (sending p)) (view state))
     unfolding agentOf Agents.holds valueOf
     set-first p v o = rw (← bind-own tb o (Agents.number v)) (goes (acts (more (assigns refl))) stays)
@@ -128,13 +135,13 @@ module _ (table : List ℕ) (ok : accepted table ≡ true) (fit : (i : ℕ) → 
     unfolding waiting someWait
     given-by p v l (Given.Met u) e =
         let δ = portsAnd tb (some (Agents.number v)) in
-        let last = stepped-reaches (bodyOf tb) Ours (agentOf tb (benchAt (some (Agents.number v)) (sending p)) (view state))
+        let last = stepped-reaches (bodyOf tb) (OurRules tb) (agentOf tb (benchAt (some (Agents.number v)) (sending p)) (view state))
         (benchAt (some (Agents.number v)) (sending p))
         (agentOf tb (benchAt (some (Agents.number v)) E′) (view (giveCall table state p v .state)))
-        (give-call-reduced table ok fit state sb (bodyOf tb) Ours p δ p (ports tb) E′ nothing (look-port tb (some (Agents.number v)) p (given-port p v u e)) v l
-        (look-own tb (some (Agents.number v))) (bench-is tb (some (Agents.number v)) (own-refers (some (Agents.number v)) (a-number v)) E′ w) u e) in (
+        (give-call-reduced table ok fit state sb (bodyOf tb) (OurRules tb) (OurLabels tb) p δ p (ports tb) E′ nothing (look-port tb (some (Agents.number v)) p (given-port p v u e)) v l
+        (look-own tb (some (Agents.number v))) (bench-is tb (some (Agents.number v)) (own-refers (some (Agents.number v)) (a-number v)) E′ w) u e .1 .stepped) in (
           choice (branch always (assign (ports tb) (constant v)) (sending p) nothing),
-          record { acts-first = refl; from = λ o h. (some (Agents.number v), a-number v, many-on (Reduces (bodyOf tb) Ours) (set-first p v o) last) },
+          record { acts-first = refl; from = λ o h. (some (Agents.number v), a-number v, many-on (Reduces (bodyOf tb) (OurRules tb)) (set-first p v o) last) },
         )
     given-by p v l Given.Nobody e = (E′, nothing-happens state (giveCall table state p v .state) (give-nobody-keeps table state p v e) E′ w)
     given-by p v l (Given.Refused r) e = (E′, nothing-happens state (giveCall table state p v .state) (give-refused-keeps table state p v r e) E′ w)
@@ -159,14 +166,14 @@ module _ (table : List ℕ) (ok : accepted table ≡ true) (fit : (i : ℕ) → 
       },
     )
       where
-        received : (o : Option Value) → Reaches (bodyOf tb) Ours (agentOf tb (benchAt o (receiving p)) (view state))
+        received : (o : Option Value) → Reaches (bodyOf tb) (OurRules tb) (agentOf tb (benchAt o (receiving p)) (view state))
             (agentOf tb (benchAt (some (Agents.number v)) E′) (view (takeCall table state p .state)))
         received o =
             let bn = bench-is tb (some (Agents.number v)) (own-refers (some (Agents.number v)) (a-number v)) E′ w in
             let q = bind-own tb o (Agents.number v) in
-            rw (← q) (stepped-reaches (bodyOf tb) Ours (agentOf tb (benchAt o (receiving p)) (view state)) (benchAt o (receiving p)) _
-            (take-call-reduced table ok fit state sb (bodyOf tb) Ours p (portsAnd tb o) p (ports tb) E′ nothing (look-port tb o p (taken-port p u v e)) v
-            (rw q bn) u e))
+            rw (← q) (stepped-reaches (bodyOf tb) (OurRules tb) (agentOf tb (benchAt o (receiving p)) (view state)) (benchAt o (receiving p)) _
+            (take-call-reduced table ok fit state sb (bodyOf tb) (OurRules tb) (OurLabels tb) p (portsAnd tb o) p (ports tb) E′ nothing (look-port tb o p (taken-port p u v e)) v
+            (rw q bn) u e .1 .stepped))
     taken-by p Taken.Nobody e = (E′, nothing-happens state (takeCall table state p .state) (take-nobody-keeps table state p e) E′ w)
     taken-by p (Taken.Refused r) e = (E′, nothing-happens state (takeCall table state p .state) (take-refused-keeps table state p r e) E′ w)
 
@@ -229,6 +236,6 @@ module _ (table : List ℕ) (ok : accepted table ≡ true) (fit : (i : ℕ) → 
       let (o′, i, p) = h .from none no-number in
       let p′ = rw (start-view state long) at p in (
         o′,
-        our-proposition-2 (bodyOf tb) (agentOf tb (benchAt none E) (started tb)) (agentOf tb (benchAt o′ E′) (view (reachedBy table state ks)))
+        our-proposition-2 (bodyOf tb) (forNumbers tb) (agentOf tb (benchAt none E) (started tb)) (agentOf tb (benchAt o′ E′) (view (reachedBy table state ks)))
             (start-bare none E) p′,
       )

@@ -39,11 +39,12 @@ use Rattle.published.specs.Agents as Agents
 use Rattle.published.specs.Agents.{_∈_, look, Commitment, Thread, Channels, Agent, agent}
 use Rattle.published.specs.Rules.{Rearranged, same-first, twice, Many, Reclaims, Nothing}
 use Rattle.published.specs.Lists.{in-rearranged, turned-back}
+use Rattle.published.specs.Fired.{nothing-fires}
 use Rattle.published.specs.Orders.{cancelled}
 use Rattle.published.specs.Choices.{Sends, Receives, ByAction, ByCommitment, ByProcess, Of, same-channel, same-value}
 use Rattle.published.specs.Whole.{Whole, WholeTurn, Is, UpTo, same-end, other-name, other-taker, other-giver, other-waits, from-zero, whole-of}
 use Rattle.published_laws.specs.Readable.{Readable}
-use Rattle.published_laws.specs.Standing.{prefixOf, processAt, bodyOf, envOf, commitmentsFrom, waitingThread, readyThread, threadOf, threadsOf, channelsOf, agentOf}
+use Rattle.published_laws.specs.Standing.{prefixOf, processAt, bodyOf, forNumbers, envOf, commitmentsFrom, waitingThread, readyThread, threadOf, threadsOf, channelsOf, agentOf}
 use Rattle.published_laws.specs.Products.{Bench, ready-thread}
 use Rattle.published_laws.specs.Reclaims.{counted-anew}
 use Rattle.published_laws.specs.Commitments.{pledge}
@@ -125,7 +126,7 @@ module _ (tb : Table) (g : Granted tb) (rd : Readable tb) (s : State) (o : Order
 
   -- from the agent of the state before to that of what the move writes
   abbrev EndsLike : Move → Type 0
-  EndsLike m = UpTo (agentOf tb b s) (readyThread tb (thread s t)) T (agentOf tb b (written tb s t m))
+  EndsLike m = UpTo (bodyOf tb) (forNumbers tb) (agentOf tb b s) (readyThread tb (thread s t)) T (agentOf tb b (written tb s t m))
 
   -- the threads beside it are those of the state
   same-others : Rearranged (others tb g rd s o t l ready b bn) (h .others)
@@ -163,7 +164,7 @@ module _ (tb : Table) (g : Granted tb) (rd : Readable tb) (s : State) (o : Order
       ⊎-elim
       (λ (ws, e, q). let z : map some ws ≡ map some (values tb g rd s o t l ready b bn kind) = sym e ∙ evaluated tb g rd s o t l ready b bn kind in
       from-zero (h .others) (callee tb (standsAt (thread s t))) _ (values tb g rd s o t l ready b bn kind) (envOf tb row)
-      (bodyOf tb (callee tb (standsAt (thread s t)))) (h .brought) (ap (λ (x : Thread). x .process) (at-call tb g rd s o t l ready b bn kind))
+      (h .brought) (ap (λ (x : Thread). x .process) (at-call tb g rd s o t l ready b bn kind))
       (evaluated tb g rd s o t l ready b bn kind) (entered-zeros tb g rd s o t l ready b bn kind)
       (is-end _ _ (rw z at q))
       (refl, own-row row (after-used tb g rd s o t l ready b bn kind) _ (after-thread tb g rd s o t l ready b bn kind)))
@@ -227,7 +228,7 @@ module _ (tb : Table) (g : Granted tb) (rd : Readable tb) (s : State) (o : Order
           let free : channelsOf s c ≡ false = rw (x .untyped) in
           other-name (h .others) (fieldA tb (branchAt tb (standsAt row) k)) (nextBy tb g rd s o t l ready b bn k) ĉ c (h .brought) f free
           (is-end _ _ q) (
-            channels-with tb g rd s o t l ready b bn Nothing k kind (x .takes .branch-in) before-it c x,
+            channels-with tb g rd s o t l ready b bn Nothing nothing-fires k kind (x .takes .branch-in) before-it c x,
             own-row (createdBy tb row k c) (ready-used (createdBy tb row k c) (createdBy-ready tb row k c)) _
                 (created-thread tb g rd (typeIn s) row sound used k (x .takes .branch-in) (x .takes .does) c (x .channel-in)),
           )
@@ -241,7 +242,7 @@ module _ (tb : Table) (g : Granted tb) (rd : Readable tb) (s : State) (o : Order
           let p = rw (
             next-thread tb g rd (typeIn s) row sound used k (x .takes .branch-in),
             child-thread tb g rd (typeIn s) row sound used k (x .takes .branch-in) (x .takes .does),
-          ) at (family-first tb g rd s o t l ready b bn Nothing k kind (x .takes .branch-in) before-it u x) in
+          ) at (family-first tb g rd s o t l ready b bn Nothing nothing-fires k kind (x .takes .branch-in) before-it u x) in
           same-end (channelsOf s) _ (is-end (channelsOf s) _ q) (refl, turned-back (twice p (same-first (same-first same-others))))
 
       -- (send) and (recv), where the engine's partner is thread u by its branch j
@@ -257,7 +258,7 @@ module _ (tb : Table) (g : Granted tb) (rd : Readable tb) (s : State) (o : Order
         apart = b ∷ threadsOf tb (set (set (s .threads) t freeRow) u freeRow)
 
         mate-next : Rearranged (others tb g rd s o t l ready b bn) (waitingThread tb (thread s u) ∷ apart)
-        mate-next = mate-second tb g rd s o t l ready b bn Nothing k kind (x .branch-in) before-it u j d x a
+        mate-next = mate-second tb g rd s o t l ready b bn Nothing nothing-fires k kind (x .branch-in) before-it u j d x a
 
         mate-there : waitingThread tb (thread s u) ∈ h .others
         mate-there =
@@ -302,7 +303,7 @@ module _ (tb : Table) (g : Granted tb) (rd : Readable tb) (s : State) (o : Order
               let both = rw (
                 gave-thread tb g rd (typeIn s) (thread s t) sound used k (x .branch-in) does (valueBy tb (thread s u) j),
                 received-thread tb g rd (typeIn s) (thread s u) mate-sound mate-used j (a .branch-in) does′ (valueBy tb (thread s t) k) w′ gets,
-              ) at (both-first tb g rd s o t l ready b bn Nothing k kind (x .branch-in) before-it u j d x a) in
+              ) at (both-first tb g rd s o t l ready b bn Nothing nothing-fires k kind (x .branch-in) before-it u j d x a) in
               other-taker v (waitingThread tb (thread s u)) C apart (nextBy tb g rd s o t l ready b bn k) (channelBy tb s t k) y slot′ R next′ w′ p two-first
               (rw c at i) mate-takes (is-end _ _ (rw f at z)) (refl, turned-back both)
 
@@ -334,7 +335,7 @@ module _ (tb : Table) (g : Granted tb) (rd : Readable tb) (s : State) (o : Order
               let both = rw (
                 received-thread tb g rd (typeIn s) (thread s t) sound used k (x .branch-in) does (valueBy tb (thread s u) j) w′ gets,
                 gave-thread tb g rd (typeIn s) (thread s u) mate-sound mate-used j (a .branch-in) does′ (valueBy tb (thread s t) k),
-              ) at (both-first tb g rd s o t l ready b bn Nothing k kind (x .branch-in) before-it u j d x a) in
+              ) at (both-first tb g rd s o t l ready b bn Nothing nothing-fires k kind (x .branch-in) before-it u j d x a) in
               other-giver v (waitingThread tb (thread s u)) C apart (nextBy tb g rd s o t l ready b bn k) (channelBy tb s t k)
               (fieldB tb (branchAt tb (standsAt (thread s t)) k)) y slot′ R next′ w w′ p two-first (rw c at i) mate-gives e has
               (is-end _ _ z) (refl, turned-back both)
@@ -376,14 +377,14 @@ module _ (tb : Table) (g : Granted tb) (rd : Readable tb) (s : State) (ok : Soun
   -- engine's step of t writes. Of the partners that are left open the engine takes document 01's, the first by thread and then by branch (`Choosing.antt`:
   -- `lowest-partner`). A step for which a row is lacking is no reduction, so it is left aside
   pub turn-conversely : Allowed (move tb s t) → (T : Agent) → WholeTurn (bodyOf tb) (agentOf tb b s) (threadOf tb (thread s t)) T
-      → UpTo (agentOf tb b s) (threadOf tb (thread s t)) T (agentOf tb b (written tb s t (move tb s t)))
+      → UpTo (bodyOf tb) (forNumbers tb) (agentOf tb b s) (threadOf tb (thread s t)) T (agentOf tb b (written tb s t (move tb s t)))
   turn-conversely z T h =
       let e = ready-thread tb (thread s t) ready in
       rw e (ends-like tb g rd s (ok .orderly) t l ready b bn T (rw e at h) (move tb s t) (chosen tb s t) (before tb s t) z)
 
   -- after that the step only reclaims
   pub step-conversely : Allowed (move tb s t) → (T : Agent) → WholeTurn (bodyOf tb) (agentOf tb b s) (threadOf tb (thread s t)) T
-      → (E : Agent) × UpTo (agentOf tb b s) (threadOf tb (thread s t)) T E × Many Reclaims E (agentOf tb b (perform tb s t (move tb s t)))
+      → (E : Agent) × UpTo (bodyOf tb) (forNumbers tb) (agentOf tb b s) (threadOf tb (thread s t)) T E × Many Reclaims E (agentOf tb b (perform tb s t (move tb s t)))
   unfolding perform
   step-conversely z T h = (
     agentOf tb b (written tb s t (move tb s t)),

@@ -29,7 +29,8 @@ use Rattle.published.specs.Agents as Agents
 use Rattle.published.specs.Agents.{Value, look, bind, numeric, numberOf, valueOf, Thread, knows}
 use Rattle.published.specs.Bindings.{look-bound, look-other, length-bound, knows-iff}
 use Rattle.published_laws.specs.Readable.{NumberSlot, Readable}
-use Rattle.published_laws.specs.Standing.{guardOf, expressionOf, valueAs, slotValue, envOf}
+use Rattle.published_laws.specs.Standing.{guardOf, expressionOf, valueAs, slotValue, trimmed, envOf}
+use Rattle.published_laws.specs.Trimmed.{look-trimmed, trimmed-bound}
 
 -- ---- values
 
@@ -62,15 +63,13 @@ module _ (tb : Table) (row : List ℕ) where
 
   pub look-env : (k : ℕ) → k < rowSlots → look (envOf tb row) k ≡ slotValue tb row k
   unfolding envOf
-  look-env k l = getD-tabulate rowSlots k (slotValue tb row) none l
+  look-env k l = look-trimmed (tabulate rowSlots (slotValue tb row)) k ∙ getD-tabulate rowSlots k (slotValue tb row) none l
 
   pub look-past : (k : ℕ) → rowSlots ≤ k → look (envOf tb row) k ≡ none
   unfolding envOf
-  look-past k l = List·getD-eq-default (tabulate rowSlots (slotValue tb row)) none {n = k} (omega (arith, length-tabulate rowSlots (slotValue tb row)))
-
-  length-env : length (envOf tb row) ≡ rowSlots
-  unfolding envOf
-  length-env = length-tabulate rowSlots (slotValue tb row)
+  look-past k l =
+      let δ = tabulate rowSlots (slotValue tb row) in
+      look-trimmed δ k ∙ List·getD-eq-default δ none {n = k} (omega (arith, length-tabulate rowSlots (slotValue tb row)))
 
   -- a slot of the definition has its value by its type
   pub slot-value : (k : ℕ) → k < slotCount tb (definitionOf tb (standsAt row))
@@ -124,18 +123,20 @@ module _ (tb : Table) (row new : List ℕ) (same : definitionOf tb (standsAt new
 
   pub env-same : ((k : ℕ) → slotOf new k ≡ slotOf row k) → envOf tb new ≡ envOf tb row
   unfolding envOf
-  env-same h = tabulate-cong rowSlots (slotValue tb new) (slotValue tb row) (λ k l. value-same k (h k))
+  env-same h = ap trimmed (tabulate-cong rowSlots (slotValue tb new) (slotValue tb row) (λ k l. value-same k (h k)))
 
   -- a store is a binding
   pub env-bound : (a : ℕ) (v : Value) → a < rowSlots → slotValue tb new a ≡ some v → ((k : ℕ) → k ≢ a → slotOf new k ≡ slotOf row k)
       → bind (envOf tb row) a v ≡ envOf tb new
   unfolding envOf
   env-bound a v l e h =
-      is-tabulate (bind (envOf tb row) a v) rowSlots (slotValue tb new) none
-      (length-bound (envOf tb row) a v (omega (arith, length-env tb row)) ∙ length-env tb row)
+      let δ = tabulate rowSlots (slotValue tb row) in
+      let long : length δ ≡ rowSlots = length-tabulate rowSlots (slotValue tb row) in
+      sym (trimmed-bound δ a v) ∙ ap trimmed (is-tabulate (bind δ a v) rowSlots (slotValue tb new) none
+      (length-bound δ a v (omega (arith, long)) ∙ long)
       (λ k m. caseB (eqb k a)
-      (λ y. let q : k ≡ a = eqb-true k a y in rw q (look-bound (envOf tb row) a v ∙ sym e))
-      (λ y. let q : k ≢ a = eqb-false k a y in look-other (envOf tb row) a k v q ∙ look-env tb row k m ∙ sym (value-same k (h k q))))
+      (λ y. let q : k ≡ a = eqb-true k a y in rw q (look-bound δ a v ∙ sym e))
+      (λ y. let q : k ≢ a = eqb-false k a y in look-other δ a k v q ∙ getD-tabulate rowSlots k (slotValue tb row) none m ∙ sym (value-same k (h k q)))))
 
 -- ---- what is read
 

@@ -2,7 +2,7 @@
 -- where no branch goes ahead, by (out), (in) and skip to the last. Assumes nothing but what the table grants.
 use Prim.Native.Nat.{ℕ, zero, suc, _+_, _<_}
 use native.Mathlib.Omega.{arith}
-use mathlib.Core.Path.{_≡_, refl, _∙_}
+use mathlib.Core.Path.{_≡_, refl, _∙_, ap}
 use mathlib.Core.Logic.{_⊎_, inl, inr, ⊎-elim, _≢_}
 use mathlib.Core.Bool.{true, false, cond}
 use mathlib.Core.List.{List, [], _∷_, _++_, append-nil, append-assoc}
@@ -34,9 +34,10 @@ use Rattle.engine_laws.specs.Channels.{on-held}
 use Rattle.published.specs.Syntax.{Process, choice, Sum, branch, andWait, waits}
 use Rattle.published.specs.Agents as Agents
 use Rattle.published.specs.Agents.{_∈_, look, Commitment, Thread, Channels, Agent, agent}
-use Rattle.published.specs.Rules.{Acts, next, out, inn, more, Run, last, pass, Ours, skip}
+use Rattle.published.specs.Rules.{next, out, inn, more, last, skip}
+use Rattle.published.specs.Fired.{Rule, by-passing, Fired, fired, behind, behind-one, behind-more, Labels, ours-fire, firing, Ends, ActsBy, RunBy, run-past}
 use Rattle.published_laws.specs.Readable.{Readable}
-use Rattle.published_laws.specs.Standing.{guardOf, prefixOf, sumBefore, processAt, bodyOf, envOf, committed, commitmentsFrom, threadOf, threadsOf}
+use Rattle.published_laws.specs.Standing.{guardOf, prefixOf, sumBefore, processAt, bodyOf, forNumbers, envOf, committed, commitmentsFrom, threadOf, threadsOf, OurRules}
 use Rattle.published_laws.specs.Unrolled.{wait-behind, one-more-wait}
 use Rattle.published_laws.specs.Environments.{channel-value, look-filled, guard-same}
 use Rattle.published_laws.specs.Products.{Bench, row-of}
@@ -142,63 +143,69 @@ module _ (tb : Table) (g : Granted tb) (rd : Readable tb) (s : State) (o : Order
         ∙ channel-value (slotType tb (definitionOf tb (standsAt (thread s t))) a) (channelBy tb s t i) (x .on-channel) channel-in
 
   -- ---- beside threads that are all among the others
-  module _ (More : Agent → Agent → Type 0) (B : List Thread) (among : (x : Thread) → x ∈ B → x ∈ others) (Δ : Channels) where
+  module _ (More : Agent → Agent → Type 0) (own : Labels More) (B : List Thread) (among : (x : Thread) → x ∈ B → x ∈ others) (Δ : Channels) where
     -- (out) or (in)
     commit : (i : ℕ) → i < branchCount tb (standsAt (thread s t)) → (d : Direction) → guardHolds tb (branchAt tb (standsAt (thread s t)) i) (thread s t) ≡ true
         → actOf tb (branchAt tb (standsAt (thread s t)) i) ≡ Meeting d → Unanswered tb s t (opposite d) (channelBy tb s t i) → (Γ : List Commitment) (q : Sum)
-        → Acts (bodyOf tb) More (agent Δ (midway Γ (tip i q) ∷ B))
+        → ActsBy (bodyOf tb) More own (fired 0 by-passing) (agent Δ (midway Γ (tip i q) ∷ B))
         (agent Δ (midway (Γ ++ committed tb (thread s t) (branchAt tb (standsAt (thread s t)) i) (actOf tb (branchAt tb (standsAt (thread s t)) i)))
         (andWait q) ∷ B))
-    unfolding tip prefixOf committed opposite pledge
+    unfolding tip prefixOf committed opposite pledge firing
     commit i m Out y e f Γ q =
         let c = channel-in i m Out e in
-        rw e (out (channelBy tb s t i) (guard-is i m ∙ y) (channel-is i m Out e) (λ x k z S h. others-silent In (channelBy tb s t i) c f x (among x k) z S h))
+        rw e (out (channelBy tb s t i) (guard-is i m ∙ y) (channel-is i m Out e) (λ x k z S h. others-silent In (channelBy tb s t i) c f x (among x k) z S h), refl)
     commit i m In y e f Γ q =
         let c = channel-in i m In e in
-        rw e (inn (channelBy tb s t i) (guard-is i m ∙ y) (channel-is i m In e) (λ x k z S h. others-silent Out (channelBy tb s t i) c f x (among x k) z S h))
+        rw e (inn (channelBy tb s t i) (guard-is i m ∙ y) (channel-is i m In e) (λ x k z S h. others-silent Out (channelBy tb s t i) c f x (among x k) z S h), refl)
 
     -- ---- as far as a branch that goes ahead
 
-    -- to the agent with D and h ∷ C, by one reduction, or by more of which the first changes the thread alone
-    abbrev pub Leads : Channels → Thread → List Thread → List Commitment → Sum → Type 0
-    Leads D h C Γ q =
-        Acts (bodyOf tb) More (agent Δ (midway Γ q ∷ B)) (agent D (h ∷ C))
-        ⊎ ((x : Thread) × Acts (bodyOf tb) More (agent Δ (midway Γ q ∷ B)) (agent Δ (x ∷ B)) × Run (bodyOf tb) More (agent Δ (x ∷ B)) (agent D (h ∷ C)))
+    -- to the agent with D and h ∷ C: by one reduction, which is f, or by a branch that is passed over and a run behind it, which ends with f
+    abbrev pub Leads : Channels → Thread → List Thread → Fired → List Commitment → Sum → Type 0
+    Leads D h C f Γ q =
+        ActsBy (bodyOf tb) More own f (agent Δ (midway Γ q ∷ B)) (agent D (h ∷ C))
+        ⊎ ((x : Thread) × (i : ℕ) × (e : Fired) × ActsBy (bodyOf tb) More own (fired i by-passing) (agent Δ (midway Γ q ∷ B)) (agent Δ (x ∷ B))
+        × RunBy (bodyOf tb) More own e (agent Δ (x ∷ B)) (agent D (h ∷ C)) × (f ≡ behind (suc i) e))
 
-    pub leads-run : (D : Channels) (h : Thread) (C : List Thread) (Γ : List Commitment) (q : Sum) → Leads D h C Γ q
-        → Run (bodyOf tb) More (agent Δ (midway Γ q ∷ B)) (agent D (h ∷ C))
-    leads-run D h C Γ q (inl r) = last r
-    leads-run D h C Γ q (inr (x, r, w)) = pass r w
+    pub leads-run : (D : Channels) (h : Thread) (C : List Thread) (f : Fired) (Γ : List Commitment) (q : Sum) → Leads D h C f Γ q
+        → RunBy (bodyOf tb) More own f (agent Δ (midway Γ q ∷ B)) (agent D (h ∷ C))
+    unfolding Ends
+    leads-run D h C f Γ q (inl (r, y)) = (last r, y)
+    leads-run D h C f Γ q (inr (x, i, e, r, w, v)) = rw v (run-past (bodyOf tb) More own i e r w)
 
     module _ (D : Channels) (h : Thread) (C : List Thread) where
       -- past branch i, where the branches behind it lead there
       pass-by : (i : ℕ) → Passed tb s t i → i < branchCount tb (standsAt (thread s t)) → (Γ : List Commitment) (q : Sum) (m : ℕ)
-          → ((Γ : List Commitment) (q : Sum) → Leads D h C Γ (sumBefore tb (processAt tb) q (standsAt (thread s t)) (suc i) m))
-          → Leads D h C Γ (tip i (sumBefore tb (processAt tb) q (standsAt (thread s t)) (suc i) m))
-      unfolding tip
-      pass-by i (closed y) n Γ q m f = ⊎-elim (λ r. inl (next (guard-is i n ∙ y) r)) (λ (x, r, w). inr (x, next (guard-is i n ∙ y) r, w)) (f Γ q)
-      pass-by i (unmet d y e z) n Γ q m f =
+          → (e : Fired) → ((Γ : List Commitment) (q : Sum) → Leads D h C e Γ (sumBefore tb (processAt tb) q (standsAt (thread s t)) (suc i) m))
+          → Leads D h C (behind 1 e) Γ (tip i (sumBefore tb (processAt tb) q (standsAt (thread s t)) (suc i) m))
+      unfolding tip firing
+      pass-by i (closed y) n Γ q m o f =
+          ⊎-elim (λ (r, p). inl (next (guard-is i n ∙ y) r, ap (behind 1) p))
+          (λ (x, j, e, (r, p), w, v). inr (x, suc j, e, (next (guard-is i n ∙ y) r, ap (behind 1) p ∙ behind-one j by-passing), w, ap (behind 1) v ∙ behind-more (suc j) e))
+          (f Γ q)
+      pass-by i (unmet d y e z) n Γ q m o f =
           let Q = sumBefore tb (processAt tb) q (standsAt (thread s t)) (suc i) m in
           let Γ′ = Γ ++ committed tb (thread s t) (branchAt tb (standsAt (thread s t)) i) (actOf tb (branchAt tb (standsAt (thread s t)) i)) in
           let Q′ = sumBefore tb (processAt tb) (andWait q) (standsAt (thread s t)) (suc i) m in
           let v = wait-behind tb (processAt tb) q (standsAt (thread s t)) (suc i) m in
-          let w : Run (bodyOf tb) More (agent Δ (midway Γ′ (andWait Q) ∷ B)) (agent D (h ∷ C)) = rw v (leads-run D h C Γ′ Q′ (f Γ′ (andWait q))) in
-          inr (midway Γ′ (andWait Q), commit i n d y e z Γ Q, w)
+          let w : RunBy (bodyOf tb) More own o (agent Δ (midway Γ′ (andWait Q) ∷ B)) (agent D (h ∷ C)) = rw v (leads-run D h C o Γ′ Q′ (f Γ′ (andWait q))) in
+          inr (midway Γ′ (andWait Q), 0, o, commit i n d y e z Γ Q, w, refl)
 
       pub lead : (k : ℕ) → k < branchCount tb (standsAt (thread s t)) → ((j : ℕ) → j < k → Passed tb s t j)
-          → ((Γ : List Commitment) (q : Sum) → Leads D h C Γ (tip k q))
-          → (m j i : ℕ) → j < m → k ≡ i + j → (Γ : List Commitment) (q : Sum) → Leads D h C Γ (sumBefore tb (processAt tb) q (standsAt (thread s t)) i m)
+          → (r : Rule) → ((Γ : List Commitment) (q : Sum) → Leads D h C (fired 0 r) Γ (tip k q))
+          → (m j i : ℕ) → j < m → k ≡ i + j → (Γ : List Commitment) (q : Sum)
+          → Leads D h C (fired j r) Γ (sumBefore tb (processAt tb) q (standsAt (thread s t)) i m)
       unfolding sumBefore tip
-      lead k b p act zero j i z e Γ q = absurd (omega arith)
-      lead k b p act (suc m) zero i z e Γ q =
+      lead k b p r act zero j i z e Γ q = absurd (omega arith)
+      lead k b p r act (suc m) zero i z e Γ q =
           let w : k ≡ i = omega arith in rw w at (act Γ (sumBefore tb (processAt tb) q (standsAt (thread s t)) (suc i) m))
-      lead k b p act (suc m) (suc j) i z e Γ q =
-          pass-by i (p i (omega arith)) (omega arith) Γ q m (λ Γ′ q′. lead k b p act m j (suc i) (omega arith) (omega arith) Γ′ q′)
+      lead k b p r act (suc m) (suc j) i z e Γ q =
+          rw (← behind-one j r) (pass-by i (p i (omega arith)) (omega arith) Γ q m (fired j r) (λ Γ′ q′. lead k b p r act m j (suc i) (omega arith) (omega arith) Γ′ q′))
 
   -- ---- where none goes ahead; the rule skip is there if some guard is false
-  module _ (More : Agent → Agent → Type 0)
+  module _ (More : Agent → Agent → Type 0) (own : Labels More)
       (skips : (i : ℕ) → i < branchCount tb (standsAt (thread s t)) → guardHolds tb (branchAt tb (standsAt (thread s t)) i) (thread s t) ≡ false
-      → (A C : Agent) → Ours A C → More A C)
+      → (A C : Agent) (x : OurRules tb A C) → (y : More A C) × (own A C y ≡ ours-fire (bodyOf tb) (forNumbers tb) A C x))
       (B : List Thread) (among : (x : Thread) → x ∈ B → x ∈ others) (Δ : Channels) where
     -- what branch i leaves
     unfoldable pub left-by : ℕ → List Commitment
@@ -207,28 +214,38 @@ module _ (tb : Table) (g : Granted tb) (rd : Readable tb) (s : State) (o : Order
         (committed tb (thread s t) (branchAt tb (standsAt (thread s t)) i) (actOf tb (branchAt tb (standsAt (thread s t)) i))) []
 
     pub pass-one : (i : ℕ) → i < branchCount tb (standsAt (thread s t)) → Passed tb s t i → (Γ : List Commitment) (q : Sum)
-        → Acts (bodyOf tb) More (agent Δ (midway Γ (tip i q) ∷ B)) (agent Δ (midway (Γ ++ left-by i) (andWait q) ∷ B))
-    unfolding left-by tip
-    pass-one i m (closed y) Γ q = rw (y, append-nil Γ) (more (skips i m y _ _ (skip (guard-is i m ∙ y))))
-    pass-one i m (unmet d y e f) Γ q = rw y (commit More B among Δ i m d y e f Γ q)
+        → ActsBy (bodyOf tb) More own (fired 0 by-passing) (agent Δ (midway Γ (tip i q) ∷ B)) (agent Δ (midway (Γ ++ left-by i) (andWait q) ∷ B))
+    unfolding left-by tip firing ours-fire
+    pass-one i m (closed y) Γ q = rw (y, append-nil Γ) (let (x, e) = skips i m y _ _ (skip (guard-is i m ∙ y)) in (more x, e))
+    pass-one i m (unmet d y e f) Γ q = rw y (commit More own B among Δ i m d y e f Γ q)
+
+    -- branch i, and then the branches behind it, one and m more
+    pass-first : (m i : ℕ) → i < branchCount tb (standsAt (thread s t)) → Passed tb s t i → (Γ : List Commitment)
+        → RunBy (bodyOf tb) More own (fired m by-passing)
+        (agent Δ (midway (Γ ++ left-by i) (sumBefore tb (processAt tb) (waits (suc i)) (standsAt (thread s t)) (suc i) (suc m)) ∷ B))
+        (agent Δ (midway ((Γ ++ left-by i) ++ commitmentsFrom tb (thread s t) (suc i) (suc m)) (waits (suc i + suc m)) ∷ B))
+        → RunBy (bodyOf tb) More own (fired (suc m) by-passing)
+        (agent Δ (midway Γ (tip i (sumBefore tb (processAt tb) (waits i) (standsAt (thread s t)) (suc i) (suc m))) ∷ B))
+        (agent Δ (midway (Γ ++ (left-by i ++ commitmentsFrom tb (thread s t) (suc i) (suc m))) (waits (i + suc (suc m))) ∷ B))
+    pass-first m i l p Γ h =
+        let n = standsAt (thread s t) in
+        let v = wait-behind tb (processAt tb) (waits i) n (suc i) (suc m) in
+        let z : i + suc (suc m) ≡ suc i + suc m = omega arith in
+        let Q = sumBefore tb (processAt tb) (waits i) n (suc i) (suc m) in
+        let h′ : RunBy (bodyOf tb) More own (fired m by-passing) (agent Δ (midway (Γ ++ left-by i) (andWait Q) ∷ B))
+        (agent Δ (midway (Γ ++ (left-by i ++ commitmentsFrom tb (thread s t) (suc i) (suc m))) (waits (i + suc (suc m))) ∷ B)) =
+        rw (v, one-more-wait i, z, ← append-assoc Γ (left-by i) (commitmentsFrom tb (thread s t) (suc i) (suc m))) h in
+        rw (← behind-one m by-passing) (run-past (bodyOf tb) More own 0 (fired m by-passing) (pass-one i l p Γ Q) h′)
 
     -- the branches from i on, one and m more
     pub pass-all : (m i : ℕ) → i + suc m ≡ branchCount tb (standsAt (thread s t))
         → ((j : ℕ) → j < branchCount tb (standsAt (thread s t)) → Passed tb s t j) → (Γ : List Commitment)
-        → Run (bodyOf tb) More (agent Δ (midway Γ (sumBefore tb (processAt tb) (waits i) (standsAt (thread s t)) i (suc m)) ∷ B))
+        → RunBy (bodyOf tb) More own (fired m by-passing) (agent Δ (midway Γ (sumBefore tb (processAt tb) (waits i) (standsAt (thread s t)) i (suc m)) ∷ B))
         (agent Δ (midway (Γ ++ commitmentsFrom tb (thread s t) i (suc m)) (waits (i + suc m)) ∷ B))
-    unfolding sumBefore commitmentsFrom left-by tip
+    unfolding sumBefore commitmentsFrom left-by tip Ends
     pass-all zero i e p Γ =
         let z : i + 1 ≡ suc i = omega arith in
         let r = pass-one i (omega arith) (p i (omega arith)) Γ (waits i) in
-        rw (z, append-nil (left-by i)) (last (rw (one-more-wait i) at r))
-    pass-all (suc m) i e p Γ =
-        let n = standsAt (thread s t) in
-        let v = wait-behind tb (processAt tb) (waits i) n (suc i) (suc m) in
-        let z : i + suc (suc m) ≡ suc i + suc m = omega arith in
-        let h = pass-all m (suc i) (omega arith) p (Γ ++ left-by i) in
-        let Q = sumBefore tb (processAt tb) (waits i) n (suc i) (suc m) in
-        let h′ : Run (bodyOf tb) More (agent Δ (midway (Γ ++ left-by i) (andWait Q) ∷ B))
-        (agent Δ (midway (Γ ++ (left-by i ++ commitmentsFrom tb (thread s t) (suc i) (suc m))) (waits (i + suc (suc m))) ∷ B)) =
-        rw (v, one-more-wait i, z, ← append-assoc Γ (left-by i) (commitmentsFrom tb (thread s t) (suc i) (suc m))) h in
-        pass (pass-one i (omega arith) (p i (omega arith)) Γ Q) h′
+        let (a, f) = rw (one-more-wait i) at r in
+        rw (z, append-nil (left-by i)) (last a, f)
+    pass-all (suc m) i e p Γ = pass-first m i (omega arith) (p i (omega arith)) Γ (pass-all m (suc i) (omega arith) p (Γ ++ left-by i))

@@ -1,7 +1,7 @@
 -- The agent of 002 that a state stands for. A node of a table stands for the process that begins there; a thread's slots are its environment; a waiting
 -- thread has its offers as commitments; the channels in use are Δ. The bench is one thread more.
 use Prim.Native.Nat.{ℕ, zero, suc}
-use mathlib.Core.Bool.{not, cond}
+use mathlib.Core.Bool.{Bool, not, _&&_, cond}
 use mathlib.Core.List.{List, [], _∷_, _++_}
 use mathlib.Core.Option.{Option, none, some}
 use lib.Dec.{ltb, eqb}
@@ -18,10 +18,22 @@ use Rattle.rules.specs.declared.Act.{Act}
 use Rattle.rules.specs.declared.Act.the-variants.{Tau, Meeting, New, Spawn, Assignment}
 use Rattle.published.specs.Syntax.{Guard, always, equals, below, same, less, Expression, constant, plus, minus, Process, end, choice, invoke, Sum, nothing, branch, Prefix, tau, output, input, newChannel, newThread, assign, waits}
 use Rattle.published.specs.Agents.{Value, channel, number, Env, Commitment, gives, takes, Thread, thread, Channels, Agent, agent}
+use Rattle.published.specs.Rules.{Ours}
+use Rattle.published.specs.Fired.{Labels, ours-fire}
 
 -- the word v as a value of type ty; -1 is no channel
 unfoldable pub valueAs : ℕ → ℕ → Option Value
 valueAs ty v = cond (eqb ty 0) (some (number v)) (cond (ltb v maxChannels) (some (channel v)) none)
+
+-- an environment without the unbound variables at its end, so that environments that bind the same are the same list (`Trimmed.antt`: `trimmed-same`)
+unfoldable pub inFront : Option Value → Env → Env
+inFront none [] = []
+inFront none (o ∷ δ) = none ∷ o ∷ δ
+inFront (some v) δ = some v ∷ δ
+
+unfoldable pub trimmed : Env → Env
+trimmed [] = []
+trimmed (o ∷ δ) = inFront o (trimmed δ)
 
 -- Δ: the channels in use
 unfoldable pub channelsOf : State → Channels
@@ -79,6 +91,18 @@ module _ (tb : Table) where
   unfoldable pub bodyOf : ℕ → Process
   bodyOf d = processAt (start tb Nodes d)
 
+  -- ---- document 01's own rules, of this table
+
+  -- slot k of definition d is one for numbers
+  unfoldable pub forNumbers : ℕ → ℕ → Bool
+  forNumbers d k = ltb k (slotCount tb d) && eqb (slotType tb d k) 0
+
+  abbrev pub OurRules : Agent → Agent → Type 0
+  OurRules = Ours bodyOf forNumbers
+
+  abbrev pub OurLabels : Labels (Ours bodyOf forNumbers)
+  OurLabels = ours-fire bodyOf forNumbers
+
   -- ---- threads
 
   -- the slots that the definition has
@@ -87,7 +111,7 @@ module _ (tb : Table) where
       cond (ltb k (slotCount tb (definitionOf tb (standsAt row)))) (valueAs (slotType tb (definitionOf tb (standsAt row)) k) (slotOf row k)) none
 
   unfoldable pub envOf : List ℕ → Env
-  envOf row = tabulate rowSlots (slotValue row)
+  envOf row = trimmed (tabulate rowSlots (slotValue row))
 
   -- the commitment by a branch in row r that does this act
   unfoldable pub committed : List ℕ → ℕ → Act → List Commitment

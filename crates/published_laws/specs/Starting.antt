@@ -4,6 +4,7 @@ use mathlib.Core.Path.{_≡_, refl, ap}
 use mathlib.Core.List.{List, [], _∷_}
 use mathlib.Core.Option.{none}
 use lib.ListN.{replicate, length-replicate}
+use Rattle.numbers.specs.Search.{tabulate}
 use Rattle.table.specs.Table.{Table, tableOf}
 use Rattle.table.specs.Layout.{start}
 use Rattle.table.specs.declared.Part.the-variants.{Nodes}
@@ -17,6 +18,8 @@ use Rattle.state.specs.State.{stateLength, view, withChannels}
 use Rattle.rules.specs.Holding.{settled}
 use Rattle.rules.specs.Start.{entered, started}
 use Rattle.rules.specs.Calls.{runCall}
+use Rattle.rules.specs.declared.Reason.{Reason}
+use Rattle.rules.specs.declared.Ran.the-variants as Ran
 use Rattle.engine_laws.specs.Buffers.{SoundBuffer}
 use Rattle.engine_laws.specs.Lists.{reached}
 use Rattle.engine_laws.specs.Instance.{loaded-small, loaded-accepted, loaded-sound}
@@ -24,10 +27,12 @@ use Rattle.collector.specs.Collect.{collectCall}
 use Rattle.published.specs.Syntax.{end, waiting}
 use Rattle.published.specs.Agents as Agents
 use Rattle.published.specs.Agents.{Thread, refers}
-use Rattle.published.specs.Rules.{Reaches, Nothing, Ours}
-use Rattle.published_laws.specs.Standing.{bodyOf, envOf, threadsOf, agentOf}
+use Rattle.published.specs.Rules.{Reaches, Nothing}
+use Rattle.published.specs.Fired.{Turns}
+use Rattle.published_laws.specs.Standing.{bodyOf, envOf, threadsOf, agentOf, OurRules, OurLabels}
 use Rattle.published_laws.specs.Afterwards.{thread-is}
 use Rattle.published_laws.specs.Products.{Bench}
+use Rattle.published_laws.specs.Firing.{nextHad}
 use Rattle.published_laws.specs.Benches.{portsAnd, bench-is}
 use Rattle.published_laws.specs.Running.{run-call-reduced, collect-call-reduced}
 
@@ -65,12 +70,14 @@ idle-bench : Bench (tableOf table) idle
 unfolding refers waiting
 idle-bench = bench-is (tableOf table) none (λ c. refl) end refl
 
--- its run of whatever length
-pub listing-run : (n : ℕ)
-    → Reaches (bodyOf (tableOf table)) Ours (agentOf (tableOf table) idle (view begun)) (agentOf (tableOf table) idle (view (runCall table begun n .state)))
-listing-run n =
+-- its run of whatever length is as many turns as it is answered with
+pub listing-run : (n k : ℕ) (r : Reason) → runCall table begun n .answer ≡ Ran.Done k r
+    → Turns (bodyOf (tableOf table)) (OurRules (tableOf table)) (OurLabels (tableOf table))
+    (tabulate k (λ i. nextHad (tableOf table) (view (runCall table begun i .state))))
+    (agentOf (tableOf table) idle (view begun)) (agentOf (tableOf table) idle (view (runCall table begun n .state)))
+listing-run =
     run-call-reduced table (loaded-accepted (listing .0) (replicate tableLength 0) listing-loads) (loaded-small (listing .0) (replicate tableLength 0) listing-loads)
-    begun begun-sound idle idle-bench n
+    begun begun-sound idle idle-bench
 
 -- a collection, by the published rules alone
 pub listing-collect : Reaches (bodyOf (tableOf table)) Nothing (agentOf (tableOf table) idle (view begun))

@@ -29,13 +29,15 @@ use Rattle.engine_laws.specs.Chosen.{channelBy, Open, Spawning, Answering}
 use Rattle.published.specs.Syntax.{Sum, waits}
 use Rattle.published.specs.Agents as Agents
 use Rattle.published.specs.Agents.{_∈_, Value, look, Commitment, Thread, Agent, agent}
-use Rattle.published.specs.Rules.{Rearranged, same-first, swapped, twice, Acts, spawn, send, recv, Turn}
+use Rattle.published.specs.Rules.{Rearranged, same-first, swapped, twice, spawn, send, recv}
+use Rattle.published.specs.Fired.{Rule, by-spawn, fired, Labels, firing, ActsBy, TurnBy}
 use Rattle.published.specs.Lists.{same-order, in-rearranged, turned-back}
 use Rattle.published_laws.specs.Readable.{Readable}
 use Rattle.published_laws.specs.Standing.{guardOf, prefixOf, processAt, bodyOf, valueAs, envOf, commitmentsFrom, waitingThread, readyThread, threadOf, threadsOf, channelsOf, agentOf}
 use Rattle.published_laws.specs.Environments.{guard-same, filled-value, look-filled}
 use Rattle.published_laws.specs.Products.{Bench, waiting-thread, stored-first, row-first}
 use Rattle.published_laws.specs.Commitments.{pledge, pledged-in}
+use Rattle.published_laws.specs.Firing.{meetingRule}
 use Rattle.published_laws.specs.Passing.{Passed, others, tip, midway, channel-is}
 use Rattle.published_laws.specs.Afterwards.{next-thread, child-thread, gave-thread, received-thread}
 use Rattle.published_laws.specs.Alone.{new-first, led}
@@ -87,7 +89,7 @@ module _ (tb : Table) (g : Granted tb) (rd : Readable tb) (s : State) (o : Order
   inside : (u : ℕ) → u < maxThreads → u < length (s .threads)
   inside u m = rw (o .shaped .all-threads) m
 
-  module _ (More : Agent → Agent → Type 0) (k : ℕ) (kind : kindOf tb (standsAt (thread s t)) ≡ 1) (m : k < branchCount tb (standsAt (thread s t)))
+  module _ (More : Agent → Agent → Type 0) (labels : Labels More) (k : ℕ) (kind : kindOf tb (standsAt (thread s t)) ≡ 1) (m : k < branchCount tb (standsAt (thread s t)))
       (before : (j : ℕ) → j < k → Passed tb s t j) where
     guard-true : guardHolds tb (branchAt tb (standsAt (thread s t)) k) (thread s t) ≡ true
         → Agents.holds (envOf tb (thread s t)) (guardOf tb (branchAt tb (standsAt (thread s t)) k)) ≡ true
@@ -121,17 +123,19 @@ module _ (tb : Table) (g : Granted tb) (rd : Readable tb) (s : State) (o : Order
           (ready-used parent (resumed-ready (thread s t) (nextOf tb (standsAt (thread s t)) (branchAt tb (standsAt (thread s t)) k)))) in
           twice (same-first h′) (twice swapped (same-first p))
 
-      pub spawn-reduced : Turn (bodyOf tb) More (agentOf tb b s) (readyThread tb (thread s t)) (agentOf tb b (written tb s t (Spawns k u)))
-      unfolding agentOf channelsOf written withMark spawnedBy withThread tip prefixOf
+      pub spawn-reduced : TurnBy (bodyOf tb) More labels (agentOf tb b s) (readyThread tb (thread s t))
+          (fired k (by-spawn (threadOf tb (resumed (thread s t) (childOf tb (standsAt (thread s t)) (branchAt tb (standsAt (thread s t)) k))))))
+          (agentOf tb b (written tb s t (Spawns k u)))
+      unfolding agentOf channelsOf written withMark spawnedBy withThread tip prefixOf firing
       spawn-reduced =
-          led tb g rd s o t l ready b bn More k kind m before rest (channelsOf s) (threadOf tb child) (threadOf tb parent ∷ rest)
+          led tb g rd s o t l ready b bn More labels k kind m before (by-spawn (threadOf tb child)) rest (channelsOf s) (threadOf tb child) (threadOf tb parent ∷ rest)
           (b ∷ threadsOf tb (set (set (s .threads) t parent) u child)) (same-order rest) (λ y i. i)
           (λ Γ q. rw (
             next-thread tb g rd (typeIn s) (thread s t) sound used k m,
             child-thread tb g rd (typeIn s) (thread s t) sound used k m (x .takes .does),
             x .takes .does,
           )
-          (spawn (guard-true (x .takes .passes))))
+          (spawn (guard-true (x .takes .passes)), refl))
           (turned-back family-first)
 
     -- ---- (send) and (recv)
@@ -175,16 +179,21 @@ module _ (tb : Table) (g : Granted tb) (rd : Readable tb) (s : State) (o : Order
           twice (same-first (twice h′ (twice (same-first p′) swapped))) (twice swapped (same-first swapped))
 
       -- the agent before, whatever was committed and whatever branches are behind, and the agent after
-      abbrev Meeting-by : List Commitment → Sum → Type 0
-      Meeting-by Γ q = Acts (bodyOf tb) More
+      -- the rule of a meeting in direction e
+      abbrev ruleIn : Direction → Rule
+      ruleIn e = meetingRule e (waitingThread tb (thread s u)) (pledge (opposite e) (channelBy tb s t k) (fieldB tb (branchAt tb (standsAt (thread s u)) j))
+          (processAt tb (nextOf tb (standsAt (thread s u)) (branchAt tb (standsAt (thread s u)) j))))
+
+      abbrev Meeting-by : Direction → List Commitment → Sum → Type 0
+      Meeting-by e Γ q = ActsBy (bodyOf tb) More labels (fired 0 (ruleIn e))
           (agent (channelsOf s) (midway tb g rd s o t l ready b bn Γ (tip tb g rd s o t l ready b bn k q) ∷ (waitingThread tb (thread s u) ∷ apart)))
           (agent (channelsOf s) (threadOf tb own ∷ (threadOf tb mate ∷ apart)))
 
       send-by : actOf tb (branchAt tb (standsAt (thread s t)) k) ≡ Meeting Out → actOf tb (branchAt tb (standsAt (thread s u)) j) ≡ Meeting In
           → (w : Value) → look (envOf tb (thread s t)) (fieldB tb (branchAt tb (standsAt (thread s t)) k)) ≡ some w
           → valueAs (slotType tb (definitionOf tb (standsAt (thread s u))) (fieldB tb (branchAt tb (standsAt (thread s u)) j))) (valueBy tb (thread s t) k) ≡ some w
-          → (Γ : List Commitment) (q : Sum) → Meeting-by Γ q
-      unfolding tip prefixOf waitingThread opposite pledge
+          → (Γ : List Commitment) (q : Sum) → Meeting-by Out Γ q
+      unfolding tip prefixOf waitingThread opposite pledge firing meetingRule
       send-by does does′ w has gets Γ q =
           let dir : opposite d ≡ In = same-meeting (opposite d) In (sym (a .does) ∙ does′) in
           let commits = rw dir at (met-commits tb s t u j (channelBy tb s t k) (opposite d) a) in
@@ -194,13 +203,13 @@ module _ (tb : Table) (g : Granted tb) (rd : Readable tb) (s : State) (o : Order
             received-thread tb g rd (typeIn s) (thread s u) mate-sound mate-used j (a .branch-in) does′ (valueBy tb (thread s t) k) w gets,
             does,
           )
-          (send (channelBy tb s t k) (fieldB tb (branchAt tb (standsAt (thread s u)) j)) w (guard-true (x .passes)) c commits has)
+          (send (channelBy tb s t k) (fieldB tb (branchAt tb (standsAt (thread s u)) j)) w (guard-true (x .passes)) c commits has, refl)
 
       recv-by : actOf tb (branchAt tb (standsAt (thread s t)) k) ≡ Meeting In → actOf tb (branchAt tb (standsAt (thread s u)) j) ≡ Meeting Out
           → (w : Value) → look (envOf tb (thread s u)) (fieldB tb (branchAt tb (standsAt (thread s u)) j)) ≡ some w
           → valueAs (slotType tb (definitionOf tb (standsAt (thread s t))) (fieldB tb (branchAt tb (standsAt (thread s t)) k))) (valueBy tb (thread s u) j) ≡ some w
-          → (Γ : List Commitment) (q : Sum) → Meeting-by Γ q
-      unfolding tip prefixOf waitingThread opposite pledge
+          → (Γ : List Commitment) (q : Sum) → Meeting-by In Γ q
+      unfolding tip prefixOf waitingThread opposite pledge firing meetingRule
       recv-by does does′ w has gets Γ q =
           let dir : opposite d ≡ Out = same-meeting (opposite d) Out (sym (a .does) ∙ does′) in
           let commits = rw dir at (met-commits tb s t u j (channelBy tb s t k) (opposite d) a) in
@@ -210,9 +219,9 @@ module _ (tb : Table) (g : Granted tb) (rd : Readable tb) (s : State) (o : Order
             gave-thread tb g rd (typeIn s) (thread s u) mate-sound mate-used j (a .branch-in) does′ (valueBy tb (thread s t) k),
             does,
           )
-          (recv (channelBy tb s t k) (fieldB tb (branchAt tb (standsAt (thread s u)) j)) w (guard-true (x .passes)) c commits has)
+          (recv (channelBy tb s t k) (fieldB tb (branchAt tb (standsAt (thread s u)) j)) w (guard-true (x .passes)) c commits has, refl)
 
-      meeting-by : (e : Direction) → e ≡ d → (Γ : List Commitment) (q : Sum) → Meeting-by Γ q
+      meeting-by : (e : Direction) → e ≡ d → (Γ : List Commitment) (q : Sum) → Meeting-by e Γ q
       unfolding opposite
       meeting-by Out z Γ q =
           let does : actOf tb (branchAt tb (standsAt (thread s t)) k) ≡ Meeting Out = x .does ∙ ap Meeting (sym z) in
@@ -226,10 +235,11 @@ module _ (tb : Table) (g : Granted tb) (rd : Readable tb) (s : State) (o : Order
           let (w, has, gets) = given-value tb g rd (typeIn s) (thread s u) (thread s t) mate-sound sound mate-used used j k (a .branch-in) m does′ does (a .is) in
           recv-by does does′ w has gets Γ q
 
-      pub meeting-reduced : Turn (bodyOf tb) More (agentOf tb b s) (readyThread tb (thread s t)) (agentOf tb b (written tb s t (Meets k u j)))
+      pub meeting-reduced : TurnBy (bodyOf tb) More labels (agentOf tb b s) (readyThread tb (thread s t)) (fired k (ruleIn d))
+          (agentOf tb b (written tb s t (Meets k u j)))
       unfolding agentOf channelsOf written withThread
       meeting-reduced =
-          led tb g rd s o t l ready b bn More k kind m before (waitingThread tb (thread s u) ∷ apart) (channelsOf s) (threadOf tb own) (threadOf tb mate ∷ apart)
+          led tb g rd s o t l ready b bn More labels k kind m before (ruleIn d) (waitingThread tb (thread s u) ∷ apart) (channelsOf s) (threadOf tb own) (threadOf tb mate ∷ apart)
           (b ∷ threadsOf tb (set (set (s .threads) t own) u mate)) mate-second (λ y i. in-rearranged y mate-second i)
           (meeting-by d refl)
           (turned-back both-first)
