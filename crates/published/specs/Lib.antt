@@ -2,6 +2,7 @@ pub mod Syntax
 pub mod Agents
 pub mod Rules
 pub mod Fired
+pub mod Stands
 pub mod Enabling
 pub mod Bindings
 pub mod Lists

@@ -19,6 +19,7 @@ pub mod Outside
 pub mod Places
 pub mod Enabling
 pub mod Collecting
+pub mod Taking
 pub mod Running
 pub mod Choosing
 pub mod PassedOver
