@@ -6,9 +6,11 @@ pub mod Stands
 pub mod Enabling
 pub mod Bindings
 pub mod Lists
+pub mod Orders
 pub mod Polarity
 pub mod Chain
 pub mod Cliques
 pub mod Choices
+pub mod Whole
 pub mod Printed
 pub mod Examples

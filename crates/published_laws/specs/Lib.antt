@@ -22,6 +22,8 @@ pub mod Collecting
 pub mod Taking
 pub mod Running
 pub mod Choosing
+pub mod PassedOver
+pub mod Conversely
 pub mod Benches
 pub mod Starting
 pub mod Computation
