@@ -12,13 +12,12 @@ use borrow.Author.Tests.{eqb-true}
 use Rattle.numbers.specs.Count.{bit, count}
 use Rattle.numbers.specs.Search.Laws.{contra}
 use Rattle.collector.specs.Enabled.Laws.{or-elim}
-use Rattle.published.specs.Syntax.{Process, end, choice, invoke, Sum, nothing, branch, wait, always, output, andWait, waiting, someWait, onlyWaits}
+use Rattle.published.specs.Syntax.{Process, end, choice, nothing, branch, wait, always, output, andWait, waiting, someWait, onlyWaits}
 use Rattle.published.specs.Agents.{_∈_, channel, number, Env, holds, Commitment, gives, takes, channelOf, Thread, thread, Channels, adding, Agent, agent, refers, mentions, knows, globalrc, Commits}
-use Rattle.published.specs.Rules.{Rearranged, out, Reclaims, reclaim, Sticks, stuck, Reduces, par, acts, reclaims, sticks, exchange, stays, goes, Reaches, Nothing}
+use Rattle.published.specs.Rules.{Rearranged, Acts, step, new, spawn, next, call, inert, send, out, recv, inn, more, Reclaims, reclaim, Sticks, stuck, Reduces, par, acts, reclaims, sticks, exchange, stays, goes, Reaches, Nothing}
 use Rattle.published.specs.Lists.{in-left, in-right, in-either, in-rearranged}
 use Rattle.published.specs.Enabling.{active, Disabled}
 use Rattle.published.specs.Chain.{Chain, lemma-1}
-use Rattle.published.specs.Choices.{BySum, ByProcess, Of, acts-of}
 use Rattle.published.specs.Polarity.{Bare, proposition-2}
 use Rattle.published.specs.Cliques.{proposition-3, proposition-4, proposition-5}
 use Rattle.published.specs.Printed.{waitrc, proposition-6, P, W, R, case-three, p-enabled, not-stuck}
@@ -45,24 +44,20 @@ not-rearranged r = ⊎-elim waits-apart (λ i. ⊎-elim waits-apart (λ z. z) i)
 abbrev AllWait : List Thread → Type 0
 AllWait A = (t : Thread) → t ∈ A → waiting (t .process) ≡ true
 
-sum-waits : (def : ℕ → Process) (Δ : Channels) (t : Thread) (B : List Thread) (T : Agent) (Q : Sum) → someWait Q ≡ true
-    → BySum def Δ (t .commitments) (t .env) B Q T → ⊥
-unfolding someWait BySum
-sum-waits def Δ t B T nothing w a = a
-sum-waits def Δ t B T (branch g α P Q) w a = contra w refl
-sum-waits def Δ t B T (wait Q) w a = a
-
-process-waits : (def : ℕ → Process) (Δ : Channels) (t : Thread) (B : List Thread) (T : Agent) (P : Process) → waiting P ≡ true
-    → ByProcess def Δ (t .commitments) (t .env) B P T → ⊥
-unfolding waiting ByProcess
-process-waits def Δ t B T end w a = contra w refl
-process-waits def Δ t B T (choice Q) w a = sum-waits def Δ t B T Q w a
-process-waits def Δ t B T (invoke D vs) w a = contra w refl
-
-acts-rest : (def : ℕ → Process) (Δ : Channels) (A : List Thread) (T : Agent) → AllWait A → Of def Δ A T → ⊥
-unfolding Of
-acts-rest def Δ [] T h a = a
-acts-rest def Δ (t ∷ B) T h a = process-waits def Δ t B T (t .process) (h t (inl refl)) a
+-- a first thread that waits has no reduction of its own
+acts-rest : (def : ℕ → Process) {A T : Agent} → Acts def Nothing A T → AllWait (A .threads) → ⊥
+unfolding waiting someWait Nothing
+acts-rest def (step g) h = contra (h _ (inl refl)) refl
+acts-rest def (new ĉ g f) h = contra (h _ (inl refl)) refl
+acts-rest def (spawn g) h = contra (h _ (inl refl)) refl
+acts-rest def (next g r) h = contra (h _ (inl refl)) refl
+acts-rest def (call ws e) h = contra (h _ (inl refl)) refl
+acts-rest def inert h = contra (h _ (inl refl)) refl
+acts-rest def (send ĉ x w g c i v) h = contra (h _ (inl refl)) refl
+acts-rest def (out ĉ g c f) h = contra (h _ (inl refl)) refl
+acts-rest def (recv ĉ v w g c i e) h = contra (h _ (inl refl)) refl
+acts-rest def (inn ĉ g c f) h = contra (h _ (inl refl)) refl
+acts-rest def (more m) h = m
 
 sticks-wait : {S T : Agent} → Sticks S T → AllWait (S .threads) → AllWait (T .threads)
 sticks-wait (stuck A B w u) h t i = h t (in-right t A B i)
@@ -74,7 +69,7 @@ one-waits : (def : ℕ → Process) {S T : Agent} → Reduces def Nothing S T �
 one-waits def (par A A′ B r) h =
     let front = one-waits def r (λ u j. h u (⊎-elim (λ k. in-right u B A k) (λ k. in-left u B A k) (in-either u A B j))) in
     λ t i. ⊎-elim (λ k. front t (in-right t A′ B k)) (λ k. front t (in-left t A′ B k)) (in-either t B A′ i)
-one-waits def (acts {A} {B} r) h = absurd (acts-rest def (A .channels) (A .threads) B h (acts-of def r))
+one-waits def (acts r) h = absurd (acts-rest def r h)
 one-waits def (reclaims r) h = reclaims-wait r h
 one-waits def (sticks r) h = sticks-wait r h
 one-waits def (exchange p r q) h = let front = one-waits def r (λ u j. h u (in-rearranged u p j)) in λ t i. front t (in-rearranged t q i)

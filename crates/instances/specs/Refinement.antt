@@ -14,9 +14,9 @@ use Rattle.cases.specs.Tables.{portReceiver}
 use Rattle.published.specs.Syntax.{Process, end, choice, nothing, wait, waiting, someWait, onlyWaits}
 use Rattle.published.specs.Agents as Agents
 use Rattle.published.specs.Agents.{_∈_, Value, channel, refers, mentions, knows, Thread}
-use Rattle.published.specs.Rules.{Ours, Reaches}
+use Rattle.published.specs.Rules.{Reaches}
 use Rattle.published.specs.Polarity.{Bare, our-proposition-2}
-use Rattle.published_laws.specs.Standing.{bodyOf, envOf, committed, commitmentsFrom, waitingThread, threadOf, threadsOf, agentOf}
+use Rattle.published_laws.specs.Standing.{bodyOf, forNumbers, OurRules, envOf, committed, commitmentsFrom, waitingThread, threadOf, threadsOf, agentOf}
 use Rattle.published_laws.specs.Products.{Bench}
 use Rattle.published_laws.specs.Benches.{portsAnd, bench-is}
 use Rattle.published_laws.specs.Starting.{started-agent}
@@ -55,9 +55,9 @@ start-bare o E x (inr i) = last-bare x (rw (started-agent tb) at i)
     last-bare x (inr z) = absurd z
 
 pub facing-unreached : (o o′ : Option Value) (E E′ : Process)
-    → ¬ Reaches (bodyOf (filledUp listed)) Ours (agentOf (filledUp listed) (benchAt o E) (started (filledUp listed)))
+    → ¬ Reaches (bodyOf (filledUp listed)) (OurRules (filledUp listed)) (agentOf (filledUp listed) (benchAt o E) (started (filledUp listed)))
     (agentOf (filledUp listed) (benchAt o′ E′) (facing 2 2))
 unfolding running agentOf threadsOf threadOf waitingThread commitmentsFrom committed
 facing-unreached o o′ E E′ p =
-    our-proposition-2 (bodyOf tb) (agentOf tb (benchAt o E) (started tb)) (agentOf tb (benchAt o′ E′) (facing 2 2)) (start-bare o E) p
+    our-proposition-2 (bodyOf tb) (forNumbers tb) (agentOf tb (benchAt o E) (started tb)) (agentOf tb (benchAt o′ E′) (facing 2 2)) (start-bare o E) p
     1 2 (omega arith) (omega arith) (λ q. omega arith) 0 1 1 _ _ (inl refl) (inl refl)
