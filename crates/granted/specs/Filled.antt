@@ -4,14 +4,14 @@ use Prim.Native.Nat.{ℕ, _<_}
 use native.Mathlib.Omega.{arith}
 use mathlib.Core.Path.{_≡_, refl}
 use mathlib.Core.Logic.{_↔_, _≢_}
-use mathlib.Core.Bool.{true, false, not, _||_}
+use mathlib.Core.Bool.{true, not, _||_}
 use mathlib.Core.List.{List, [], _∷_}
 use lib.Dec.{ltb, leb}
 use lib.ListN.{getD}
 use borrow.Author.Tests.{ltb-true, eqb-false, ne-eqb, not-true}
 use Rattle.numbers.specs.Search.{every}
 use Rattle.numbers.specs.Search.Laws.{caseB, contra, every-elim, every-intro}
-use Rattle.numbers.specs.Tests.{and-right}
+use Rattle.numbers.specs.Tests.{and-right, parts}
 use Rattle.table.specs.Table.{Table, tableOf, nodes}
 use Rattle.table.specs.Layout.{definitionOf}
 use Rattle.flow.specs.Flow.{mayLack}
@@ -22,7 +22,7 @@ use Rattle.loading.specs.Grounds.{edges}
 use Rattle.loading.specs.Examples.{inputRows, header, definition, setting, verdicts}
 use Rattle.state.specs.State.{State, maxThreads, rowSlots, minusOne, thread, status, standsAt, slotOf, inUse}
 use Rattle.rules.specs.Program.{channelSlot}
-use Rattle.rules.specs.Sound.{rowInRange, slotFilled, slotsFilled}
+use Rattle.rules.specs.Sound.{rowInRange, slotFilled, slotsFilled, sound}
 use Rattle.granted.specs.Passed.{Passed, judged-passed, accepted-passed}
 
 -- slot k of a thread's row, if it is a channel slot that surely has been written where the thread stands, holds a channel
@@ -70,6 +70,11 @@ module _ (tb : Table) (a : Passed tb) where
         λ e t l. row-filled-iff (thread s t) (range t l) .0 (every-elim (λ t. slotsFilled tb (thread s t)) maxThreads t e l),
         λ f. every-intro (λ t. slotsFilled tb (thread s t)) maxThreads (λ t l. row-filled-iff (thread s t) (range t l) .1 (f t l)),
       )
+
+  -- so in a sound state
+  pub sound-filled : (s : State) → sound tb s ≡ true → (t : ℕ) → t < maxThreads → FilledRow tb (thread s t)
+  unfolding sound
+  sound-filled s e = filled-iff s (search parts depth 12) .0 (search parts depth 12)
 
 -- of the bytes of a table that is accepted
 pub accepted-filled : (b : List ℕ) → accepted b ≡ true → ((i : ℕ) → getD b i 0 < 256) → (s : State) → every (λ t. rowInRange (tableOf b) (thread s t)) maxThreads ≡ true

@@ -1,5 +1,6 @@
 -- The input of document 01's listing is in order, and one change in it is refused on each ground. Assumes nothing.
 use Prim.Native.Nat.{ℕ}
+use native.Mathlib.Omega.{arith}
 use mathlib.Core.Path.{_≡_, refl, sym, _∙_, ap}
 use mathlib.Core.Logic.{_≢_}
 use mathlib.Core.List.{List, [], _∷_}
@@ -22,9 +23,9 @@ use Rattle.loader.specs.Verdict.{atFault, judgedFlow, judgedRows, judged, verdi
 use Rattle.loader.specs.declared.Ground.{Ground}
 use Rattle.loader.specs.declared.Ground.the-variants.{Lines, Field, Header, Total, Kind, Sums, Range, Types, Unwritten, Unreachable}
 use Rattle.loader.specs.declared.Verdict.the-variants.{Sound, Fault}
-use Rattle.loading.specs.Refused.{anyNumber, Within, decimal, printed, Refused, LowestOf}
+use Rattle.loading.specs.Refused.{from, anyNumber, Within, decimal, printed, Refused, rank, LowestOf}
 use Rattle.loading.specs.Refused.Numbers.{pattern, text-printed}
-use Rattle.loading.specs.Refused.Laws.{refused-iff, accepted-iff}
+use Rattle.loading.specs.Refused.Laws.{refused-iff, in-order-iff}
 
 -- what a verdict computes with: the text, and then each ground
 unfoldable readings : Unit {0}
@@ -143,11 +144,21 @@ listing-unreachable = refl
 
 -- no ground has a line of the listing at fault
 pub listing-refused : (g : Ground) (l : ℕ) → ¬ Refused (input header definition setting) g l
-listing-refused = accepted-iff (input header definition setting) .0 listing-sound
+listing-refused = in-order-iff (input header definition setting) .0 listing-sound
+
+-- seventeen types are at fault by the limits themselves
+pub header-refused : Refused (input (row 1 17 1 2 6 5 0 0 0 0) definition setting) Header 1
+unfolding readings Refused from
+header-refused = (refl, (0, omega arith, λ w. w .1 .le))
 
 -- a slot that there is not: line 14 is refused on ground 4, no line before it is, and none on the grounds before
 pub range-refused : LowestOf (Refused (input header definition (row 6 0 0 0 5 2 7 0 3 0))) Range 14
 range-refused = refused-iff (input header definition (row 6 0 0 0 5 2 7 0 3 0)) Range 14 .0 listing-range
+
+-- so it is refused on no later ground, though it be at fault there
+pub range-only : ¬ LowestOf (Refused (input header definition (row 6 0 0 0 5 2 7 0 3 0))) Types 14
+unfolding rank
+range-only w = w .2 Range 14 (omega arith) (range-refused .0)
 
 -- with nothing set at node 2, the send at node 3 reads slot 1, which the one path to there has not written
 pub unwritten-refused : LowestOf (Refused (input header definition (row 6 0 0 0 0 0 0 0 3 0))) Unwritten 15

@@ -1,4 +1,5 @@
--- Paths. One starts at a definition's first node and goes on from node to node: along a branch to its next node, or to the child that it spawns. Nodes are counted over the whole file.
+-- Paths. One starts at a definition's first node and goes on from node to node: along a branch to its next node, or to the child that it spawns.
+-- Nodes are counted over the whole file.
 pub mod Writes
 pub mod Pass
 pub mod Laws

@@ -1,6 +1,6 @@
--- Grounds 1 to 7 in the words of document 01, in its order: what must be so for a file to be refused on a ground with a line. A reader has to believe this page,
--- the layout of the table (`table/specs`) and the paths (`Paths.antt`); `Refused/Laws.antt` proves that the verdict is the lowest ground so refused, with its
--- first line, for every file. A line's fields after the kind are places 1 to 11 of its row; line l is row l - 1. Assumes nothing.
+-- Grounds 1 to 7 as document 01 words them, in its order: when a line of a file is at fault on a ground. A reader has to believe this page, the layout of a
+-- table (`table/specs`) and its paths (`Paths.antt`). `Refused/Laws.antt` proves of every file, accepted or refused, that the verdict names the lowest ground
+-- with a line at fault, and the first such line. Line l is row l - 1 of the table, and a line's fields after its kind are places 1 to 11. Assumes nothing.
 pub mod Numbers
 pub mod Form
 pub mod Ranges
@@ -68,7 +68,8 @@ decimal (negsuc n) = 45 ∷ figures (suc n)
 abbrev pub printed : ℤ → List ℕ
 printed z = rightJustified 6 (decimal z)
 
--- the whole number that a table has in place k of row r. Where ground 2 refuses no line, its print is the field (`field-printed`)
+-- the whole number that a table has in place k of row r. Where ground 2 finds nothing, it is the number whose print the field is (`Refused/Form.antt`:
+-- `field-number`)
 abbrev pub number : Table → ℕ → ℕ → ℤ
 number tb r k = toZ w16 (at tb r k)
 
@@ -90,6 +91,7 @@ abbrev pub headerLimits : List Limits
 headerLimits = from 0 16 ∷ from 1 16 ∷ from 0 256 ∷ from 1 192 ∷ from 0 384 ∷ from 0 8 ∷ []
 
 module _ (tb : Table) where
+  -- a count out of its limits
   abbrev pub HeaderWrong : Type 0
   HeaderWrong = (k : ℕ) × (k < 6) × (¬ Within (getD headerLimits k unused) (number tb 0 (suc k)))
 
@@ -97,6 +99,7 @@ module _ (tb : Table) where
   abbrev pub TotalWrong : ℕ → Type 0
   TotalWrong n = pos n ≢ pos 1 +ℤ sumZ (λ k. number tb 0 (suc k)) 5
 
+  -- another kind than the header's counts give row r
   abbrev pub KindWrong : ℕ → Type 0
   KindWrong r = number tb r 0 ≢ pos (kindDue tb r)
 
@@ -104,7 +107,7 @@ module _ (tb : Table) where
   abbrev pub SumsWrong : Type 0
   SumsWrong = (p : Part) × (sumZ (λ i. toZ w16 (size tb p i)) (blocks tb p) ≢ pos (lines tb p))
 
--- ---- ground 4
+-- ---- ground 4. Each line has the limits of its fields; a field past those that are listed is unused
 
 -- an operand's limits by its role, in a definition of s slots
 unfoldable pub roleLimits : Role → ℤ → Limits
@@ -118,29 +121,36 @@ roleLimits WriteChannel s = numbered s
 roleLimits WriteCarried s = numbered s
 
 module _ (tb : Table) where
-  -- a type's line, and a slot's
+  -- how many slots and nodes definition d has
+  abbrev pub slotsOf : ℕ → ℤ
+  slotsOf d = number tb (definitionRow tb + d) 2
+
+  abbrev pub nodesOf : ℕ → ℤ
+  nodesOf d = number tb (definitionRow tb + d) 3
+
+  -- a type's line, and a slot's: a type, of which there are number tb 0 1
   unfoldable pub typeLimits : List Limits
   typeLimits = record { least = pos 0; most = number tb 0 1 } ∷ []
 
   -- next and child of a branch of node n, in definition d: the nodes of d past n, as d numbers them
   unfoldable pub onward : ℕ → ℕ → Limits
-  onward n d = record { least = pos (suc (n - start tb Nodes d)); most = predℤ (number tb (definitionRow tb + d) 3) }
+  onward n d = record { least = pos (suc (n - start tb Nodes d)); most = predℤ (nodesOf d) }
 
 module _ (tb : Table) (r : ℕ) where
   -- a definition's: parameters, slots, nodes
   unfoldable pub definitionLimits : List Limits
   definitionLimits = from 0 8 ∷ record { least = number tb r 1; most = pos 16 } ∷ from 1 192 ∷ []
 
-  -- a node's: an end; a choice and its branches; a call, the definition called and for each of its parameters a slot of definition d, where the call stands
+  -- a node's, in definition d: an end; a choice, and how many branches; a call, the definition called and for each of its parameters a slot of d
   unfoldable pub callLimits : ℕ → List Limits
-  callLimits d = numbered (number tb 0 2) ∷ replicate (parameters tb (at tb r 2)) (numbered (number tb (definitionRow tb + d) 2))
+  callLimits d = numbered (number tb 0 2) ∷ replicate (parameters tb (at tb r 2)) (numbered (slotsOf tb d))
 
   unfoldable pub nodeLimits : ℕ → List Limits
   nodeLimits d = from 0 2 ∷ cond (eqb (at tb r 1) 1) (from 1 8 ∷ []) (cond (eqb (at tb r 1) 2) (callLimits d) [])
 
   -- a branch's, of node n in definition d: guard, its two operands, action, its three operands, next, and child if it is a spawn
   unfoldable pub operandLimits : ℕ → ℕ → Limits
-  operandLimits d k = roleLimits (operandRole tb r k) (number tb (definitionRow tb + d) 2)
+  operandLimits d k = roleLimits (operandRole tb r k) (slotsOf tb d)
 
   unfoldable pub branchLimits : ℕ → ℕ → List Limits
   branchLimits n d =
@@ -148,7 +158,7 @@ module _ (tb : Table) (r : ℕ) where
       ∷ from 0 7 ∷ operandLimits d 2 ∷ operandLimits d 3 ∷ operandLimits d 4
       ∷ onward tb n d ∷ cond (eqb (at tb r 4) 4) (onward tb n d) unused ∷ []
 
-  -- by the line's kind; what follows the limits listed is unused
+  -- by the line's kind
   unfoldable pub lineLimits : List Limits
   lineLimits =
       cond (eqb (at tb r 0) 1) headerLimits
@@ -158,10 +168,11 @@ module _ (tb : Table) (r : ℕ) where
       (cond (eqb (at tb r 0) 5) (nodeLimits (definitionOf tb (r - nodeRow tb)))
       (branchLimits (nodeOf tb (r - branchRow tb)) (definitionOf tb (nodeOf tb (r - branchRow tb))))))))
 
+  -- a field out of its limits. The header's counts are among them, which ground 3 has passed
   abbrev pub OutOfRange : Type 0
   OutOfRange = (k : ℕ) × (k < 11) × (¬ Within (getD lineLimits k unused) (number tb r (suc k)))
 
--- ---- ground 5. Type 0 is a number, every other a channel
+-- ---- ground 5. Type 0 is a number, every other type a channel. Where this ground counts, each field is in its limits and its pattern is its number
 
 module _ (tb : Table) where
   -- definition 0 has the ports for its parameters, all of type 1, which carries numbers
@@ -190,17 +201,16 @@ module _ (tb : Table) where
     pub set-number : at tb r 4 ≡ 5 → IsNumber d (at tb r 5)
     pub sums : (at tb r 4 ≡ 6) ⊎ (at tb r 4 ≡ 7) → IsNumber d (at tb r 5) × IsNumber d (at tb r 6) × IsNumber d (at tb r 7)
 
--- ---- by rows: of a node, of a branch
-
 module _ (tb : Table) (r : ℕ) where
-  -- row r is the line of a node n with P n
+  -- row r is the line of a node n, and P n
   abbrev pub AtNode : (ℕ → Type 0) → Type 0
   AtNode P = (n : ℕ) × (n < nodes tb) × (r ≡ nodeRow tb + n) × P n
 
-  -- row r is the line of a branch of a node n with P n
+  -- row r is the line of a branch of a node n, and P n
   abbrev pub AtBranch : (ℕ → Type 0) → Type 0
   AtBranch P = (n : ℕ) × (i : ℕ) × (n < nodes tb) × (i < branchCount tb n) × (r ≡ rowOf tb n i) × P n
 
+  -- the ports' rule is at fault in definition 0's line
   abbrev pub TypesDisagree : Type 0
   TypesDisagree =
       ((r ≡ definitionRow tb) × (¬ PortsAgree tb))

@@ -17,7 +17,7 @@ use Rattle.numbers.specs.Search.{every}
 use Rattle.numbers.specs.Search.Laws.{caseB, contra, every-elim, every-intro, getD-tabulate}
 use Rattle.numbers.specs.Tests.{and-left, and-right, parts}
 use Rattle.text.specs.Text.{fieldOf, text}
-use Rattle.text.specs.Text.Laws.{reads-value, wrong-reads, text-reads}
+use Rattle.text.specs.Text.Laws.{reads-value, wrong-reads, text-reads, text-injective}
 use Rattle.table.specs.Table.{Table, maxRows, rowNumbers, types, definitions, slots, nodes, branches, ports, lineTotal, definitionRow, slotRow, nodeRow, branchRow}
 use Rattle.table.specs.Layout.{blocks, lines, size, branchCount}
 use Rattle.table.specs.Form.{within, headerInRange, kindDue, kindWrong, sumAgrees, sumsAgree}
@@ -81,10 +81,10 @@ module _ (file : List ℕ) where
         absurd (⊎-elim (λ e. omega (arith, l .whole, l .some)) (λ s. ⊎-elim (λ f. f (lineCount file, l .whole)) (λ h. omega (arith, l .whole, l .few)) s) w)),
   )
 
-  -- a field is read as a number just when it is the print of one
-  field-printed-or : (r k : ℕ) → (fieldIsNumber file r k ≡ false) ↔ ((z : ℤ) → Within anyNumber z → fieldOf file r k ≢ printed z)
+  -- a field is not read as a number just when it is the print of none
+  wrong-iff : (r k : ℕ) → (fieldIsNumber file r k ≡ false) ↔ ((z : ℤ) → Within anyNumber z → fieldOf file r k ≢ printed z)
   unfolding fieldIsNumber isValue
-  field-printed-or r k = (
+  wrong-iff r k = (
     λ e z w q. let (v, h, n) = pattern z w in
         let p : fieldOf file r k ≡ text v = q ∙ ap printed (sym n) ∙ sym (text-printed v h) in
         let t = text-reads (fieldOf file r k) v h p in contra refl (rw t at e),
@@ -99,10 +99,10 @@ module _ (file : List ℕ) where
         inr (eqb-false (getD file (r * 73 + 72) 0) 10 (rw y at q)))
         (λ y. let (k, h, f) = not-all (λ k. fieldIsNumber file r k ≡ true) (λ k. caseB (fieldIsNumber file r k) (λ z. inl z) (λ z. inr (λ w. contra w z))) 12
         (λ a. contra (every-intro (fieldIsNumber file r) 12 a) y) in
-        inl (k, h, field-printed-or r k .0 (caseB (fieldIsNumber file r k) (λ z. absurd (f z)) (λ z. z)))),
+        inl (k, h, wrong-iff r k .0 (caseB (fieldIsNumber file r k) (λ z. absurd (f z)) (λ z. z)))),
     λ w. caseB (malformed file r) (λ y. y) (λ y. let q = not-false _ y in
         absurd (⊎-elim (λ s. let (k, h, f) = s in
-        contra (every-elim (fieldIsNumber file r) 12 k (and-left _ _ q) h) (field-printed-or r k .1 f))
+        contra (every-elim (fieldIsNumber file r) 12 k (and-left _ _ q) h) (wrong-iff r k .1 f))
         (λ n. n (eqb-true (getD file (r * 73 + 72) 0) 10 (and-right (every (fieldIsNumber file r) 12) _ q))) w)),
   )
 
@@ -208,8 +208,14 @@ module _ (tb : Table) (r : ℕ) where
 
 -- ---- the fields of a file that ground 2 does not refuse
 
--- a field is the print of the number that the table has for it
-pub field-printed : (file : List ℕ) (r k : ℕ) → r < lineCount file → r < maxRows → malformed file r ≡ false → k < 12 → fieldOf file r k ≡ printed (number (fileTable file) r k)
-field-printed file r k h l e z =
-    let (f, q) = reads-value (fieldOf file r k) (numberAt file r k) (field-read file r k e z) in
-    q ∙ text-printed (numberAt file r k) f ∙ rw (row-read file r h l, getD-tabulate rowNumbers k (numberAt file r) 0 z)
+-- a field is the print of the number that the table has for it, and of no other
+pub field-number : (file : List ℕ) (r k : ℕ) (z : ℤ) → r < lineCount file → r < maxRows → malformed file r ≡ false → k < 12 → Within anyNumber z
+    → (fieldOf file r k ≡ printed z) ↔ (number (fileTable file) r k ≡ z)
+field-number file r k z h l e m w =
+    let v = numberAt file r k in
+    let (f, q) = reads-value (fieldOf file r k) v (field-read file r k e m) in
+    let n : number (fileTable file) r k ≡ toZ w16 v = rw (row-read file r h l, getD-tabulate rowNumbers k (numberAt file r) 0 m) in (
+      λ p. let (u, g, o) = pattern z w in
+          n ∙ ap (toZ w16) (text-injective v u f g (sym q ∙ p ∙ ap printed (sym o) ∙ sym (text-printed u g))) ∙ o,
+      λ p. q ∙ text-printed v f ∙ ap printed (sym n ∙ p),
+    )

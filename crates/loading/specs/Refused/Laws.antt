@@ -2,14 +2,15 @@
 -- and the file is in order exactly when it is refused on none. Assumes nothing.
 use Prim.Native.Nat.{ℕ, zero, suc, _+_, _<_}
 use native.Mathlib.Omega.{arith}
-use mathlib.Core.Path.{_≡_, refl, _∙_}
+use mathlib.Core.Path.{_≡_, refl, sym, _∙_}
 use mathlib.Core.Logic.{_⊎_, inl, inr, ⊎-elim, _↔_}
 use mathlib.Core.Bool.{Bool, true, false}
 use mathlib.Core.List.{List}
 use lib.Dec.{ltb, eqb}
+use lib.ListN.{length}
 use borrow.Author.Tests.{ltb-true, lt-ltb, eqb-true, eq-eqb, not-false}
 use Rattle.numbers.specs.Search.{first}
-use Rattle.numbers.specs.Search.Laws.{contra, first-void}
+use Rattle.numbers.specs.Search.Laws.{caseB, contra, first-void}
 use Rattle.numbers.specs.Tests.{and-left, and-right}
 use Rattle.table.specs.Table.{nodes, nodeRow, lineTotal}
 use Rattle.table.specs.Form.{headerInRange, kindWrong, sumsAgree}
@@ -18,6 +19,10 @@ use Rattle.checks.specs.Types.{typesDisagree}
 use Rattle.flow.specs.Flow.{readsUnwritten, unreachable}
 use Rattle.loader.specs.File.{lineCount, notLines, malformed, fileTable}
 use Rattle.loader.specs.Verdict.{groundNumber, verdict}
+use Rattle.loader.specs.Verdict.Laws.{no-sound}
+use Rattle.loader.specs.Load.{tableLength, afterVerdict, loaded}
+use Rattle.loader.specs.declared.Loaded.{Loaded}
+use Rattle.loader.specs.declared.Loaded.the-variants.{Done, FileRefused, WrongLength}
 use Rattle.loader.specs.declared.Ground.{Ground}
 use Rattle.loader.specs.declared.Ground.the-variants.{Lines, Field, Header, Total, Kind, Sums, Range, Types, Unwritten, Unreachable}
 use Rattle.loader.specs.declared.Verdict.{Verdict}
@@ -146,6 +151,20 @@ module _ (file : List ℕ) where
   either Sound = inl refl
   either (Fault g l) = inr (g, l, refl)
 
+  refused-answer : (v : Verdict) (t : List ℕ) (g : Ground) (l : ℕ) → (afterVerdict v file t .answer ≡ FileRefused g l) ↔ (v ≡ Fault g l)
+  unfolding afterVerdict
+  refused-answer Sound t g l = (
+    λ e. absurd (caseB (eqb (length t) tableLength) (λ y. done-refused (rw y at e)) (λ y. length-refused (rw y at e))),
+    λ e. no-sound g l (sym e),
+  )
+    where
+      done-refused : _≡_ {A = Loaded} Done (FileRefused g l) → ⊥
+      done-refused q = let z : _≡_ {A = ℕ} 0 1 = cc in omega arith
+
+      length-refused : _≡_ {A = Loaded} WrongLength (FileRefused g l) → ⊥
+      length-refused q = let z : _≡_ {A = ℕ} 0 1 = cc in omega arith
+  refused-answer (Fault h m) t g l = (λ e. let p : h ≡ g = cc in let q : m ≡ l = cc in rw (p, q), λ e. let p : h ≡ g = cc in let q : m ≡ l = cc in rw (p, q))
+
   -- a file is refused on ground g with line l exactly when g is the lowest ground on which it is refused, and l its first line
   pub refused-iff : (g : Ground) (l : ℕ) → (verdict file ≡ Fault g l) ↔ LowestOf (Refused file) g l
   refused-iff g l = (
@@ -155,11 +174,16 @@ module _ (file : List ℕ) where
   )
 
   -- and is in order exactly when it is refused on none
-  pub accepted-iff : (verdict file ≡ Sound) ↔ ((g : Ground) (l : ℕ) → ¬ Refused file g l)
-  accepted-iff = (
+  pub in-order-iff : (verdict file ≡ Sound) ↔ ((g : Ground) (l : ℕ) → ¬ Refused file g l)
+  in-order-iff = (
     none-refused,
     λ f. ⊎-elim (λ e. e) (λ s. let (h, m, e) = s in absurd (f h m (refused-by h m e .0))) (either (verdict file)),
   )
+
+  -- so load answers, whatever the table's buffer holds
+  pub answer-iff : (t : List ℕ) (g : Ground) (l : ℕ) → (loaded file t .answer ≡ FileRefused g l) ↔ LowestOf (Refused file) g l
+  unfolding loaded
+  answer-iff t g l = let r = refused-iff g l in (λ e. r .0 (refused-answer (verdict file) t g l .0 e), λ w. refused-answer (verdict file) t g l .1 (r .1 w))
 
   -- no ground with a lower number refuses the file
   pub lowest-number : (g : Ground) (l : ℕ) → verdict file ≡ Fault g l → (h : Ground) (m : ℕ) → groundNumber h < groundNumber g → ¬ Refused file h m
