@@ -128,7 +128,7 @@ refusal table state (on (run n)) = runResult table state n .answer .refusal
 refusal table state collect = collectResult table state .answer .refusal
 
 -- C gives a number, and the claim has its pattern
-given-so : (v : ℕ) → v < 4294967296 → ofZ w32 (toZ w32 v) ≡ v
+pub given-so : (v : ℕ) → v < 4294967296 → ofZ w32 (toZ w32 v) ≡ v
 given-so v h = ofZ-toZ {w = w32} {n = v} (record { fits = h })
 
 -- ---- the bytes are those of the claim

@@ -1,4 +1,5 @@
--- One file that loads, one list of calls from its start, and a collection after it that takes a thread and leaves another waiting. Assumes nothing.
+-- One file that loads, one list of calls from its start, and a collection after it that takes a thread and leaves another waiting; the same in the numbers
+-- that C gets, with what they exclude. Assumes nothing.
 use Prim.Native.Nat.{ℕ, _<_}
 use native.Mathlib.Omega.{arith}
 use mathlib.Core.Path.{_≡_, refl, ap, _∙_}
@@ -6,42 +7,53 @@ use mathlib.Core.Bool.{true, false}
 use mathlib.Core.List.{List, [], _∷_}
 use lib.Dec.{ltb}
 use lib.ListN.{length, getD, replicate, length-replicate}
+use lib.IntN.{pos}
 use Rattle.text.specs.Text.{fileText}
 use Rattle.table.specs.Table.{Table, tableOf, ports}
 use Rattle.loader.specs.File.{fileTable}
-use Rattle.loader.specs.Verdict.{verdict}
-use Rattle.loader.specs.Load.{tableLength, tableBytes, Outcome, outcome, loaded, accepted}
+use Rattle.loader.specs.Verdict.{groundNumber, verdict}
+use Rattle.loader.specs.Load as Load
+use Rattle.loader.specs.Load.{tableLength, tableBytes, Outcome, outcome, afterVerdict, loaded, accepted}
+use Rattle.loader.specs.declared.Ground.the-variants.{Lines}
 use Rattle.loader.specs.declared.Loaded.the-variants.{Done}
-use Rattle.loader.specs.declared.Verdict.the-variants.{Sound}
+use Rattle.loader.specs.declared.Verdict.the-variants.{Sound, Fault}
+use Rattle.loading.specs.Examples.{listing-cut}
 use Rattle.loading.specs.Printed.{filledUp}
 use Rattle.loading.specs.Yields.{bytes-hold, file-shaped, sound-loads}
 use Rattle.state.specs.State.{State, stateLength, view, stateBytes, thread, isWaiting}
 use Rattle.rules.specs.Start.{started}
 use Rattle.rules.specs.Offers.{partnerOf}
-use Rattle.rules.specs.Calls.{startAdmission, startBy, startCall, bench, givenTo, giveBy, giveCall, courseOf, runBy, runCall}
+use Rattle.rules.specs.Moves.{move}
+use Rattle.rules.specs.Calls.{startAdmission, startBy, startCall, canStep, stepAnswer, stepEnd, stepBy, stepCall, bench, givenTo, giveBy, giveCall, courseOf, runBy, runCall}
 use Rattle.rules.specs.declared.Direction.the-variants.{In}
 use Rattle.rules.specs.declared.Partner.the-variants.{At}
+use Rattle.rules.specs.declared.Move.the-variants.{Spawns}
 use Rattle.rules.specs.declared.Admission.{Admission}
 use Rattle.rules.specs.declared.Admission.the-variants as Admission
 use Rattle.rules.specs.declared.Started.the-variants as Started
 use Rattle.granted.specs.Codes.{clash}
+use Rattle.engine.specs.Numbers.{partnerNumber}
 use Rattle.engine_laws.specs.Shape.Laws.{view-bytes}
 use Rattle.engine_laws.specs.Lasting.{course-kept}
 use Rattle.engine_laws.specs.Started.{started-sound}
-use Rattle.engine_laws.specs.Frames.{elem}
+use Rattle.engine_laws.specs.Frames.{elem, movers}
 use Rattle.engine_laws.specs.Buffers.{SoundBuffer, view-sound}
 use Rattle.engine_laws.specs.Calls.{start-done, admitted}
-use Rattle.engine_laws.specs.Lists.{Call, give, run, after}
+use Rattle.engine_laws.specs.Lists.{Call, step, give, run, after}
 use Rattle.engine_laws.specs.Instance.{loaded-small, loaded-accepted}
 use Rattle.collector.specs.Collect.{collected, takenCount, collectCall}
 use Rattle.collector_laws.specs.Linked.{Series}
 use Rattle.collector_laws.specs.Out.{takenThread}
 use Rattle.collector_laws.specs.Computing.{collecting}
 use Rattle.collector.specs.declared.Collected.the-variants as Collected
+use Rattle.pithread.specs.Interface.{numbered, loadResult, inNumbers, startResult, stepFields, stepNumbers, stepResult, collectFields, collectNumbers, collectResult}
 use Rattle.cases.specs.Files.{inOrder, rows-load, judging}
-use Rattle.guarantee.specs.Claim.{Any, on, afterAny, afterList, reachedBy, metByGive, moving, movingAll, takenBy, Guarantee}
+use Rattle.guarantee.specs.Claim.{Any, on, afterAny, afterList, reachedBy, unlessRefused, metByGive, moving, movingAll, takenBy, Guarantee}
 use Rattle.guarantee.specs.Kept.{grants, collect-view, taken-is}
 use Rattle.guarantee.specs.Proof.{reached-sound, collection-made, guarantee}
+use Rattle.guarantee.specs.Exported.{table-so}
+use Rattle.guarantee.specs.InNumbers.{moved, InNumbers}
+use Rattle.guarantee.specs.InNumbers.Proof.{moved-so, started-iff, in-numbers}
 
 -- ---- the state that the bytes hold after a start, and after a run
 
@@ -165,12 +177,17 @@ one-taken = (refl, refl, refl)
 worked-sound : SoundBuffer table worked
 worked-sound = reached-sound table table-accepted table-small blankState blank-long (on (run 5) ∷ [])
 
+-- the state after the start and a run of n steps
+after-run : (n : ℕ) → view (reachedBy table blankState (on (run n) ∷ [])) ≡ courseOf tb n (started tb) .state
+unfolding afterList afterAny after
+after-run n =
+    run-view table table-accepted table-small (startCall table blankState .state) (reached-sound table table-accepted table-small blankState blank-long []) n
+    ∙ ap (λ (s : State). courseOf (tableOf table) n s .state) (start-view table table-accepted table-small blankState blank-long)
+    ∙ ap (λ (x : Table). courseOf x n (started x) .state) table-holds
+
 worked-view : view worked ≡ parted
-unfolding parted afterList afterAny after
-worked-view =
-    run-view table table-accepted table-small (startCall table blankState .state) (reached-sound table table-accepted table-small blankState blank-long []) 5
-    ∙ ap (λ (s : State). courseOf (tableOf table) 5 s .state) (start-view table table-accepted table-small blankState blank-long)
-    ∙ ap (λ (x : Table). courseOf x 5 (started x) .state) table-holds
+unfolding parted
+worked-view = after-run 5
 
 -- ---- so, by the bytes: the collection is made and takes one thread, which is thread 1; and thread 0 waits after it, so that no part of the claim is empty
 
@@ -214,3 +231,64 @@ parent-moves = rw (admitted table table-accepted worked worked-sound, port-open,
 -- and after the collection thread 0 is linked
 pub parent-linked : (r : List ℕ) × Series (tableOf table) (view (collectCall table worked .state)) 0 r
 parent-linked = parting-guarantee (on (run 5) ∷ []) .linked 1 one-collected 0 (omega arith) parent-waits
+
+-- ---- in C's numbers
+
+-- load is answered with 0, and so is start in the blank buffer
+pub parting-zero : loadResult (fileText parting) blankTable .answer .refusal ≡ pos 0
+unfolding loadResult numbered Load.refusalNumber
+parting-zero = rw parting-loads
+
+pub parting-begun : startResult (loadResult (fileText parting) blankTable .table) blankState .answer .refusal ≡ pos 0
+unfolding table
+parting-begun = rw (table-so (fileText parting) blankTable) (started-iff table table-accepted blankState .1 blank-long)
+
+-- so the claim holds of it, of whatever list
+pub parting-in-numbers : (ks : List Any) → InNumbers (loadResult (fileText parting) blankTable .table) blankState ks
+parting-in-numbers = in-numbers (fileText parting) blankTable parting-zero blankState parting-begun
+
+-- while document 01's file of 72 bytes is refused with 1, and leaves the buffer as it was
+abbrev cut : (file : List ℕ) × (verdict file ≡ Fault Lines 0)
+cut = (_, listing-cut)
+
+pub cut-refused : (loadResult (cut .0) blankTable .answer .refusal ≡ pos 1) × (loadResult (cut .0) blankTable .table ≡ blankTable)
+unfolding loadResult numbered loaded afterVerdict Load.refusalNumber groundNumber
+cut-refused = (rw (cut .1), rw (cut .1))
+
+-- the collection after the run of five steps answers 1
+pub one-answered : collectResult table worked .answer .threads ≡ pos 1
+unfolding collectResult inNumbers collectNumbers collectFields
+one-answered = rw one-collected
+
+-- a give on the port in its place names thread 0
+pub parent-named : moved table worked (give 0 7 (omega arith)) ≡ 0 ∷ []
+unfolding moving giveCall giveBy givenTo metByGive
+parent-named = moved-so table table-accepted worked worked-sound (give 0 7 (omega arith)) ∙ rw (admitted table table-accepted worked worked-sound, port-open, parent-found)
+
+-- after one step thread 0 is about to spawn: the answer of its step names thread 1, which it starts and does not meet
+abbrev pub begun : List ℕ
+begun = reachedBy table blankState (on (run 1) ∷ [])
+
+unfoldable spawning : State
+spawning = courseOf tb 1 (started tb) .state
+
+spawns : (canStep spawning 0 ≡ true) × (move tb spawning 0 ≡ Spawns 0 1)
+unfolding collecting spawning canStep
+spawns = (refl, refl)
+
+begun-sound : SoundBuffer table begun
+begun-sound = reached-sound table table-accepted table-small blankState blank-long (on (run 1) ∷ [])
+
+begun-view : view begun ≡ spawning
+unfolding spawning
+begun-view = after-run 1
+
+child-moves : (canStep (view begun) 0 ≡ true) × (move (tableOf table) (view begun) 0 ≡ Spawns 0 1)
+child-moves = rw (table-holds, begun-view) spawns
+
+pub child-named : (stepResult table begun 0 .answer .partner ≡ pos 1) × (moved table begun (step 0) ≡ 0 ∷ [])
+unfolding stepResult inNumbers stepNumbers stepFields partnerNumber stepCall stepBy stepEnd stepAnswer moving unlessRefused movers
+child-named = (
+  rw (admitted table table-accepted begun begun-sound, child-moves .0, child-moves .1),
+  moved-so table table-accepted begun begun-sound (step 0) ∙ rw (admitted table table-accepted begun begun-sound, child-moves .0, child-moves .1),
+)

@@ -1,0 +1,349 @@
+-- The claim in C's numbers holds, of every file that C sees loaded and every buffer in which C sees it started. Assumes nothing.
+use Prim.Native.Nat.{ℕ, zero, suc, _≤_, _<_}
+use native.Mathlib.Omega.{arith}
+use mathlib.Core.Path.{_≡_, refl, sym, ap, _∙_}
+use mathlib.Core.Bool.{Bool, true, false}
+use mathlib.Core.List.{List, [], _∷_, _++_, map}
+use mathlib.Core.Logic.{_≢_, _↔_}
+use lib.Dec.{ltb}
+use lib.ListN.{length, getD}
+use lib.IntN.{ℤ, pos}
+use mir.Syntax.{w32}
+use mir.Val.{toZ}
+use mir.Facts.{toZ-pos}
+use borrow.Author.Tests.{ltb-true}
+use Rattle.numbers.specs.Count.{bit}
+use Rattle.numbers.specs.Count.Laws.{bit-le}
+use Rattle.numbers.specs.Search.{sumTo}
+use Rattle.numbers.specs.Search.Laws.{caseB, contra, sum-none, sum-suc}
+use Rattle.table.specs.Table.{Table, tableOf, ports}
+use Rattle.loader.specs.Load.{loaded, accepted}
+use Rattle.state.specs.State.{State, maxThreads, stateLength, view, thread, inUse, isWaiting}
+use Rattle.rules.specs.Offers.{partnerOf}
+use Rattle.rules.specs.Moves.{move}
+use Rattle.rules.specs.Calls.{Outcome, outcome, startAdmission, admission, startBy, startCall, stepAnswer, stepEnd, canStep, stepBy, stepCall, bench, givenTo, giveBy, giveCall, takenFrom, takeBy, takeCall, runBy, runCall}
+use Rattle.rules.specs.declared.Refusal.{Refusal}
+use Rattle.rules.specs.declared.Refusal.the-variants as Ground
+use Rattle.rules.specs.declared.Admission.{Admission}
+use Rattle.rules.specs.declared.Admission.the-variants as Admission
+use Rattle.rules.specs.declared.Partner.{Partner}
+use Rattle.rules.specs.declared.Partner.the-variants.{Nobody, At}
+use Rattle.rules.specs.declared.Direction.the-variants.{Out, In}
+use Rattle.rules.specs.declared.Move.{Move}
+use Rattle.rules.specs.declared.Move.the-variants.{Ends, Calls, Waits, Goes, Creates, Spawns, Meets, LacksThread, LacksChannel}
+use Rattle.rules.specs.declared.Started.{Started}
+use Rattle.rules.specs.declared.Started.the-variants as Started
+use Rattle.rules.specs.declared.Stepped.{Stepped}
+use Rattle.rules.specs.declared.Stepped.the-variants as Stepped
+use Rattle.rules.specs.declared.Given.{Given}
+use Rattle.rules.specs.declared.Given.the-variants as Given
+use Rattle.rules.specs.declared.Taken.{Taken}
+use Rattle.rules.specs.declared.Taken.the-variants as Taken
+use Rattle.rules.specs.declared.Ran.{Ran}
+use Rattle.rules.specs.declared.Ran.the-variants as Ran
+use Rattle.granted.specs.Codes.{clash}
+use Rattle.engine.specs.Numbers.{refusalNumber, partnerNumber}
+use Rattle.engine_laws.specs.Reading.Laws.{waiting-used}
+use Rattle.engine_laws.specs.Entry.{RightLengths, length-iff, start-length-iff, start-admitted-iff}
+use Rattle.engine_laws.specs.Chosen.{Chosen, chosen, partner-answers}
+use Rattle.engine_laws.specs.Frames.{elem, movers}
+use Rattle.engine_laws.specs.Movers.{ranMovers}
+use Rattle.engine_laws.specs.Buffers.{SoundBuffer}
+use Rattle.engine_laws.specs.Calls.{start-done, admitted}
+use Rattle.engine_laws.specs.Lists.{Call, step, give, take, run, after, afterAll, after-sound}
+use Rattle.engine_laws.specs.Instance.{loaded-small, loaded-accepted}
+use Rattle.collector.specs.Collect.{taken, takenCount, collectBy, collectCall}
+use Rattle.collector.specs.Collect.Laws.{count-says}
+use Rattle.collector.specs.declared.Collected.{Collected}
+use Rattle.collector.specs.declared.Collected.the-variants as Collected
+use Rattle.pithread.specs.Interface.{loadResult, inNumbers, startFields, startNumbers, startResult, stepFields, stepNumbers, stepResult, giveFields, giveNumbers, giveResult, takeFields, takeNumbers, takeResult, runFields, runNumbers, runResult, collectFields, collectNumbers, collectResult}
+use Rattle.guarantee.specs.Claim.{Any, on, collect, afterAny, afterList, reachedBy, unlessRefused, metByGive, metByTake, inTurns, moving, movingAll, takenBy, Untouched, Linked, NeverTen}
+use Rattle.guarantee.specs.Exported.{left, refusal, given-so, started-so, left-so, refused-so, load-so, table-so}
+use Rattle.guarantee.specs.InNumbers.{leftAll, leftFrom, isZero, ifDone, named, waitingIn, moved, movedAll, takes, NoTen, InNumbers}
+use Rattle.guarantee.specs.Kept.{collect-done, collect-view}
+use Rattle.guarantee.specs.Proof.{accepted-guarantee, reached-sound, collection-made}
+
+-- ---- the numbers of an answer
+
+-- no ground has the number 0
+not-zero : (r : Refusal) → isZero (toZ w32 (refusalNumber r)) ≡ false
+unfolding isZero refusalNumber
+not-zero Ground.Length = refl
+not-zero Ground.Table = refl
+not-zero Ground.State = refl
+not-zero Ground.Thread = refl
+not-zero Ground.Port = refl
+not-zero Ground.ThreadRow = refl
+not-zero Ground.ChannelRow = refl
+
+-- the number of a thread's row names it
+named-row : (u : ℕ) → u < maxThreads → named (toZ w32 u) ≡ u ∷ []
+unfolding named
+named-row u l = rw (toZ-pos w32 {n = u} (omega arith))
+
+-- ---- the bytes
+
+pub all-so : (table state : List ℕ) (ks : List Any) → leftAll table state ks ≡ afterList table state ks
+unfolding leftAll afterList
+all-so table state [] = refl
+all-so table state (k ∷ ks) = all-so table (left table state k) ks ∙ ap (λ b. afterList table b ks) (left-so table state k)
+
+later-so : (table state : List ℕ) (ks : List Call) → leftAll table state (map on ks) ≡ afterAll table state ks
+unfolding leftAll afterAll afterAny
+later-so table state [] = refl
+later-so table state (k ∷ ks) = later-so table (left table state (on k)) ks ∙ ap (λ b. afterAll table b ks) (left-so table state (on k))
+
+-- ---- who moves
+
+free-not-waiting : (row : List ℕ) → inUse row ≡ false → isWaiting row ≡ false
+free-not-waiting row h = caseB (isWaiting row) (λ w. contra (waiting-used row w) h) (λ w. w)
+
+-- the row of a thread that is started was free, and one that is met was waiting
+child-left-out : (s : State) (u : ℕ) → u < maxThreads → inUse (thread s u) ≡ false → waitingIn s (named (toZ w32 u)) ≡ []
+unfolding waitingIn
+child-left-out s u l h = rw (named-row u l, free-not-waiting (thread s u) h)
+
+partner-counted : (s : State) (u : ℕ) → u < maxThreads → isWaiting (thread s u) ≡ true → waitingIn s (named (toZ w32 u)) ≡ u ∷ []
+unfolding waitingIn
+partner-counted s u l h = rw (named-row u l, h)
+
+-- by the move that a thread makes
+step-moves : (tb : Table) (s : State) (t n : ℕ) (m : Move) → Chosen tb s t m
+    → ifDone (stepNumbers (stepAnswer n m) .refusal) (t ∷ waitingIn s (named (stepNumbers (stepAnswer n m) .partner))) ≡ unlessRefused (stepAnswer n m) (movers t m)
+unfolding ifDone isZero named waitingIn stepNumbers stepFields partnerNumber refusalNumber stepAnswer unlessRefused movers Chosen
+step-moves tb s t n Ends k = refl
+step-moves tb s t n Calls k = refl
+step-moves tb s t n Waits k = refl
+step-moves tb s t n (Goes i) k = refl
+step-moves tb s t n (Creates i c) k = refl
+step-moves tb s t n (Spawns i u) k = ap (λ (us : List ℕ). t ∷ us) (child-left-out s u (k .thread-in) (k .unused))
+step-moves tb s t n (Meets i u j) k = ap (λ (us : List ℕ). t ∷ us) (partner-counted s u (k .partner .thread-in) (k .partner .waits))
+step-moves tb s t n LacksThread k = refl
+step-moves tb s t n LacksChannel k = refl
+
+step-none : (r : Refusal) (who : List ℕ) → ifDone (stepNumbers (Stepped.Refused r) .refusal) who ≡ []
+unfolding ifDone stepNumbers stepFields
+step-none r who = rw (not-zero r)
+
+-- what holds of an answer holds of it at the end of the step
+at-end : (P : Stepped → Type 0) (a : Stepped) (b : List ℕ) (s : State) → P a → P (stepEnd a b s .answer)
+unfolding stepEnd
+at-end P (Stepped.Done n d) b s h = h
+at-end P (Stepped.Refused r) b s h = h
+
+give-moves : (a : Given) → ((u : ℕ) → a ≡ Given.Met u → u < maxThreads) → ifDone (giveNumbers a .refusal) (named (giveNumbers a .thread)) ≡ metByGive a
+unfolding ifDone isZero named giveNumbers giveFields metByGive
+give-moves (Given.Met u) l = named-row u (l u refl)
+give-moves Given.Nobody l = refl
+give-moves (Given.Refused r) l = rw (not-zero r)
+
+take-moves : (a : Taken) → ((u v : ℕ) → a ≡ Taken.Met u v → u < maxThreads) → ifDone (takeNumbers a .refusal) (named (takeNumbers a .thread)) ≡ metByTake a
+unfolding ifDone isZero named takeNumbers takeFields metByTake
+take-moves (Taken.Met u v) l = named-row u (l u v refl)
+take-moves Taken.Nobody l = refl
+take-moves (Taken.Refused r) l = rw (not-zero r)
+
+run-moves : (a : Ran) (who : List ℕ) → ifDone (runNumbers a .refusal) who ≡ inTurns a who
+unfolding ifDone isZero runNumbers runFields inTurns
+run-moves (Ran.Done n r) who = refl
+run-moves (Ran.Refused r) who = rw (not-zero r)
+
+-- the thread that a give or a take meets has a row
+module _ (table state : List ℕ) (p : ℕ) where
+  given-in : (v : ℕ) (m : Partner) → partnerOf (tableOf table) (view state) bench In p ≡ m → (u : ℕ) → givenTo m table state v .answer ≡ Given.Met u → u < maxThreads
+  unfolding givenTo
+  given-in v Nobody q u e = clash cc
+  given-in v (At w j) q u e = let h : w ≡ u = cc in rw (← h) (partner-answers (tableOf table) (view state) bench In p w j q .thread-in)
+
+  give-in : (v : ℕ) (x : Admission) (u : ℕ) → giveBy x table state p v .answer ≡ Given.Met u → u < maxThreads
+  unfolding giveBy
+  give-in v (Admission.Refused r) u e = clash cc
+  give-in v Admission.Admitted u e =
+      caseB (ltb p (ports (tableOf table)))
+      (λ y. given-in v (partnerOf (tableOf table) (view state) bench In p) refl u (rw y at e))
+      (λ y. let f : Given.Refused Ground.Port ≡ Given.Met u = rw y at e in clash cc)
+
+  taken-in : (m : Partner) → partnerOf (tableOf table) (view state) bench Out p ≡ m → (u v : ℕ) → takenFrom m table state .answer ≡ Taken.Met u v → u < maxThreads
+  unfolding takenFrom
+  taken-in Nobody q u v e = clash cc
+  taken-in (At w j) q u v e = let h : w ≡ u = cc in rw (← h) (partner-answers (tableOf table) (view state) bench Out p w j q .thread-in)
+
+  take-in : (x : Admission) (u v : ℕ) → takeBy x table state p .answer ≡ Taken.Met u v → u < maxThreads
+  unfolding takeBy
+  take-in (Admission.Refused r) u v e = clash cc
+  take-in Admission.Admitted u v e =
+      caseB (ltb p (ports (tableOf table)))
+      (λ y. taken-in (partnerOf (tableOf table) (view state) bench Out p) refl u v (rw y at e))
+      (λ y. let f : Taken.Refused Ground.Port ≡ Taken.Met u v = rw y at e in clash cc)
+
+module _ (table : List ℕ) (ok : accepted table ≡ true) where
+  module _ (state : List ℕ) (b : SoundBuffer table state) where
+    step-so : (t : ℕ) → moved table state (step t) ≡ moving table state (step t)
+    unfolding moved moving stepResult inNumbers stepCall stepBy unlessRefused
+    step-so t =
+        let s = view state in
+        let tb = tableOf table in
+        rw (admitted table ok state b)
+        (caseB (canStep s t)
+        (λ y. rw y (at-end (λ a. ifDone (stepNumbers a .refusal) (t ∷ waitingIn s (named (stepNumbers a .partner))) ≡ unlessRefused a (movers t (move tb s t)))
+        _ state _ (step-moves tb s t _ (move tb s t) (chosen tb s t))))
+        (λ y. rw y (step-none Ground.Thread _)))
+
+    -- by the numbers as by the definitions
+    pub moved-so : (k : Call) → moved table state k ≡ moving table state k
+    unfolding moved moving giveResult takeResult runResult inNumbers giveCall takeCall
+    moved-so (step t) = step-so t
+    moved-so (give p v h) =
+        ap (λ x. ifDone (giveNumbers (giveCall table state p x .answer) .refusal) (named (giveNumbers (giveCall table state p x .answer) .thread))) (given-so v h)
+        ∙ give-moves (giveCall table state p v .answer) (λ u e. give-in table state p v (admission table state) u e)
+    moved-so (take p) = take-moves (takeCall table state p .answer) (λ u v e. take-in table state p (admission table state) u v e)
+    moved-so (run n) = run-moves (runCall table state n .answer) (ranMovers (tableOf table) n (view state))
+
+  module _ (fit : (i : ℕ) → getD table i 0 < 256) where
+    all-moved-so : (state : List ℕ) → SoundBuffer table state → (ks : List Call) → movedAll table state ks ≡ movingAll table state ks
+    unfolding movedAll movingAll afterAny
+    all-moved-so state b [] = refl
+    all-moved-so state b (k ∷ ks) =
+        rw (left-so table state (on k), moved-so state b k, all-moved-so (after table state k) (after-sound table ok fit state b k) ks)
+
+-- ---- refusal 10
+
+no-ten : (table state : List ℕ) (ks : List Any) → NeverTen table state ks → NoTen table state ks
+unfolding NoTen NeverTen
+no-ten table state [] h = tt
+no-ten table state (k ∷ ks) h =
+    ((λ e. h .0 (refused-so table state k e)), rw (left-so table state k) (no-ten table (afterAny table state k) ks (h .1)))
+
+-- ---- a collection of a sound buffer
+
+bits-few : (p : ℕ → Bool) (n : ℕ) → sumTo (λ t. bit (p t)) n ≤ n
+bits-few p zero = omega (arith, sum-none (λ t. bit (p t)))
+bits-few p (suc n) = omega (arith, sum-suc (λ t. bit (p t)) n, bits-few p n, bit-le (p n))
+
+few-taken : (tb : Table) (s : State) → takenCount tb s < 2147483648
+unfolding takenCount
+few-taken tb s = omega (arith, bits-few (taken tb s) 64)
+
+module _ (table : List ℕ) (ok : accepted table ≡ true) (fit : (i : ℕ) → getD table i 0 < 256) (state : List ℕ) (b : SoundBuffer table state) where
+  zero-so : collectResult table state .answer .refusal ≡ pos 0
+  unfolding collectResult inNumbers collectNumbers collectFields
+  zero-so = rw (collect-done table ok state b)
+
+  took-so : collectResult table state .answer .threads ≡ pos (sumTo (λ t. bit (takes table state t)) maxThreads)
+  unfolding collectResult inNumbers collectNumbers collectFields takes
+  took-so =
+      rw (collect-done table ok state b, collect-view table ok fit state b)
+      (toZ-pos w32 {n = takenCount (tableOf table) (view state)} (few-taken (tableOf table) (view state)) ∙ ap pos (count-says (tableOf table) (view state)))
+
+  untouched-so : (later : List Call) → Untouched table state later → (t : ℕ) → takes table state t ≡ true
+      → (elem t (movedAll table state later) ≡ false) × (thread (view (leftAll table state (map on later))) t ≡ thread (view state) t)
+  unfolding takes takenBy collectResult inNumbers
+  untouched-so later h t e = rw (all-moved-so table ok fit state b later, later-so table state later) (h t e)
+
+  linked-so : Linked table (collectCall table state .state) → Linked table (collectResult table state .state)
+  unfolding collectResult inNumbers
+  linked-so h = h
+
+-- ---- a start that C sees done
+
+start-zero : (a : Started) → startNumbers a .refusal ≡ pos 0 → a ≡ Started.Done
+unfolding startNumbers startFields isZero
+start-zero Started.Done e = refl
+start-zero (Started.Refused r) e = contra (ap isZero e) (not-zero r)
+
+start-admits : (table state : List ℕ) (x : Admission) → startBy x table state .answer ≡ Started.Done → x ≡ Admission.Admitted
+unfolding startBy
+start-admits table state (Admission.Refused r) e = clash cc
+start-admits table state Admission.Admitted e = refl
+
+module _ (table : List ℕ) (ok : accepted table ≡ true) (state : List ℕ) where
+  -- its buffer has the state's length, and no other asks for more
+  pub started-iff : (startResult table state .answer .refusal ≡ pos 0) ↔ (length state ≡ stateLength)
+  unfolding startResult inNumbers startCall startNumbers startFields
+  started-iff = (
+    λ e. start-admitted-iff table state .0 (start-admits table state (startAdmission table state) (start-zero (startCall table state .answer) e)) .0 .1,
+    λ l. rw (start-done table ok state l),
+  )
+
+-- ---- of a table that is accepted, in a buffer in which it is started
+
+module _ (table : List ℕ) (ok : accepted table ≡ true) (fit : (i : ℕ) → getD table i 0 < 256) (state : List ℕ)
+    (begun : startResult table state .answer .refusal ≡ pos 0) (ks : List Any) where
+  long : length state ≡ stateLength
+  long = started-iff table ok state .0 begun
+
+  from-so : leftFrom table state ks ≡ reachedBy table state ks
+  from-so = rw (started-so table state) (all-so table (startCall table state .state) ks)
+
+  from-sound : SoundBuffer table (leftFrom table state ks)
+  from-sound = rw from-so (reached-sound table ok fit state long ks)
+
+  -- a collection after the list is never refused
+  pub collection-zero : collectResult table (leftFrom table state ks) .answer .refusal ≡ pos 0
+  collection-zero = zero-so table ok fit (leftFrom table state ks) from-sound
+
+  pub accepted-in-numbers : InNumbers table state ks
+  accepted-in-numbers =
+      let g = accepted-guarantee table ok fit state long ks in
+      let n = takenCount (tableOf table) (view (reachedBy table state ks)) in
+      let made = collection-made table ok fit state long ks in
+      record {
+        counted = rw from-so (g .counted);
+        untouched = λ e later. untouched-so table ok fit (leftFrom table state ks) from-sound later (rw from-so (g .untouched n made later));
+        took = λ e. took-so table ok fit (leftFrom table state ks) from-sound;
+        linked = λ e. linked-so table ok fit (leftFrom table state ks) from-sound (rw from-so (g .linked n made));
+        never-ten = rw (started-so table state) (no-ten table (startCall table state .state) ks (g .never-ten));
+        never-ten-later = λ later. rw from-so (no-ten table (reachedBy table state ks) (map on later) (g .never-ten-later later));
+      }
+
+-- ---- the theorem: for every file and every two buffers, where load is answered with refusal 0 and so is start, and for every list of calls
+pub in-numbers : (file t : List ℕ) → loadResult file t .answer .refusal ≡ pos 0
+    → (state : List ℕ) → startResult (loadResult file t .table) state .answer .refusal ≡ pos 0 → (ks : List Any) → InNumbers (loadResult file t .table) state ks
+in-numbers file t e =
+    accepted-in-numbers (loadResult file t .table)
+    (rw (table-so file t) (loaded-accepted file t (load-so file t e)))
+    (rw (table-so file t) (loaded-small file t (load-so file t e)))
+
+-- ---- buffers of other lengths, which the claim leaves out: start and every call of a list is answered with refusal 8, and no byte changes
+
+module _ (table state : List ℕ) (wrong : ¬ RightLengths table state) where
+  pub wrong-start : (startResult table state .answer .refusal ≡ pos 8) × (startResult table state .state ≡ state)
+  unfolding startResult inNumbers startNumbers startFields startCall startBy refusalNumber
+  wrong-start = let q = start-length-iff table state .1 wrong in (rw q, rw q)
+
+  step-wrong : (t : ℕ) → stepCall table state t ≡ outcome (Stepped.Refused Ground.Length) state
+  unfolding stepCall stepBy
+  step-wrong t = rw (length-iff table state .1 wrong)
+
+  give-wrong : (p v : ℕ) → giveCall table state p v ≡ outcome (Given.Refused Ground.Length) state
+  unfolding giveCall giveBy
+  give-wrong p v = rw (length-iff table state .1 wrong)
+
+  take-wrong : (p : ℕ) → takeCall table state p ≡ outcome (Taken.Refused Ground.Length) state
+  unfolding takeCall takeBy
+  take-wrong p = rw (length-iff table state .1 wrong)
+
+  run-wrong : (n : ℕ) → runCall table state n ≡ outcome (Ran.Refused Ground.Length) state
+  unfolding runCall runBy
+  run-wrong n = rw (length-iff table state .1 wrong)
+
+  collect-wrong : collectCall table state ≡ outcome (Collected.Refused Ground.Length) state
+  unfolding collectCall collectBy
+  collect-wrong = rw (length-iff table state .1 wrong)
+
+  pub wrong-call : (k : Any) → (refusal table state k ≡ pos 8) × (left table state k ≡ state)
+  unfolding refusal left stepResult giveResult takeResult runResult collectResult inNumbers stepNumbers stepFields giveNumbers giveFields takeNumbers takeFields runNumbers runFields collectNumbers collectFields refusalNumber
+  wrong-call (on (step t)) =
+      (ap (λ (o : Outcome Stepped). stepNumbers (o .answer) .refusal) (step-wrong t), ap (λ (o : Outcome Stepped). o .state) (step-wrong t))
+  wrong-call (on (give p v h)) =
+      (ap (λ (o : Outcome Given). giveNumbers (o .answer) .refusal) (give-wrong p _), ap (λ (o : Outcome Given). o .state) (give-wrong p _))
+  wrong-call (on (take p)) =
+      (ap (λ (o : Outcome Taken). takeNumbers (o .answer) .refusal) (take-wrong p), ap (λ (o : Outcome Taken). o .state) (take-wrong p))
+  wrong-call (on (run n)) = (ap (λ (o : Outcome Ran). runNumbers (o .answer) .refusal) (run-wrong n), ap (λ (o : Outcome Ran). o .state) (run-wrong n))
+  wrong-call collect =
+      (ap (λ (o : Outcome Collected). collectNumbers (o .answer) .refusal) collect-wrong, ap (λ (o : Outcome Collected). o .state) collect-wrong)
+
+  pub wrong-list : (ks : List Any) → leftAll table state ks ≡ state
+  unfolding leftAll
+  wrong-list [] = refl
+  wrong-list (k ∷ ks) = rw (wrong-call k .1) (wrong-list ks)
