@@ -1,4 +1,5 @@
-// The calls of the engine: start, step, give, take, run. Each judges its buffers first, and a call that is refused writes nothing.
+// The calls of the engine: start, step, give, take, run. Each judges its buffers first, and a call that is refused writes nothing. For a layer above,
+// which works on the words of an admitted state, what it may ask of a thread and the writing of the words are handed on.
 ghost use mathlib.Core.Path.{_≡_};
 ghost use lib.ListN.{length, replicate};
 ghost use Rattle.numbers.specs.Bytes.{words as wordsOf};
