@@ -18,11 +18,12 @@ use Rattle.loader.specs.Load.{tableLength, accepted}
 use Rattle.state.specs.State.{State, stateLength, view, stateOf, stateBytes}
 use Rattle.rules.specs.Start.{started}
 use Rattle.rules.specs.Sound.{sound}
-use Rattle.rules.specs.Calls.{outcome, lengthsRight, startAdmission, admission, startBy, startCall, stepBy, stepCall, giveBy, giveCall, takeBy, takeCall, runBy, runCall}
+use Rattle.rules.specs.Calls.{Outcome, outcome, lengthsRight, startAdmission, admission, startBy, startCall, stepBy, stepCall, giveBy, giveCall, takeBy, takeCall, runBy, runCall}
 use Rattle.rules.specs.declared.Refusal.{Refusal}
 use Rattle.rules.specs.declared.Refusal.the-variants as Ground
 use Rattle.rules.specs.declared.Admission.{Admission}
 use Rattle.rules.specs.declared.Admission.the-variants.{Admitted, Refused}
+use Rattle.rules.specs.declared.Deed.{Deed}
 use Rattle.rules.specs.declared.Started.{Started}
 use Rattle.rules.specs.declared.Started.the-variants as Started
 use Rattle.rules.specs.declared.Stepped.{Stepped}
@@ -38,6 +39,7 @@ use Rattle.granted.specs.Accepted.{granted}
 use Rattle.engine_laws.specs.Shape.Laws.{view-shaped}
 use Rattle.engine_laws.specs.Sound.{Sound}
 use Rattle.engine_laws.specs.Sound.Laws.{sound-elim}
+use Rattle.engine_laws.specs.Refusals.{step-refused-keeps, give-refused-keeps, give-nobody-keeps, take-refused-keeps, take-nobody-keeps}
 use Rattle.calls.specs.States.{After, afterwards, stepOn, giveOn, takeOn, runOn}
 use Rattle.calls.specs.States.Laws.{bytesAfter, step-bytes, give-bytes, take-bytes, run-bytes}
 
@@ -139,10 +141,16 @@ module _ (table b : List ℕ) (a : Admission) (e : a ≡ startAdmission table b)
   unfolding startCall startBy
   start-done b₁ w h k f = rw (← e, f) (ap (outcome _) (h ∙ ap stateBytes k))
 
--- the bytes b₁ of a state after a call
-after-bytes : {A : Type 0} (k : After A) (r : A) (s : State) (b₁ : List ℕ) → afterwards r s ≡ k → b₁ ≡ stateBytes s → outcome r b₁ ≡ bytesAfter k
+-- the bytes of a state after a call
+after-bytes : {A : Type 0} (k : After A) (r : A) (s : State) → afterwards r s ≡ k → outcome r (stateBytes s) ≡ bytesAfter k
 unfolding bytesAfter
-after-bytes k r s b₁ e h = rw (← e, h)
+after-bytes k r s e = rw (← e)
+
+-- a call with an answer that leaves the bytes b
+kept : {A : Type 0} (o : Outcome A) (x : A) (b : List ℕ) {r : A} {l : List ℕ} → outcome r l ≡ o → r ≡ x → (o .answer ≡ x → o .state ≡ b) → outcome x b ≡ o
+kept o x b e g h =
+    let y : o .answer ≡ x = sym (ap (λ (p : Outcome _). p .answer) e) ∙ g in
+    rw (← h y, ← y)
 
 module _ (table b : List ℕ) (a : Admission) (e : a ≡ admission table b) where
   module _ (g : Refusal) (f : a ≡ Refused g) where
@@ -162,23 +170,49 @@ module _ (table b : List ℕ) (a : Admission) (e : a ≡ admission table b) wher
     unfolding runCall runBy
     run-refused n = rw (← e, f)
 
-  -- w: its words, and w₁ those after the call, of which b₁ are the bytes
-  module _ (f : a ≡ Admitted) (fit : (i : ℕ) → Fits w8 (getD b i 0)) (w w₁ b₁ : List ℕ) (q : a ≡ Admitted → w ≡ words b) (long : a ≡ Admitted → length b ≡ stateLength) (h : b₁ ≡ stateBytes (stateOf w₁)) where
-    pub step-admitted : (r : Stepped) (t : ℕ) → afterwards r (stateOf w₁) ≡ stepOn (tableOf table) (stateOf w) t → outcome r b₁ ≡ stepCall table b t
-    unfolding stepCall
-    step-admitted r t k = rw (← e, f)
-        (after-bytes _ r (stateOf w₁) b₁ (k ∙ rw (q f)) h ∙ step-bytes table b (long f) (bytes-fit b fit) t)
+  -- w: its words, and w₁ those after the call, which answers r
+  module _ (f : a ≡ Admitted) (fit : (i : ℕ) → Fits w8 (getD b i 0)) (w w₁ : List ℕ) (q : a ≡ Admitted → w ≡ words b) (long : a ≡ Admitted → length b ≡ stateLength) where
+    module _ (r : Stepped) (t : ℕ) (k : afterwards r (stateOf w₁) ≡ stepOn (tableOf table) (stateOf w) t) where
+      step-admitted : outcome r (stateBytes (stateOf w₁)) ≡ stepCall table b t
+      unfolding stepCall
+      step-admitted = rw (← e, f) (after-bytes _ r (stateOf w₁) (k ∙ rw (q f)) ∙ step-bytes table b (long f) (bytes-fit b fit) t)
 
-    pub give-admitted : (r : Given) (p v : ℕ) → afterwards r (stateOf w₁) ≡ giveOn (tableOf table) (stateOf w) p v → outcome r b₁ ≡ giveCall table b p v
-    unfolding giveCall
-    give-admitted r p v k = rw (← e, f)
-        (after-bytes _ r (stateOf w₁) b₁ (k ∙ rw (q f)) h ∙ give-bytes table b (long f) (bytes-fit b fit) p v)
+      pub step-done : (n : ℕ) (d : Deed) (b₁ : List ℕ) → r ≡ Stepped.Done n d → b₁ ≡ stateBytes (stateOf w₁) → outcome (Stepped.Done n d) b₁ ≡ stepCall table b t
+      step-done n d b₁ g h = rw (← g, h) step-admitted
 
-    pub take-admitted : (r : Taken) (p : ℕ) → afterwards r (stateOf w₁) ≡ takeOn (tableOf table) (stateOf w) p → outcome r b₁ ≡ takeCall table b p
-    unfolding takeCall
-    take-admitted r p k = rw (← e, f)
-        (after-bytes _ r (stateOf w₁) b₁ (k ∙ rw (q f)) h ∙ take-bytes table b (long f) (bytes-fit b fit) p)
+      -- a refusal leaves the bytes
+      pub step-kept : (x : Refusal) → r ≡ Stepped.Refused x → outcome (Stepped.Refused x) b ≡ stepCall table b t
+      step-kept x g = kept (stepCall table b t) (Stepped.Refused x) b step-admitted g (step-refused-keeps table b t x)
 
-    pub run-admitted : (r : Ran) (n : ℕ) → afterwards r (stateOf w₁) ≡ runOn (tableOf table) (stateOf w) n → outcome r b₁ ≡ runCall table b n
+    module _ (r : Given) (p v : ℕ) (k : afterwards r (stateOf w₁) ≡ giveOn (tableOf table) (stateOf w) p v) where
+      give-admitted : outcome r (stateBytes (stateOf w₁)) ≡ giveCall table b p v
+      unfolding giveCall
+      give-admitted = rw (← e, f) (after-bytes _ r (stateOf w₁) (k ∙ rw (q f)) ∙ give-bytes table b (long f) (bytes-fit b fit) p v)
+
+      pub give-met : (u : ℕ) (b₁ : List ℕ) → r ≡ Given.Met u → b₁ ≡ stateBytes (stateOf w₁) → outcome (Given.Met u) b₁ ≡ giveCall table b p v
+      give-met u b₁ g h = rw (← g, h) give-admitted
+
+      -- a refusal leaves the bytes, and so does a give that meets nobody
+      pub give-kept : (x : Refusal) → r ≡ Given.Refused x → outcome (Given.Refused x) b ≡ giveCall table b p v
+      give-kept x g = kept (giveCall table b p v) (Given.Refused x) b give-admitted g (give-refused-keeps table b p v x)
+
+      pub give-nobody : r ≡ Given.Nobody → outcome Given.Nobody b ≡ giveCall table b p v
+      give-nobody g = kept (giveCall table b p v) Given.Nobody b give-admitted g (give-nobody-keeps table b p v)
+
+    module _ (r : Taken) (p : ℕ) (k : afterwards r (stateOf w₁) ≡ takeOn (tableOf table) (stateOf w) p) where
+      take-admitted : outcome r (stateBytes (stateOf w₁)) ≡ takeCall table b p
+      unfolding takeCall
+      take-admitted = rw (← e, f) (after-bytes _ r (stateOf w₁) (k ∙ rw (q f)) ∙ take-bytes table b (long f) (bytes-fit b fit) p)
+
+      pub take-met : (u v : ℕ) (b₁ : List ℕ) → r ≡ Taken.Met u v → b₁ ≡ stateBytes (stateOf w₁) → outcome (Taken.Met u v) b₁ ≡ takeCall table b p
+      take-met u v b₁ g h = rw (← g, h) take-admitted
+
+      pub take-kept : (x : Refusal) → r ≡ Taken.Refused x → outcome (Taken.Refused x) b ≡ takeCall table b p
+      take-kept x g = kept (takeCall table b p) (Taken.Refused x) b take-admitted g (take-refused-keeps table b p x)
+
+      pub take-nobody : r ≡ Taken.Nobody → outcome Taken.Nobody b ≡ takeCall table b p
+      take-nobody g = kept (takeCall table b p) Taken.Nobody b take-admitted g (take-nobody-keeps table b p)
+
+    pub run-done : (r : Ran) (n : ℕ) (b₁ : List ℕ) → afterwards r (stateOf w₁) ≡ runOn (tableOf table) (stateOf w) n → b₁ ≡ stateBytes (stateOf w₁) → outcome r b₁ ≡ runCall table b n
     unfolding runCall
-    run-admitted r n k = rw (← e, f) (after-bytes _ r (stateOf w₁) b₁ (k ∙ rw (q f)) h ∙ run-bytes table b n)
+    run-done r n b₁ k h = rw (← e, f, h) (after-bytes _ r (stateOf w₁) (k ∙ rw (q f)) ∙ run-bytes table b n)

@@ -1,4 +1,5 @@
-// The calls of the engine: start, step, give, take, run. Each judges its buffers first, and a call that is refused changes nothing.
+// The calls of the engine: start, step, give, take, run. Each judges its buffers first, and a call that is refused writes nothing. For a layer above,
+// which works on the words of an admitted state, what it may ask of a thread and the writing of the words are handed on.
 ghost use mathlib.Core.Path.{_≡_};
 ghost use lib.ListN.{length, replicate};
 ghost use Rattle.numbers.specs.Bytes.{words as wordsOf};
@@ -107,9 +108,13 @@ pub fn step(table: &[u8], state: &mut [u8], t: u32) -> Stepped
     match admit(table, state, &mut index, &mut words) {
         Admission::Refused(ground) => Stepped::Refused(ground),
         Admission::Admitted => {
-            let answer = calls::step(table, &index, &mut words, t);
-            buffers::write(&words, state);
-            answer
+            match calls::step(table, &index, &mut words, t) {
+                Stepped::Refused(ground) => Stepped::Refused(ground),
+                Stepped::Done(node, deed) => {
+                    buffers::write(&words, state);
+                    Stepped::Done(node, deed)
+                }
+            }
         }
     }
 }
@@ -123,9 +128,14 @@ pub fn give(table: &[u8], state: &mut [u8], p: u32, v: u32) -> Given
     match admit(table, state, &mut index, &mut words) {
         Admission::Refused(ground) => Given::Refused(ground),
         Admission::Admitted => {
-            let answer = calls::give(table, &index, &mut words, p, v);
-            buffers::write(&words, state);
-            answer
+            match calls::give(table, &index, &mut words, p, v) {
+                Given::Refused(ground) => Given::Refused(ground),
+                Given::Nobody => Given::Nobody,
+                Given::Met(u) => {
+                    buffers::write(&words, state);
+                    Given::Met(u)
+                }
+            }
         }
     }
 }
@@ -139,9 +149,14 @@ pub fn take(table: &[u8], state: &mut [u8], p: u32) -> Taken
     match admit(table, state, &mut index, &mut words) {
         Admission::Refused(ground) => Taken::Refused(ground),
         Admission::Admitted => {
-            let answer = calls::take(table, &index, &mut words, p);
-            buffers::write(&words, state);
-            answer
+            match calls::take(table, &index, &mut words, p) {
+                Taken::Refused(ground) => Taken::Refused(ground),
+                Taken::Nobody => Taken::Nobody,
+                Taken::Met(u, v) => {
+                    buffers::write(&words, state);
+                    Taken::Met(u, v)
+                }
+            }
         }
     }
 }

@@ -1,4 +1,4 @@
-// Loading a procedure file: grounds 1 to 8, and ground 9 for a table that is handed in.
+// Loading a procedure file: grounds 1 to 8, and ground 9 for a table that is handed in. For the engine's test of a state the marks of the flow are handed on.
 ghost use mathlib.Core.Path.{_≡_};
 ghost use mathlib.Core.Bool.{true};
 ghost use Prim.Native.Nat.{_+_, _*_, _≤_, _<_};
@@ -11,6 +11,7 @@ ghost use Rattle.table.specs.Index.{indexLength, Indexed};
 ghost use Rattle.loader.specs.File.{lineLength, notLines, wellFormed, malformed, fileTable, numberIn};
 ghost use Rattle.loader.specs.Verdict.{judgedFlow, judgedRows, judged, verdict, restZero};
 ghost use Rattle.loader.specs.Load.{Outcome, loaded, accepted, tableLength};
+pub use flow::mark_flow;
 use text::Reading;
 
 const LINE: usize = 73;

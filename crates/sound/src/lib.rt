@@ -174,7 +174,7 @@ fn threads_sound(table: &[u8], index: &[u32], state: &[u32; state::WORDS]) -> bo
     ensures { λ r. ⌜ r ≡ every (λ t. rowSound (tableOf (now (table .entry))) (stateOf (now (state .entry))) (thread (stateOf (now (state .entry))) t)) maxThreads ⌝ }
 {
     let mut marks = [0u32; 192];
-    flow::mark_flow(table, index, &mut marks);
+    loader::mark_flow(table, index, &mut marks);
     rows_sound(table, index, &marks, state)
 }
 

@@ -1,5 +1,5 @@
 use Rattle.engine.specs.Admitted.{admitted}
-use Rattle.engine.proofs.Laws.{give-refused, give-admitted}
+use Rattle.engine.proofs.Laws.{give-refused, give-kept, give-nobody, give-met}
 use borrow.Author.Needs.{needs}
 use Rattle.engine.proofs.give.Statement.{statement}
 use Rattle.engine.proofs.give.Tie as tie
@@ -14,8 +14,15 @@ give-spec =
     (λ c. search needs)
     (λ c. search needs)
     (λ c κs. (search admitted, (search admitted, search admitted)))
+    (λ c. search needs)
+    (λ c. search needs)
+    (λ c. search needs)
     (λ c κs. search admitted)
     (λ c. search needs)
-    (λ c. search give-refused)
+    (λ c. search (give-refused, give-kept, give-nobody, give-met))
     (λ c. search needs)
-    (λ c. search give-admitted))
+    (λ c. search (give-refused, give-kept, give-nobody, give-met))
+    (λ c. search needs)
+    (λ c. search (give-refused, give-kept, give-nobody, give-met))
+    (λ c. search needs)
+    (λ c. search (give-refused, give-kept, give-nobody, give-met)))

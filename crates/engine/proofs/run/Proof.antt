@@ -1,5 +1,5 @@
 use Rattle.engine.specs.Admitted.{admitted}
-use Rattle.engine.proofs.Laws.{run-refused, run-admitted}
+use Rattle.engine.proofs.Laws.{run-refused, run-done}
 use borrow.Author.Needs.{needs}
 use Rattle.engine.proofs.run.Statement.{statement}
 use Rattle.engine.proofs.run.Tie as tie
@@ -18,4 +18,4 @@ run-spec =
     (λ c. search needs)
     (λ c. search run-refused)
     (λ c. search needs)
-    (λ c. search run-admitted))
+    (λ c. search run-done))

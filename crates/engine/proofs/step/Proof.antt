@@ -1,5 +1,5 @@
 use Rattle.engine.specs.Admitted.{admitted}
-use Rattle.engine.proofs.Laws.{step-refused, step-admitted}
+use Rattle.engine.proofs.Laws.{step-refused, step-kept, step-done}
 use borrow.Author.Needs.{needs}
 use Rattle.engine.proofs.step.Statement.{statement}
 use Rattle.engine.proofs.step.Tie as tie
@@ -14,8 +14,12 @@ step-spec =
     (λ c. search needs)
     (λ c. search needs)
     (λ c κs. (search admitted, (search admitted, search admitted)))
+    (λ c. search needs)
+    (λ c. search needs)
     (λ c κs. search admitted)
     (λ c. search needs)
-    (λ c. search step-refused)
+    (λ c. search (step-refused, step-kept, step-done))
     (λ c. search needs)
-    (λ c. search step-admitted))
+    (λ c. search (step-refused, step-kept, step-done))
+    (λ c. search needs)
+    (λ c. search (step-refused, step-kept, step-done)))

@@ -1,5 +1,5 @@
 use Rattle.engine.specs.Admitted.{admitted}
-use Rattle.engine.proofs.Laws.{take-refused, take-admitted}
+use Rattle.engine.proofs.Laws.{take-refused, take-kept, take-nobody, take-met}
 use borrow.Author.Needs.{needs}
 use Rattle.engine.proofs.take.Statement.{statement}
 use Rattle.engine.proofs.take.Tie as tie
@@ -14,8 +14,15 @@ take-spec =
     (λ c. search needs)
     (λ c. search needs)
     (λ c κs. (search admitted, (search admitted, search admitted)))
+    (λ c. search needs)
+    (λ c. search needs)
+    (λ c. search needs)
     (λ c κs. search admitted)
     (λ c. search needs)
-    (λ c. search take-refused)
+    (λ c. search (take-refused, take-kept, take-nobody, take-met))
     (λ c. search needs)
-    (λ c. search take-admitted))
+    (λ c. search (take-refused, take-kept, take-nobody, take-met))
+    (λ c. search needs)
+    (λ c. search (take-refused, take-kept, take-nobody, take-met))
+    (λ c. search needs)
+    (λ c. search (take-refused, take-kept, take-nobody, take-met)))
