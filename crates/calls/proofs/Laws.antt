@@ -45,9 +45,6 @@ use Rattle.branches.specs.declared.Way.{Way}
 use Rattle.calls.specs.Course.{after, turnAt, courseBy, course-by, course-none, course-more}
 use Rattle.calls.specs.States.{After, afterwards, stepAfter, stepOn, givenOn, giveOn, takenOn, takeOn, runOn}
 
-pub answer-arm : (r : Stepped) (n : ℕ) (m k : Move) → m ≡ k → r ≡ stepAnswer n k → r ≡ stepAnswer n m
-answer-arm r n m k e f = rw e f
-
 -- ---- ground 11
 
 module _ (s : State) (t : ℕ) where

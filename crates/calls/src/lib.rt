@@ -10,12 +10,11 @@ ghost use Rattle.engine_laws.specs.Sound.{Sound};
 ghost use Rattle.rules.specs.Holding.{settled};
 ghost use Rattle.rules.specs.Offers.{offersAt, partnerOf};
 ghost use Rattle.rules.specs.Moves.{move};
-ghost use Rattle.rules.specs.Calls.{canStep, stepAnswer, Course};
+ghost use Rattle.rules.specs.Calls.{canStep, Course};
 ghost use Rattle.moves.specs.Tried.{tried};
 ghost use Rattle.steps.specs.Counted.{Counted};
 ghost use Rattle.calls.specs.Course.{courseBy};
 ghost use Rattle.calls.specs.States.{After, stepOn, giveOn, takeOn, runOn};
-use rules::Deed;
 use rules::Direction;
 use rules::Given;
 use rules::Move;
@@ -30,23 +29,6 @@ use rules::Turn;
 const MAX_THREADS: u32 = 64;
 
 const MAX_CHANNELS: u32 = 128;
-
-// What a step from a node is answered with, by its move.
-pub fn step_answer(node: u32, m: Move) -> Stepped
-    ensures { λ r. ⌜ r ≡ stepAnswer node m ⌝ }
-{
-    match m {
-        Move::Ends => Stepped::Done(node, Deed::Ended),
-        Move::Calls => Stepped::Done(node, Deed::Called),
-        Move::Waits => Stepped::Done(node, Deed::Waited),
-        Move::Goes(i) => Stepped::Done(node, Deed::Took(i)),
-        Move::Creates(i, _) => Stepped::Done(node, Deed::Took(i)),
-        Move::Spawns(i, u) => Stepped::Done(node, Deed::TookWith(i, u)),
-        Move::Meets(i, u, _) => Stepped::Done(node, Deed::TookWith(i, u)),
-        Move::LacksThread => Stepped::Refused(Refusal::ThreadRow),
-        Move::LacksChannel => Stepped::Refused(Refusal::ChannelRow),
-    }
-}
 
 // Ground 11: whether thread t is there and ready.
 fn can_step(state: &[u32; state::WORDS], t: u32) -> bool
@@ -123,7 +105,7 @@ pub fn step(table: &[u8], index: &[u32], state: &mut [u32; state::WORDS], t: u32
         state::put_mark(state, 2, turn);
         steps::settle_waiting(table, index, state);
         let m = turns.last;
-        return step_answer(node, m);
+        return steps::step_answer(node, m);
     }
     Stepped::Refused(Refusal::Thread)
 }

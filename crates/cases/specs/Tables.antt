@@ -1,4 +1,4 @@
--- The rows of the files of the starred cases.
+-- The rows of the files of the starred cases, and of two more.
 use Prim.Native.Nat.{ℕ}
 use mathlib.Core.List.{List, [], _∷_}
 use Rattle.table.specs.Table.{Table}
@@ -118,3 +118,11 @@ swap = header 1 1 2 1 0 2 ∷ ofNumbers ∷ definition 2 2 1 ∷ slot 1 ∷ slot
 -- nothing but an end
 abbrev pub endOnly : Table
 endOnly = header 0 1 0 1 0 0 ∷ definition 0 0 1 ∷ ending ∷ []
+
+-- no slots. Node 0 is a spawn
+abbrev pub spawner : Table
+spawner = header 0 1 0 2 1 0 ∷ definition 0 0 2 ∷ choice 1 ∷ ending ∷ spawn 1 1 ∷ []
+
+-- slots: two channels. Node 0 makes a channel in the place of the first
+abbrev pub maker : Table
+maker = header 1 1 2 2 1 0 ∷ ofNumbers ∷ definition 0 2 2 ∷ slot 1 ∷ slot 1 ∷ choice 1 ∷ ending ∷ new 0 1 ∷ []

@@ -1,15 +1,14 @@
 -- One law for each way out of the functions that free threads, and of the call. Assumes nothing.
-use Prim.Native.Nat.{ℕ, _<_}
-use mathlib.Core.Path.{_≡_, _∙_}
+use Prim.Native.Nat.{ℕ}
+use mathlib.Core.Path.{_≡_}
 use mathlib.Core.Bool.{Bool, true, false}
 use mathlib.Core.List.{List}
 use lib.ListN.{getD}
 use borrow.Author.Tests.{ne-eqb}
 use Rattle.numbers.specs.Bytes.{words}
 use Rattle.numbers.specs.Count.{bit}
-use Rattle.numbers.specs.Rows.{at}
 use Rattle.table.specs.Table.{Table, tableOf}
-use Rattle.state.specs.State.{State, stateOf, stateBytes, thread, isWaiting, withThread}
+use Rattle.state.specs.State.{State, stateOf, stateBytes, thread, status, withThread}
 use Rattle.state.specs.State.Laws.{length-threads}
 use Rattle.rules.specs.Holding.{settled}
 use Rattle.rules.specs.Start.{freeRow}
@@ -17,22 +16,13 @@ use Rattle.rules.specs.Calls.{outcome, admission}
 use Rattle.rules.specs.declared.Refusal.{Refusal}
 use Rattle.rules.specs.declared.Admission.{Admission}
 use Rattle.rules.specs.declared.Admission.the-variants.{Admitted, Refused}
-use Rattle.counts.specs.Own.{ownList}
-use Rattle.counts.specs.Shift.{settledOne}
-use Rattle.counts.specs.Upkeep.{one-settled}
 use Rattle.collector.specs.declared.Collected.the-variants as Collected
 use Rattle.collector.specs.Collect.{collected, takenCount, collectBy, collectCall}
 use Rattle.collector.specs.Freeing.{leaves, freedBy, collectedTo}
 use Rattle.collector.specs.Freeing.Laws.{freed-none}
 
--- free_thread
-pub freed-row : (tb : Table) (b : List ℕ) (t : ℕ) (s₁ s₂ : State) (l : List ℕ) (w : ℕ) → s₂ ≡ settledOne tb s₁ t l w → s₁ ≡ withThread (stateOf b) t freeRow
-    → l ≡ ownList tb (thread (stateOf b) t) → w ≡ bit (isWaiting (thread (stateOf b) t)) → settled tb (stateOf b) ≡ stateOf b → t < 64
-    → s₂ ≡ settled tb (withThread (stateOf b) t freeRow)
-freed-row tb b t s₁ s₂ l w e f g h i j = e ∙ rw (f, g, h) (one-settled tb (stateOf b) (length-threads b) i t j freeRow)
-
 -- take_thread: y is the status of thread t, x whether it is marked
-module _ (s : State) (m : List Bool) (t y : ℕ) (e : y ≡ at (s .threads) t 0) where
+module _ (s : State) (m : List Bool) (t y : ℕ) (e : y ≡ status (thread s t)) where
   none-free : y ≡ 0 → leaves s m t ≡ false
   unfolding leaves
   none-free f = rw (← e, f)

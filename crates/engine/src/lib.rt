@@ -9,6 +9,7 @@ ghost use Rattle.rules.specs.Calls.{Outcome, lengthsRight, startAdmission, admi
 ghost use Rattle.rules.specs.declared.Admission.the-variants.{Admitted};
 ghost use Rattle.granted.specs.Granted.{Granted};
 ghost use Rattle.engine_laws.specs.Sound.{Sound};
+pub use buffers::write;
 use rules::Admission;
 use rules::Given;
 use rules::Ran;
@@ -16,6 +17,12 @@ use rules::Refusal;
 use rules::Started;
 use rules::Stepped;
 use rules::Taken;
+pub use state::WORDS;
+pub use threads::mark_held;
+pub use threads::offers_marked;
+pub use threads::port_count;
+pub use threads::release;
+pub use threads::status_of;
 
 const TABLE: usize = 20760;
 

@@ -56,7 +56,7 @@ end-keeps (Stepped.Done n d) state s r e = clash cc
 end-keeps (Stepped.Refused q) state s r e = refl
 
 -- a move is refused where it lacks a row, and on these grounds alone
-move-refused : (n : ℕ) (m : Move) (r : Refusal) → stepAnswer n m ≡ Stepped.Refused r
+pub move-refused : (n : ℕ) (m : Move) (r : Refusal) → stepAnswer n m ≡ Stepped.Refused r
     → ((r ≡ Ground.ThreadRow) × (m ≡ LacksThread)) ⊎ ((r ≡ Ground.ChannelRow) × (m ≡ LacksChannel))
 unfolding stepAnswer
 move-refused n Ends r e = clash cc

@@ -26,5 +26,6 @@ pub mod Bench
 pub mod Refusals
 pub mod Buffers
 pub mod Calls
+pub mod Reasons
 pub mod Lists
 pub mod Instance

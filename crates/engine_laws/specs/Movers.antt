@@ -14,7 +14,7 @@ use Rattle.rules.specs.Program.{opposite}
 use Rattle.rules.specs.Holding.{holds}
 use Rattle.rules.specs.Offers.{offers, partnerOf}
 use Rattle.rules.specs.Moves.{move, perform, metByBench}
-use Rattle.rules.specs.Calls.{bench, nextReady, pastTurn, turnBy, turnEnd, takeTurn}
+use Rattle.rules.specs.Calls.{bench, stepAnswer, nextReady, pastTurn, turnFor, turnBy, turnEnd, takeTurn}
 use Rattle.rules.specs.declared.Direction.{Direction}
 use Rattle.rules.specs.declared.Partner.the-variants.{At}
 use Rattle.rules.specs.declared.Turn.{Turn}
@@ -133,7 +133,7 @@ past-moved tb s s′ who t m = record { actors = m .actors; frame = m .frame; kn
 
 end-moved : (tb : Table) (s : State) (t : ℕ) (m : Move) → Moved tb s (perform tb s t (move tb s t)) (movers t m)
     → Moved tb s (turnEnd tb s t (turnBy t m) .state) (movers t m)
-unfolding turnBy turnEnd movers
+unfolding stepAnswer turnFor turnBy turnEnd movers
 end-moved tb s t Ends k = past-moved tb s _ _ t k
 end-moved tb s t Calls k = past-moved tb s _ _ t k
 end-moved tb s t Waits k = past-moved tb s _ _ t k

@@ -6,14 +6,18 @@ use mathlib.Core.Bool.{true}
 use mathlib.Core.List.{List}
 use mathlib.Core.Logic.{⊎-elim}
 use lib.Dec.{ltb, eqb}
+use lib.IntN.{ℤ, _+ℤ_, _-ℤ_}
+use mir.Syntax.{w32}
+use mir.Val.{Fits, toZ, ofZ}
+use mir.Facts.{sfits-toZ, fits-ofZ}
 use Rattle.numbers.specs.Rows.{at}
-use Rattle.numbers.specs.Signed.{widened}
-use Rattle.numbers.specs.Signed.Laws.{sum-below, difference-below}
+use Rattle.numbers.specs.Signed.{residue, wrap, widened}
+use Rattle.numbers.specs.Signed.Laws.{residue-below, sum-below}
 use Rattle.numbers.specs.Search.Laws.{caseB}
 use Rattle.table.specs.Table.{Table, slotCount}
 use Rattle.table.specs.Layout.{branchCount, definitionOf}
 use Rattle.state.specs.State.{maxChannels, rowSlots, standsAt, slotOf, inUse, isReady}
-use Rattle.rules.specs.Program.{typeAt, branchAt, nextOf, childOf, fieldA, fieldB, fieldC, actOf, assigned}
+use Rattle.rules.specs.Program.{wrappedSum, wrappedDifference, typeAt, branchAt, nextOf, childOf, fieldA, fieldB, fieldC, actOf, assigned}
 use Rattle.rules.specs.Moves.{resumed, stored, met, gone, sideOf, goneBy, createdBy, metBy, typeBy}
 use Rattle.rules.specs.declared.Direction.{Direction}
 use Rattle.rules.specs.declared.Direction.the-variants.{Out, In}
@@ -63,14 +67,19 @@ widened-small : (v : ℕ) → v < 65536 → widened v < 4294967296
 unfolding widened
 widened-small v h = caseB (ltb v 32768) (λ e. rw e (omega arith)) (λ e. rw e (sum-below v 4294901760))
 
+wrapped-small : (z : ℤ) → ofZ w32 (wrap z) < 4294967296
+wrapped-small z =
+    let b : Fits w32 (residue z) = record { fits = residue-below z } in
+    fits-ofZ (sfits-toZ b) .fits
+
 assigned-small : (tb : Table) → Granted tb → (r : ℕ) (row : List ℕ) → assigned tb r row < 4294967296
-unfolding assigned
+unfolding assigned wrappedSum wrappedDifference
 assigned-small tb g r row =
     caseB (eqb (at tb r 4) 5)
     (λ e. rw e (widened-small (fieldB tb r) (g .small r 6)))
     (λ e. rw e (caseB (eqb (at tb r 4) 6)
-    (λ f. rw f (sum-below (slotOf row (fieldB tb r)) (slotOf row (fieldC tb r))))
-    (λ f. rw f (difference-below (slotOf row (fieldB tb r)) (slotOf row (fieldC tb r))))))
+    (λ f. rw f (wrapped-small (toZ w32 (slotOf row (fieldB tb r)) +ℤ toZ w32 (slotOf row (fieldC tb r)))))
+    (λ f. rw f (wrapped-small (toZ w32 (slotOf row (fieldB tb r)) -ℤ toZ w32 (slotOf row (fieldC tb r)))))))
 
 -- ---- a thread in use, with a sound row, and branch i of its node
 

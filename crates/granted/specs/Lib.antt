@@ -2,3 +2,4 @@ pub mod Granted
 pub mod Passed
 pub mod Codes
 pub mod Accepted
+pub mod Filled

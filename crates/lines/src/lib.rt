@@ -137,7 +137,7 @@ fn list_turn(
             STEP + i as usize * STEP,
             i + 1,
             t,
-            calls::step_answer(node, by),
+            steps::step_answer(node, by),
         );
         let turn = round.turn;
         return turn;

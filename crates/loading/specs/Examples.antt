@@ -1,11 +1,16 @@
 -- The input of document 01's listing is in order, and one change in it is refused on each ground. Assumes nothing.
 use Prim.Native.Nat.{ℕ}
-use mathlib.Core.Path.{_≡_, refl}
+use mathlib.Core.Path.{_≡_, refl, sym, _∙_, ap}
+use mathlib.Core.Logic.{_≢_}
 use mathlib.Core.List.{List, [], _∷_}
+use lib.IntN.{ℤ, negsuc}
 use lib.ListN.{set, take}
 use Rattle.numbers.specs.Bytes.{joined}
 use Rattle.numbers.specs.Search.{computing}
+use Rattle.numbers.specs.Search.Laws.{contra}
 use Rattle.text.specs.Text.{figuresBy, figures, numeral, rightJustified, text, lineText, fileText, figureOf, sizeFrom, hasMinus, patternIn, same, readNumber}
+use Rattle.text.specs.Text.Laws.{text-reads}
+use Rattle.text.specs.declared.Reading.the-variants.{Value}
 use Rattle.table.specs.Layout.{blocks, lines, branchCount, size, start, endsPast, owner}
 use Rattle.table.specs.Form.{gain, loss, within, headerInRange, kindDue, kindWrong, gainOf, lossOf, sumAgrees, sumsAgree}
 use Rattle.table.specs.Roles.{guardRole, actionRole, operandPlace, operand, operandRole, reads, writes}
@@ -14,8 +19,12 @@ use Rattle.checks.specs.Types.{roleTyped, portTyped, portsTyped, nodeTyped, ope
 use Rattle.flow.specs.Flow.{slotWritten, pastWrite, either, arrive, begins, beginning, branchFollowed, branchesFollowed, flowTo, flow, mayLack, callWritten, operandWritten, rowWritten, readsUnwritten, unreachable, marked}
 use Rattle.loader.specs.File.{isValue, valueOf, notLines, fieldIsNumber, wellFormed, malformed, numberAt, rowAt, fileTable}
 use Rattle.loader.specs.Verdict.{atFault, judgedFlow, judgedRows, judged, verdict}
+use Rattle.loader.specs.declared.Ground.{Ground}
 use Rattle.loader.specs.declared.Ground.the-variants.{Lines, Field, Header, Total, Kind, Sums, Range, Types, Unwritten, Unreachable}
 use Rattle.loader.specs.declared.Verdict.the-variants.{Sound, Fault}
+use Rattle.loading.specs.Refused.{anyNumber, Within, decimal, printed, Refused, LowestOf}
+use Rattle.loading.specs.Refused.Numbers.{pattern, text-printed}
+use Rattle.loading.specs.Refused.Laws.{refused-iff, accepted-iff}
 
 -- what a verdict computes with: the text, and then each ground
 unfoldable readings : Unit {0}
@@ -38,7 +47,7 @@ unfoldable flows : Unit {0}
 unfolding slotWritten pastWrite either arrive begins beginning branchFollowed branchesFollowed flowTo flow marked mayLack callWritten operandWritten rowWritten readsUnwritten unreachable
 flows = tt
 
-unfoldable verdicts : Unit {0}
+unfoldable pub verdicts : Unit {0}
 unfolding readings forms ranges typings flows atFault judgedFlow judgedRows judged verdict
 verdicts = tt
 
@@ -129,3 +138,33 @@ listing-unwritten = refl
 pub listing-unreachable : verdict (input header definition (row 6 0 0 0 5 1 7 0 5 0)) ≡ Fault Unreachable 9
 unfolding verdicts
 listing-unreachable = refl
+
+-- ---- the same in the words of the grounds
+
+-- no ground has a line of the listing at fault
+pub listing-refused : (g : Ground) (l : ℕ) → ¬ Refused (input header definition setting) g l
+listing-refused = accepted-iff (input header definition setting) .0 listing-sound
+
+-- a slot that there is not: line 14 is refused on ground 4, no line before it is, and none on the grounds before
+pub range-refused : LowestOf (Refused (input header definition (row 6 0 0 0 5 2 7 0 3 0))) Range 14
+range-refused = refused-iff (input header definition (row 6 0 0 0 5 2 7 0 3 0)) Range 14 .0 listing-range
+
+-- with nothing set at node 2, the send at node 3 reads slot 1, which the one path to there has not written
+pub unwritten-refused : LowestOf (Refused (input header definition (row 6 0 0 0 0 0 0 0 3 0))) Unwritten 15
+unwritten-refused = refused-iff (input header definition (row 6 0 0 0 0 0 0 0 3 0)) Unwritten 15 .0 listing-unwritten
+
+-- with node 5 next to node 2, no path leads to node 3
+pub unreachable-refused : LowestOf (Refused (input header definition (row 6 0 0 0 5 1 7 0 5 0))) Unreachable 9
+unreachable-refused = refused-iff (input header definition (row 6 0 0 0 5 1 7 0 5 0)) Unreachable 9 .0 listing-unreachable
+
+-- fields: the least number and its print; and a print of no number, for its leading zero
+pub least-printed : printed (negsuc 32767) ≡ 45 ∷ 51 ∷ 50 ∷ 55 ∷ 54 ∷ 56 ∷ []
+unfolding readings decimal
+least-printed = refl
+
+pub zero-printed : (z : ℤ) → Within anyNumber z → printed z ≢ 32 ∷ 32 ∷ 32 ∷ 32 ∷ 48 ∷ 55 ∷ []
+unfolding readings
+zero-printed z w e =
+    let (v, h, q) = pattern z w in
+    let r : readNumber (32 ∷ 32 ∷ 32 ∷ 32 ∷ 48 ∷ 55 ∷ []) ≡ Value v = text-reads (32 ∷ 32 ∷ 32 ∷ 32 ∷ 48 ∷ 55 ∷ []) v h (sym e ∙ ap printed (sym q) ∙ sym (text-printed v h)) in
+    contra (ap isValue r) refl

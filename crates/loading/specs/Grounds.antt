@@ -2,38 +2,35 @@
 -- Assumes nothing.
 use Prim.Native.Nat.{ℕ, _+_, _-_, _≤_, _<_}
 use native.Mathlib.Omega.{arith}
-use mathlib.Core.Path.{_≡_, refl, _∙_}
+use mathlib.Core.Path.{_≡_, refl}
 use mathlib.Core.Logic.{inr, ⊎-elim, _≢_}
-use mathlib.Core.Bool.{Bool, true, _&&_, _||_}
-use lib.Dec.{ltb, eqb}
-use borrow.Author.Tests.{ltb-true, ltb-false, lt-ltb, le-ltb, eqb-true, not-false}
+use mathlib.Core.Bool.{Bool, true, _||_}
+use lib.Dec.{ltb}
+use borrow.Author.Tests.{ltb-true}
 use Rattle.numbers.specs.Rows.{at}
-use Rattle.numbers.specs.Search.{first}
-use Rattle.numbers.specs.Search.Laws.{caseB, contra, first-below, every-elim}
+use Rattle.numbers.specs.Search.Laws.{caseB, contra, every-elim}
 use Rattle.numbers.specs.Tests.{and-left, and-right, parts}
-use Rattle.table.specs.Table.{Table, definitions, nodes, branches, definitionRow, slotRow, nodeRow, branchRow, lineTotal, parameters, slotCount, nodeCount}
+use Rattle.table.specs.Table.{Table, definitions, nodes, branches, definitionRow, nodeRow, branchRow, lineTotal, parameters, slotCount, nodeCount}
 use Rattle.table.specs.Layout.{blocks, lines, size, start, branchCount, definitionOf, nodeOf}
-use Rattle.table.specs.Form.{within, headerInRange, kindDue, kindWrong, sumsAgree}
-use Rattle.table.specs.Form.Laws.{within-most, header-counts}
+use Rattle.table.specs.Form.Laws.{header-counts}
 use Rattle.table.specs.Roles.{operand, operandRole, reads, writes}
 use Rattle.table.specs.declared.Part.{Part}
 use Rattle.table.specs.declared.Part.the-variants.{Slots, Nodes, Branches}
 use Rattle.table.specs.declared.Role.{Role}
 use Rattle.table.specs.declared.Role.the-variants.{Unused, Constant, ReadNumber, ReadChannel, ReadCarried, WriteNumber, WriteChannel, WriteCarried}
-use Rattle.checks.specs.Ranges.{roleInRange, ahead, restUnused, definitionInRange, nodeInRange, operandInRange, targetsInRange, branchInRange, rowInRange, outOfRange}
+use Rattle.checks.specs.Ranges.{roleInRange, ahead, definitionInRange, nodeInRange, operandInRange, targetsInRange, branchInRange, rowInRange}
 use Rattle.flow.specs.Flow.{pathMark, slotWritten}
 use Rattle.loading.specs.Blocks.{Filled, Stands, start-suc, stands-line, owner-is, owner-stands}
-use Rattle.loading.specs.Sums.{sums-fill}
+use Rattle.loading.specs.Rows as R
+use Rattle.loading.specs.Rows.{FormedTo}
+pub use Rattle.loading.specs.Rows.{kind-is, row-in-range, definition-kind, node-kind, branch-kind, node-row, branch-row}
 use Rattle.loading.specs.Paths.{firstNode, rowOf, Leads}
 use Rattle.loading.specs.Paths.Pass.{or-true}
 use Rattle.loading.specs.Paths.Laws.{Edges}
 
 -- a table that grounds 3 and 4 do not refuse
-pub record Formed (tb : Table) : Type 0 where
-  pub header : headerInRange tb ≡ true
-  pub kinds : first (kindWrong tb) (lineTotal tb) ≡ lineTotal tb
-  pub sums : sumsAgree tb ≡ true
-  pub ranges : first (outOfRange tb) (lineTotal tb) ≡ lineTotal tb
+abbrev pub Formed : Table → Type 0
+Formed tb = FormedTo tb (lineTotal tb)
 
 -- whether a role names a slot
 unfoldable pub named : Role → Bool
@@ -59,121 +56,41 @@ named-below WriteChannel s v e w = ltb-true v s e
 named-below WriteCarried s v e w = ltb-true v s e
 
 module _ (tb : Table) (g : Formed tb) where
-  -- ---- rows
-
-  pub kind-is : (r : ℕ) → r < lineTotal tb → at tb r 0 ≡ kindDue tb r
-  unfolding kindWrong
-  kind-is r h = eqb-true (at tb r 0) (kindDue tb r) (not-false _ (first-below (kindWrong tb) (lineTotal tb) r (rw (g .kinds) h)))
-
-  pub row-in-range : (r : ℕ) → r < lineTotal tb → rowInRange tb r ≡ true
-  unfolding outOfRange
-  row-in-range r h = not-false _ (first-below (outOfRange tb) (lineTotal tb) r (rw (g .ranges) h))
-
-  -- the kinds due: of a row before the nodes', of a node's and of a branch's
-  low-due : (r : ℕ) → r < nodeRow tb → kindDue tb r ≤ 4
-  unfolding kindDue
-  low-due r h =
-      caseB (ltb r 1) (λ y. rw y (omega arith))
-      (λ y. caseB (ltb r (definitionRow tb)) (λ z. rw (y, z) (omega arith))
-      (λ z. caseB (ltb r (slotRow tb)) (λ w. rw (y, z, w) (omega arith)) (λ w. rw (y, z, w, lt-ltb r (nodeRow tb) h) (omega arith))))
-
-  node-due : (r : ℕ) → nodeRow tb ≤ r → r < branchRow tb → kindDue tb r ≡ 5
-  unfolding kindDue
-  node-due r h l =
-      rw (le-ltb r 1 (omega arith), le-ltb r (definitionRow tb) (omega arith), le-ltb r (slotRow tb) (omega arith), le-ltb r (nodeRow tb) h, lt-ltb r (branchRow tb) l)
-
-  branch-due : (r : ℕ) → branchRow tb ≤ r → kindDue tb r ≡ 6
-  unfolding kindDue
-  branch-due r h =
-      rw (le-ltb r 1 (omega arith), le-ltb r (definitionRow tb) (omega arith), le-ltb r (slotRow tb) (omega arith), le-ltb r (nodeRow tb) (omega arith), le-ltb r (branchRow tb) h)
-
-  pub definition-kind : (d : ℕ) → d < definitions tb → at tb (definitionRow tb + d) 0 ≡ 3
-  unfolding kindDue
-  definition-kind d h =
-      let r = definitionRow tb + d in
-      kind-is r (omega arith) ∙ rw (le-ltb r 1 (omega arith), le-ltb r (definitionRow tb) (omega arith), lt-ltb r (slotRow tb) (omega arith))
-
-  pub node-kind : (n : ℕ) → n < nodes tb → at tb (nodeRow tb + n) 0 ≡ 5
-  node-kind n h = kind-is (nodeRow tb + n) (omega arith) ∙ node-due (nodeRow tb + n) (omega arith) (omega arith)
-
-  pub branch-kind : (b : ℕ) → b < branches tb → at tb (branchRow tb + b) 0 ≡ 6
-  branch-kind b h = kind-is (branchRow tb + b) (omega arith) ∙ branch-due (branchRow tb + b) (omega arith)
-
-  -- a row of kind 5 is a node's, and one of kind 6 a branch's
-  pub node-row : (r : ℕ) → r < lineTotal tb → at tb r 0 ≡ 5 → (n : ℕ) × (n < nodes tb) × (r ≡ nodeRow tb + n)
-  node-row r h e =
-      let k = kind-is r h in
-      caseB (ltb r (nodeRow tb)) (λ y. absurd (omega (arith, low-due r (ltb-true r (nodeRow tb) y))))
-      (λ y. caseB (ltb r (branchRow tb))
-      (λ z. (r - nodeRow tb, omega (arith, ltb-true r (branchRow tb) z, ltb-false r (nodeRow tb) y), omega (arith, ltb-false r (nodeRow tb) y)))
-      (λ z. absurd (omega (arith, branch-due r (ltb-false r (branchRow tb) z)))))
-
-  pub branch-row : (r : ℕ) → r < lineTotal tb → at tb r 0 ≡ 6 → (b : ℕ) × (b < branches tb) × (r ≡ branchRow tb + b)
-  branch-row r h e =
-      let k = kind-is r h in
-      caseB (ltb r (branchRow tb))
-      (λ y. let u = ltb-true r (branchRow tb) y in
-      caseB (ltb r (nodeRow tb)) (λ z. absurd (omega (arith, low-due r (ltb-true r (nodeRow tb) z))))
-      (λ z. absurd (omega (arith, node-due r (ltb-false r (nodeRow tb) z) u))))
-      (λ y. let u = ltb-false r (branchRow tb) y in (r - branchRow tb, omega arith, omega arith))
+  -- ---- rows and sizes
 
   pub definition-in-range : (d : ℕ) → d < definitions tb → definitionInRange tb (definitionRow tb + d) ≡ true
-  unfolding rowInRange
-  definition-in-range d h = rw (definition-kind d h) at (row-in-range (definitionRow tb + d) (omega arith))
+  definition-in-range = R.definition-in-range tb g (omega arith)
+
+  pub parameters-few : (d : ℕ) → d < definitions tb → parameters tb d ≤ 8
+  parameters-few = R.parameters-few tb g (omega arith)
+
+  pub slots-few : (d : ℕ) → d < definitions tb → slotCount tb d ≤ 16
+  slots-few = R.slots-few tb g (omega arith)
 
   pub node-in-range : (n : ℕ) → n < nodes tb → nodeInRange tb (nodeRow tb + n) ≡ true
-  unfolding rowInRange
-  node-in-range n h = rw (node-kind n h) at (row-in-range (nodeRow tb + n) (omega arith))
+  node-in-range = R.node-in-range tb g (omega arith)
+
+  pub branches-few : (n : ℕ) → n < nodes tb → branchCount tb n ≤ 8
+  branches-few = R.branches-few tb g (omega arith)
 
   pub branch-in-range : (b : ℕ) → b < branches tb → branchInRange tb (branchRow tb + b) (nodeOf tb b) (definitionOf tb (nodeOf tb b)) ≡ true
   unfolding rowInRange
   branch-in-range b h =
       let e : branchRow tb + b - branchRow tb ≡ b = omega arith in
-      rw (branch-kind b h, e) at (row-in-range (branchRow tb + b) (omega arith))
-
-  -- ---- sizes
-
-  module _ (d : ℕ) (h : d < definitions tb) where
-    pub parameters-few : parameters tb d ≤ 8
-    unfolding definitionInRange
-    parameters-few = let q = definition-in-range d h in within-most 0 8 (parameters tb d) (search parts depth 9)
-
-    pub slots-few : slotCount tb d ≤ 16
-    unfolding definitionInRange
-    slots-few = let q = definition-in-range d h in within-most (parameters tb d) 16 (slotCount tb d) (search parts depth 9)
-
-    pub nodes-few : nodeCount tb d ≤ 192
-    unfolding definitionInRange
-    nodes-few = let q = definition-in-range d h in within-most 1 192 (nodeCount tb d) (search parts depth 9)
-
-  pub branches-few : (n : ℕ) → n < nodes tb → branchCount tb n ≤ 8
-  unfolding branchCount nodeInRange
-  branches-few n h = caseB (eqb (at tb (nodeRow tb + n) 1) 1)
-      (λ y. let q : (within 1 8 (at tb (nodeRow tb + n) 2) && restUnused tb (nodeRow tb + n) 3) ≡ true = rw (eqb-true (at tb (nodeRow tb + n) 1) 1 y) at (node-in-range n h) in
-      rw y (within-most 1 8 (at tb (nodeRow tb + n) 2) (and-left _ _ q)))
-      (λ y. rw y (omega arith))
-
-  pub size-small : (p : Part) (i : ℕ) → i < blocks tb p → size tb p i < 32768
-  unfolding size blocks
-  size-small Slots i h = omega (arith, slots-few i h)
-  size-small Nodes i h = omega (arith, nodes-few i h)
-  size-small Branches i h = omega (arith, branches-few i h)
+      rw (branch-kind tb g b h, e) at (row-in-range tb g (branchRow tb + b) (omega arith))
 
   pub filled : (p : Part) → Filled tb p
-  unfolding sumsAgree
-  filled Slots = sums-fill tb Slots (size-small Slots) (let q = g .sums in search parts)
-  filled Nodes = sums-fill tb Nodes (size-small Nodes) (let q = g .sums in search parts)
-  filled Branches = sums-fill tb Branches (size-small Branches) (let q = g .sums in search parts depth 9)
-
-  -- ---- edges
+  filled Slots = R.slots-filled tb g (omega arith)
+  filled Nodes = R.nodes-filled tb g (omega arith)
+  filled Branches = R.branches-filled tb g (omega arith)
 
   pub node-stands : (n : ℕ) → n < nodes tb → Stands tb Nodes n (definitionOf tb n)
-  unfolding lines
-  node-stands n h = owner-stands tb Nodes (filled Nodes) n h
+  node-stands = R.node-stands tb g (omega arith)
 
   pub definition-of : (n : ℕ) → n < nodes tb → definitionOf tb n < definitions tb
-  unfolding blocks
-  definition-of n h = node-stands n h .block
+  definition-of = R.definition-of tb g (omega arith)
+
+  -- ---- edges
 
   -- a node of the same definition, above node n
   Above : ℕ → ℕ → Type 0
@@ -237,7 +154,7 @@ module _ (tb : Table) (g : Formed tb) where
   pub branch-row-of : (r : ℕ) → r < lineTotal tb → at tb r 0 ≡ 6 → (n : ℕ) × (i : ℕ) × (n < nodes tb) × (i < branchCount tb n) × (r ≡ rowOf tb n i)
   unfolding lines blocks size
   branch-row-of r h e =
-      let (b, l, q) = branch-row r h e in
+      let (b, l, q) = branch-row tb g r h e in
       let n = nodeOf tb b in
       let s = owner-stands tb Branches (filled Branches) b l in
       let f = s .from in

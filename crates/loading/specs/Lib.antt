@@ -1,9 +1,11 @@
 pub mod Blocks
 pub mod Sums
+pub mod Rows
 pub mod Paths
 pub mod Grounds
 pub mod Written
 pub mod Printed
 pub mod Yields
+pub mod Refused
 pub mod Lowest
 pub mod Examples

@@ -1,4 +1,4 @@
--- The verdict is the lowest ground that has a line at fault, with the first such line. Assumes nothing.
+-- The verdict as a chain of tests: it is the lowest ground whose test finds a line, with the first such line. Assumes nothing.
 use Prim.Native.Nat.{ℕ, zero, suc, _-_, _≤_, _<_}
 use native.Mathlib.Omega.{arith}
 use mathlib.Core.Path.{_≡_, refl, sym, _∙_, ap}
@@ -23,21 +23,9 @@ use Rattle.loader.specs.declared.Verdict.{Verdict}
 use Rattle.loader.specs.declared.Verdict.the-variants.{Sound, Fault}
 use Rattle.loader.specs.Verdict.Laws.{no-sound}
 use Rattle.loading.specs.Printed.{lines-lined}
+use Rattle.loading.specs.Refused.{rank, LowestOf}
 
 -- ---- the grounds
-
--- the order of the tests
-unfoldable pub rank : Ground → ℕ
-rank Lines = 0
-rank Field = 1
-rank Header = 2
-rank Total = 3
-rank Kind = 4
-rank Sums = 5
-rank Range = 6
-rank Types = 7
-rank Unwritten = 8
-rank Unreachable = 9
 
 -- the test p finds line l at fault, which is one of n lines counted from 1; p counts them from 0
 unfoldable pub onLine : (ℕ → Bool) → ℕ → ℕ → Bool
@@ -226,25 +214,24 @@ verdict-lowest file =
 
 -- ---- what the verdict names
 
--- line l is the first at fault on ground g, and no ground before g has a line at fault
+-- there is at most one first line of the lowest ground
+pub lowest-one : (R : Ground → ℕ → Type 0) (g h : Ground) (l m : ℕ) → LowestOf R g l → LowestOf R h m → (g ≡ h) × (l ≡ m)
+lowest-one R g h l m a b =
+    caseB (ltb (rank g) (rank h)) (λ y. absurd (b .2 g l (ltb-true (rank g) (rank h) y) (a .0)))
+    (λ y. caseB (ltb (rank h) (rank g)) (λ z. absurd (a .2 h m (ltb-true (rank h) (rank g) z) (b .0)))
+    (λ z. let q : g ≡ h = rank-apart g h (omega (arith, ltb-false (rank g) (rank h) y, ltb-false (rank h) (rank g) z)) in
+    let c : LowestOf R h l = rw q at a in (q, same c)))
+  where
+    same : LowestOf R h l → l ≡ m
+    same c =
+        caseB (ltb l m) (λ y. absurd (b .1 l (ltb-true l m y) (c .0)))
+        (λ y. caseB (ltb m l) (λ z. absurd (c .1 m (ltb-true m l z) (b .0))) (λ z. omega (arith, ltb-false l m y, ltb-false m l z)))
+
+-- of the tests
 abbrev pub Names : List ℕ → Ground → ℕ → Type 0
-Names file g l =
-    (faultAt file g l ≡ true) × ((m : ℕ) → m < l → faultAt file g m ≡ false) × ((h : Ground) (m : ℕ) → rank h < rank g → faultAt file h m ≡ false)
+Names file = LowestOf (λ g l. faultAt file g l ≡ true)
 
 module _ (file : List ℕ) where
-  -- there is at most one such ground and line
-  pub names-one : (g h : Ground) (l m : ℕ) → Names file g l → Names file h m → (g ≡ h) × (l ≡ m)
-  names-one g h l m a b =
-      caseB (ltb (rank g) (rank h)) (λ y. contra (a .0) (b .2 g l (ltb-true (rank g) (rank h) y)))
-      (λ y. caseB (ltb (rank h) (rank g)) (λ z. contra (b .0) (a .2 h m (ltb-true (rank h) (rank g) z)))
-      (λ z. let q : g ≡ h = rank-apart g h (omega (arith, ltb-false (rank g) (rank h) y, ltb-false (rank h) (rank g) z)) in
-      let c : Names file h l = rw q at a in (q, same h l m c b)))
-    where
-      same : (h : Ground) (l m : ℕ) → Names file h l → Names file h m → l ≡ m
-      same h l m c b =
-          caseB (ltb l m) (λ y. contra (c .0) (b .1 l (ltb-true l m y)))
-          (λ y. caseB (ltb m l) (λ z. contra (b .0) (c .1 m (ltb-true m l z))) (λ z. omega (arith, ltb-false l m y, ltb-false m l z)))
-
   -- the verdict, whichever it is
   named : (v : Verdict) → Lowest (faultAt file) 0 v → (g : Ground) (l : ℕ) → (v ≡ Fault g l) ↔ Names file g l
   unfolding Lowest
@@ -254,9 +241,9 @@ module _ (file : List ℕ) where
   )
   named (Fault h m) s g l =
       let (k, f, b) = s in
-      let c : Names file h m = (f .0, f .1, λ o i y. b o i (omega arith) y) in (
+      let c : Names file h m = (f .0, λ i y e. contra e (f .1 i y), λ o i y e. contra e (b o i (omega arith) y)) in (
         λ e. let p : h ≡ g = cc in let q : m ≡ l = cc in rw (p, q) at c,
-        λ a. let (p, q) = names-one h g m l c a in cc,
+        λ a. let (p, q) = lowest-one (λ o i. faultAt file o i ≡ true) h g m l c a in cc,
       )
 
   none-named : (v : Verdict) → Lowest (faultAt file) 0 v → (v ≡ Sound) ↔ ((g : Ground) (l : ℕ) → faultAt file g l ≡ false)
@@ -271,10 +258,6 @@ module _ (file : List ℕ) where
   -- and is in order just when no ground has one
   pub sound-iff : (verdict file ≡ Sound) ↔ ((g : Ground) (l : ℕ) → faultAt file g l ≡ false)
   sound-iff = none-named (verdict file) (verdict-lowest file)
-
-  -- no ground with a lower number has a line at fault
-  pub lowest-number : (g : Ground) (l : ℕ) → verdict file ≡ Fault g l → (h : Ground) (m : ℕ) → groundNumber h < groundNumber g → faultAt file h m ≡ false
-  lowest-number g l e h m y = lowest-iff g l .0 e .2 h m (number-rank-below h g y)
 
   -- ---- the line named is one of the file's
 

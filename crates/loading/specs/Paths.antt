@@ -1,17 +1,16 @@
 -- Paths. One starts at a definition's first node and goes on from node to node: along a branch to its next node, or to the child that it spawns. Nodes are counted over the whole file.
+pub mod Writes
 pub mod Pass
 pub mod Laws
 use Prim.Native.Nat.{ℕ, _+_, _<_}
 use mathlib.Core.Path.{_≡_}
 use mathlib.Core.Logic.{_⊎_}
-use mathlib.Core.Bool.{Bool, true, false, _||_}
-use lib.Dec.{eqb}
+use mathlib.Core.Bool.{true}
 use Rattle.numbers.specs.Rows.{at}
 use Rattle.table.specs.Table.{Table, nodes, nodeRow, branchRow, parameters}
 use Rattle.table.specs.Layout.{start, branchCount, definitionOf}
-use Rattle.table.specs.Roles.{operand, operandRole, reads}
+use Rattle.table.specs.Roles.{operand, operandRole, reads, writes}
 use Rattle.table.specs.declared.Part.the-variants.{Nodes, Branches}
-use Rattle.flow.specs.Flow.{slotWritten}
 
 module _ (tb : Table) where
   -- the first node of the definition that node n stands in
@@ -36,11 +35,6 @@ module _ (tb : Table) where
     begin : {n : ℕ} → n < nodes tb → n ≡ firstNode n → Path n
     follow : {n t : ℕ} → Path n → (i : ℕ) → Edge n i t → Path t
 
-  -- whether a branch on the path writes slot k
-  unfoldable pub wrote : {n : ℕ} → ℕ → Path n → Bool
-  wrote k (begin b e) = false
-  wrote k (follow {n} p i e) = wrote k p || eqb k (slotWritten tb (rowOf n i))
-
   -- the call at node n reads slot k, as one of its arguments
   abbrev pub CallReads : ℕ → ℕ → Type 0
   CallReads n k = (j : ℕ) × (at tb (nodeRow tb + n) 1 ≡ 2) × (j < parameters tb (at tb (nodeRow tb + n) 2)) × (k ≡ at tb (nodeRow tb + n) (3 + j))
@@ -48,6 +42,15 @@ module _ (tb : Table) where
   -- the branch in row r reads slot k, as one of its operands
   abbrev pub BranchReads : ℕ → ℕ → Type 0
   BranchReads r k = (j : ℕ) × (j < 5) × (reads (operandRole tb r j) ≡ true) × (k ≡ operand tb r j)
+
+  -- and writes slot k, as one of them
+  abbrev pub BranchWrites : ℕ → ℕ → Type 0
+  BranchWrites r k = (j : ℕ) × (j < 5) × (writes (operandRole tb r j) ≡ true) × (k ≡ operand tb r j)
+
+  -- a branch on the path writes slot k
+  unfoldable pub Wrote : {n : ℕ} → ℕ → Path n → Type 0
+  Wrote k (begin b e) = ⊥
+  Wrote k (follow {n} p i e) = Wrote k p ⊎ BranchWrites (rowOf n i) k
 
   -- slot k is read at node n, by its call or by one of its branches
   abbrev pub IsRead : ℕ → ℕ → Type 0
@@ -59,4 +62,4 @@ module _ (tb : Table) where
 
   -- whichever way node n is reached, slot k has a value there: it is a parameter, or each path to n has written it
   abbrev pub SurelyWritten : ℕ → ℕ → Type 0
-  SurelyWritten n k = (k < parameters tb (definitionOf tb n)) ⊎ ((p : Path n) → wrote k p ≡ true)
+  SurelyWritten n k = (k < parameters tb (definitionOf tb n)) ⊎ ((p : Path n) → Wrote k p)

@@ -1,24 +1,24 @@
--- Grounds 6 and 7 of a table that passes grounds 3 and 4, said over paths: line by line, and of the whole file. Assumes nothing.
+-- Grounds 6 and 7 of a table that passes grounds 3 and 4, said over paths, line by line. Assumes nothing.
 use Prim.Native.Nat.{ℕ, _+_, _-_, _<_}
 use native.Mathlib.Omega.{arith}
 use mathlib.Core.Path.{_≡_, refl}
-use mathlib.Core.Logic.{inl, inr, ⊎-elim, _↔_}
+use mathlib.Core.Logic.{_↔_}
 use mathlib.Core.Bool.{true, false, not}
 use lib.Dec.{eqb}
 use borrow.Author.Tests.{ltb-true, eqb-true, not-true, not-false}
 use Rattle.numbers.specs.Rows.{at}
-use Rattle.numbers.specs.Search.{first, every}
-use Rattle.numbers.specs.Search.Laws.{caseB, first-below, first-void, every-elim, every-intro}
+use Rattle.numbers.specs.Search.{every}
+use Rattle.numbers.specs.Search.Laws.{caseB, every-elim, every-intro}
 use Rattle.numbers.specs.Tests.{parts}
-use Rattle.table.specs.Table.{Table, nodes, nodeRow, branchRow, lineTotal, parameters, slotCount}
+use Rattle.table.specs.Table.{Table, nodes, nodeRow, branchRow, parameters, slotCount}
 use Rattle.table.specs.Layout.{branchCount, definitionOf, start}
 use Rattle.table.specs.Roles.{operand, operandRole, reads}
 use Rattle.table.specs.declared.Part.the-variants.{Branches}
 use Rattle.checks.specs.Ranges.{argumentInRange, callInRange, nodeInRange}
 use Rattle.flow.specs.Flow.{pathMark, mayLack, argumentWritten, callWritten, operandWritten, rowWritten, readsUnwritten, unreachable}
-use Rattle.loading.specs.Paths.{rowOf, CallReads, BranchReads, IsRead, Reachable, SurelyWritten}
+use Rattle.loading.specs.Paths.{rowOf, CallReads, BranchReads, Reachable, SurelyWritten}
 use Rattle.loading.specs.Paths.Laws.{reachable-iff, written-iff}
-use Rattle.loading.specs.Grounds.{Formed, node-kind, branch-kind, node-row, branch-row-of, node-in-range, slots-few, definition-of, node-of, branch-below, operand-slot, reads-named, edges}
+use Rattle.loading.specs.Grounds.{Formed, node-kind, branch-kind, node-in-range, slots-few, definition-of, node-of, branch-below, operand-slot, reads-named, edges}
 
 module _ (tb : Table) (g : Formed tb) where
   -- ---- ground 7
@@ -37,7 +37,7 @@ module _ (tb : Table) (g : Formed tb) where
   sure n k h l = let w = written-iff tb (edges tb g) n k h l in
       (λ e. w .0 (not-true (mayLack tb n k) e), λ s. rw (w .1 s))
 
-  argument-slot : (n j : ℕ) → n < nodes tb → at tb (nodeRow tb + n) 1 ≡ 2 → j < parameters tb (at tb (nodeRow tb + n) 2) → at tb (nodeRow tb + n) (3 + j) < 16
+  pub argument-slot : (n j : ℕ) → n < nodes tb → at tb (nodeRow tb + n) 1 ≡ 2 → j < parameters tb (at tb (nodeRow tb + n) 2) → at tb (nodeRow tb + n) (3 + j) < 16
   unfolding nodeInRange callInRange argumentInRange
   argument-slot n j h c z =
       let r = nodeRow tb + n in
@@ -78,28 +78,3 @@ module _ (tb : Table) (g : Formed tb) where
         λ f. let a = every-intro (operandWritten tb r n) 5 (λ j z. caseB (reads (operandRole tb r j))
             (λ w. rw w (operand-sure n i j h l z w .1 (f (operand tb r j) (j, z, w, refl)))) (λ w. rw w)) in rw a,
       )
-
-  -- ---- the whole file
-
-  pub all-reachable : (first (unreachable tb) (lineTotal tb) ≡ lineTotal tb) ↔ ((n : ℕ) → n < nodes tb → Reachable tb n)
-  unfolding unreachable
-  all-reachable = (
-    λ e n h. unreachable-iff n h .0 (first-below (unreachable tb) (lineTotal tb) (nodeRow tb + n) (rw e (omega arith))),
-    λ f. first-void (unreachable tb) (lineTotal tb) (λ r h. caseB (eqb (at tb r 0) 5)
-        (λ y. let (n, b, q) = node-row tb g r h (eqb-true (at tb r 0) 5 y) in rw q (unreachable-iff n b .1 (f n b)))
-        (λ y. rw y)),
-  )
-
-  pub all-written : (first (readsUnwritten tb) (lineTotal tb) ≡ lineTotal tb) ↔ ((n k : ℕ) → n < nodes tb → IsRead tb n k → SurelyWritten tb n k)
-  unfolding readsUnwritten rowWritten
-  all-written = (
-    λ e n k h s. ⊎-elim
-        (λ c. call-iff n h .0 (first-below (readsUnwritten tb) (lineTotal tb) (nodeRow tb + n) (rw e (omega arith))) k c)
-        (λ b. let (i, l, z) = b in
-        branch-iff n i h l .0 (first-below (readsUnwritten tb) (lineTotal tb) (rowOf tb n i) (rw e (omega (arith, branch-below tb g n i h l)))) k z) s,
-    λ f. first-void (readsUnwritten tb) (lineTotal tb) (λ r h. caseB (eqb (at tb r 0) 5)
-        (λ y. let (n, b, q) = node-row tb g r h (eqb-true (at tb r 0) 5 y) in rw q (call-iff n b .1 (λ k c. f n k b (inl c))))
-        (λ y. caseB (eqb (at tb r 0) 6)
-        (λ z. let (n, i, b, l, q) = branch-row-of tb g r h (eqb-true (at tb r 0) 6 z) in rw q (branch-iff n i b l .1 (λ k c. f n k b (inr (i, l, c)))))
-        (λ z. rw (y, z)))),
-  )

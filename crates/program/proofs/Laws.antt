@@ -5,56 +5,76 @@ use mathlib.Core.Path.{_≡_}
 use mathlib.Core.Bool.{Bool, true, false, not}
 use mathlib.Core.List.{List}
 use lib.Dec.{eqb}
+use lib.IntN.{ℤ, _+ℤ_, _-ℤ_}
+use mir.Syntax.{w32}
+use mir.Val.{Fits, toZ, ofZ}
+use mir.Facts.{toZ-ofZ, ofZ-toZ, sfits-toZ}
 use borrow.Author.Tests.{ne-eqb, lt-ltb, le-ltb}
 use Rattle.numbers.specs.Rows.{at}
-use Rattle.numbers.specs.Signed.{lower, sum, difference, widened}
+use Rattle.numbers.specs.Signed.{residue, wrap, lower, widened}
+use Rattle.numbers.specs.Signed.Laws.{residue-below}
 use Rattle.table.specs.Table.{Table, slotCount}
 use Rattle.table.specs.Layout.{slotType}
 use Rattle.state.specs.State.{slotOf}
-use Rattle.rules.specs.Program.{channelSlot, guardHolds, assigned, opposite}
+use Rattle.rules.specs.Program.{wrappedSum, wrappedDifference, channelSlot, guardHolds, assigned, opposite}
 use Rattle.rules.specs.declared.Direction.{Direction}
 
-module _ (tb : Table) (r : ℕ) (row : List ℕ) (k : ℕ) (e : k ≡ at tb r 1) where
-  pub guard-always : k ≡ 0 → true ≡ guardHolds tb r row
+-- the guard in row r of the table: k is its kind, a and b are its operands, l is the first slot's number
+module _ (tb : Table) (r : ℕ) (row : List ℕ) (k : ℕ) where
+  pub guard-always : k ≡ at tb r 1 → k ≡ 0 → true ≡ guardHolds tb r row
   unfolding guardHolds
-  guard-always i = rw (← e, i)
+  guard-always e i = rw (← e, i)
 
-  -- l is the first slot's number; a and b are the guard's operands
-  module _ (a b l : ℕ) (f : a ≡ at tb r 2) (g : b ≡ at tb r 3) (h : l ≡ slotOf row a) where
-    pub guard-equals-constant : (w : ℕ) → w ≡ widened b → k ≡ 1 → eqb l w ≡ guardHolds tb r row
+  module _ (a b l : ℕ) where
+    pub guard-equals-constant : (w : ℕ) → w ≡ widened b → l ≡ slotOf row a → a ≡ at tb r 2 → b ≡ at tb r 3 → k ≡ at tb r 1 → k ≡ 1 → eqb l w ≡ guardHolds tb r row
     unfolding guardHolds
-    guard-equals-constant w j i = rw (← e, i, h, j, f, g)
+    guard-equals-constant w j h f g e i = rw (← e, i, h, j, f, g)
 
-    pub guard-below-constant : (w : ℕ) (x : Bool) → x ≡ lower l w → w ≡ widened b → k ≡ 2 → x ≡ guardHolds tb r row
+    pub guard-equals-slot : (m : ℕ) → m ≡ slotOf row b → l ≡ slotOf row a → a ≡ at tb r 2 → b ≡ at tb r 3 → k ≡ at tb r 1 → k ≡ 3 → eqb l m ≡ guardHolds tb r row
     unfolding guardHolds
-    guard-below-constant w x q j i = rw (← e, i, q, h, j, f, g)
+    guard-equals-slot m j h f g e i = rw (← e, i, h, j, f, g)
 
-    pub guard-equals-slot : (m : ℕ) → m ≡ slotOf row b → k ≡ 3 → eqb l m ≡ guardHolds tb r row
-    unfolding guardHolds
-    guard-equals-slot m j i = rw (← e, i, h, j, f, g)
+    module _ (m : ℕ) (x : Bool) (q : x ≡ lower l m) where
+      pub guard-below-constant : m ≡ widened b → l ≡ slotOf row a → a ≡ at tb r 2 → b ≡ at tb r 3 → k ≡ at tb r 1 → k ≡ 2 → x ≡ guardHolds tb r row
+      unfolding guardHolds
+      guard-below-constant j h f g e i = rw (← e, i, q, h, j, f, g)
 
-    pub guard-below-slot : (m : ℕ) (x : Bool) → x ≡ lower l m → m ≡ slotOf row b
-        → (k ≡ 0 → ⊥) → (k ≡ 1 → ⊥) → (k ≡ 2 → ⊥) → (k ≡ 3 → ⊥) → x ≡ guardHolds tb r row
-    unfolding guardHolds
-    guard-below-slot m x q j n0 n1 n2 n3 = rw (← e, ne-eqb k 0 n0, ne-eqb k 1 n1, ne-eqb k 2 n2, ne-eqb k 3 n3, q, h, j, f, g)
+      pub guard-below-slot : m ≡ slotOf row b → l ≡ slotOf row a → a ≡ at tb r 2 → b ≡ at tb r 3 → k ≡ at tb r 1
+          → (k ≡ 0 → ⊥) → (k ≡ 1 → ⊥) → (k ≡ 2 → ⊥) → (k ≡ 3 → ⊥) → x ≡ guardHolds tb r row
+      unfolding guardHolds
+      guard-below-slot j h f g e n0 n1 n2 n3 = rw (← e, ne-eqb k 0 n0, ne-eqb k 1 n1, ne-eqb k 2 n2, ne-eqb k 3 n3, q, h, j, f, g)
 
-pub ruleset guards = (guard-always, guard-equals-constant, guard-below-constant, guard-equals-slot, guard-below-slot)
+-- a and b are the numbers of words x and y, z what they gave, taken back into range, and v its pattern
+module _ (x y : ℕ) (a b z : ℤ) (v : ℕ) (f : Fits w32 x) (g : Fits w32 y) (p : a ≡ toZ w32 x) (q : b ≡ toZ w32 y) (e : v ≡ ofZ w32 (toZ w32 (ofZ w32 z))) where
+  wrapped-is : (w : ℤ) → z ≡ wrap w → v ≡ ofZ w32 (wrap w)
+  wrapped-is w h =
+      let l : Fits w32 (residue w) = record { fits = residue-below w } in
+      rw (e, h, toZ-ofZ (sfits-toZ l))
 
-module _ (tb : Table) (r : ℕ) (row : List ℕ) (k a b : ℕ) (e : k ≡ at tb r 4) (f : a ≡ at tb r 6) (g : b ≡ at tb r 7) where
-  pub assigned-constant : (v : ℕ) → v ≡ widened a → k ≡ 5 → v ≡ assigned tb r row
+  pub sum-is : z ≡ wrap (toZ w32 (ofZ w32 a) +ℤ toZ w32 (ofZ w32 b)) → v ≡ wrappedSum x y
+  unfolding wrappedSum
+  sum-is h = wrapped-is (toZ w32 x +ℤ toZ w32 y) (rw (p, q, ofZ-toZ f, ofZ-toZ g) at h)
+
+  pub difference-is : z ≡ wrap (toZ w32 (ofZ w32 a) -ℤ toZ w32 (ofZ w32 b)) → v ≡ wrappedDifference x y
+  unfolding wrappedDifference
+  difference-is h = wrapped-is (toZ w32 x -ℤ toZ w32 y) (rw (p, q, ofZ-toZ f, ofZ-toZ g) at h)
+
+-- the assignment in row r of the table: k is its action, a and b are its fields
+module _ (tb : Table) (r : ℕ) (row : List ℕ) (k a v : ℕ) where
+  pub assigned-constant : v ≡ widened a → a ≡ at tb r 6 → k ≡ at tb r 4 → k ≡ 5 → v ≡ assigned tb r row
   unfolding assigned
-  assigned-constant v h i = rw (← e, i, h, f)
+  assigned-constant h f e i = rw (← e, i, h, f)
 
-  module _ (x y v : ℕ) (p : x ≡ slotOf row a) (q : y ≡ slotOf row b) where
-    pub assigned-sum : v ≡ sum x y → k ≡ 6 → v ≡ assigned tb r row
+  module _ (b x y : ℕ) where
+    pub assigned-sum : v ≡ wrappedSum x y → x ≡ slotOf row a → y ≡ slotOf row b → a ≡ at tb r 6 → b ≡ at tb r 7
+        → k ≡ at tb r 4 → k ≡ 6 → v ≡ assigned tb r row
     unfolding assigned
-    assigned-sum h i = rw (← e, i, h, p, q, f, g)
+    assigned-sum h p q f g e i = rw (← e, i, h, p, q, f, g)
 
-    pub assigned-difference : v ≡ difference x y → (k ≡ 5 → ⊥) → (k ≡ 6 → ⊥) → v ≡ assigned tb r row
+    pub assigned-difference : v ≡ wrappedDifference x y → x ≡ slotOf row a → y ≡ slotOf row b → a ≡ at tb r 6 → b ≡ at tb r 7
+        → k ≡ at tb r 4 → (k ≡ 5 → ⊥) → (k ≡ 6 → ⊥) → v ≡ assigned tb r row
     unfolding assigned
-    assigned-difference h n5 n6 = rw (← e, ne-eqb k 5 n5, ne-eqb k 6 n6, h, p, q, f, g)
-
-pub ruleset assignments = (assigned-constant, assigned-sum, assigned-difference)
+    assigned-difference h p q f g e n5 n6 = rw (← e, ne-eqb k 5 n5, ne-eqb k 6 n6, h, p, q, f, g)
 
 pub opposite-arm : (r d e : Direction) → d ≡ e → r ≡ opposite e → r ≡ opposite d
 opposite-arm r d e f g = rw f g

@@ -6,7 +6,7 @@ ghost use Rattle.table.specs.Layout.{start, definitionOf, slotType};
 ghost use Rattle.table.specs.declared.Part.the-variants.{Slots, Nodes};
 ghost use Rattle.table.specs.Index.{Indexed};
 ghost use Rattle.state.specs.State.{stateOf, thread, slotOf};
-ghost use Rattle.rules.specs.Program.{typeAt, channelSlot, blank, branchAt, nextOf, childOf, actOf, guardHolds, assigned, opposite};
+ghost use Rattle.rules.specs.Program.{wrappedSum, wrappedDifference, typeAt, channelSlot, blank, branchAt, nextOf, childOf, actOf, guardHolds, assigned, opposite};
 use rules::Act;
 use rules::Direction;
 use table::Part;
@@ -151,6 +151,19 @@ pub fn guard_holds(
     }
 }
 
+// The sum and the difference of the numbers in two slots, taken back into range.
+fn sum_of(x: u32, y: u32) -> u32
+    ensures { λ r. ⌜ r ≡ wrappedSum x y ⌝ }
+{
+    numbers::pattern(numbers::wrapping_add(numbers::signed(x), numbers::signed(y)))
+}
+
+fn difference_of(x: u32, y: u32) -> u32
+    ensures { λ r. ⌜ r ≡ wrappedDifference x y ⌝ }
+{
+    numbers::pattern(numbers::wrapping_sub(numbers::signed(x), numbers::signed(y)))
+}
+
 // What the assignment in a row gives thread t.
 pub fn assigned_value(
     table: &[u8],
@@ -166,8 +179,8 @@ pub fn assigned_value(
     let second = table::cell_of(table, index, row, 7);
     match table::cell_of(table, index, row, 4) {
         5 => numbers::widen(first),
-        6 => numbers::add(slot(state, t, first), slot(state, t, second)),
-        _ => numbers::subtract(slot(state, t, first), slot(state, t, second)),
+        6 => sum_of(slot(state, t, first), slot(state, t, second)),
+        _ => difference_of(slot(state, t, first), slot(state, t, second)),
     }
 }
 

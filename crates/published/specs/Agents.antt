@@ -7,8 +7,11 @@ use mathlib.Core.List.{List, [], _∷_}
 use mathlib.Core.Option.{Option, none, some}
 use lib.Dec.{eqb}
 use lib.ListN.{getD}
+use lib.IntN.{_+ℤ_, _-ℤ_}
+use mir.Syntax.{w32}
+use mir.Val.{toZ, ofZ}
 use Rattle.numbers.specs.Count.{count}
-use Rattle.numbers.specs.Signed.{lower, sum, difference}
+use Rattle.numbers.specs.Signed.{wrap, lower}
 use Rattle.published.specs.Syntax.{Guard, always, equals, below, same, less, Expression, constant, plus, minus, Process, end}
 
 infix 4 _∈_
@@ -55,11 +58,11 @@ holds δ (below x n) = lower (numberOf δ x) n
 holds δ (same x y) = eqb (numberOf δ x) (numberOf δ y)
 holds δ (less x y) = lower (numberOf δ x) (numberOf δ y)
 
--- what an assignment's expression evaluates to
+-- what an assignment's expression evaluates to: sums and differences of whole numbers, taken back into range
 unfoldable pub valueOf : Env → Expression → ℕ
 valueOf δ (constant n) = n
-valueOf δ (plus x y) = sum (numberOf δ x) (numberOf δ y)
-valueOf δ (minus x y) = difference (numberOf δ x) (numberOf δ y)
+valueOf δ (plus x y) = ofZ w32 (wrap (toZ w32 (numberOf δ x) +ℤ toZ w32 (numberOf δ y)))
+valueOf δ (minus x y) = ofZ w32 (wrap (toZ w32 (numberOf δ x) -ℤ toZ w32 (numberOf δ y)))
 
 -- ---- threads and agents
 

@@ -13,8 +13,8 @@ use Rattle.published.specs.Rules.{Acts, step, new, spawn, next, call, in
 
 -- ---- what a reduction of the first thread, with Γ and δ, comes to
 
--- whether it is (out) or (in), behind branches whose guards are false (next) or not: then the thread has one commitment more, and goes on to the branches behind.
--- Every other reduction is an action
+-- whether it is (out) or (in), behind branches whose guards are false (next) or not: then the thread has one commitment more, and goes on to the branches
+-- behind. Every other reduction is an action
 unfoldable pub commits : (def : ℕ → Process) {A T : Agent} → Acts def Nothing A T → Bool
 commits def (step g) = false
 commits def (new ĉ g f) = false
@@ -129,7 +129,7 @@ pub data Alike (A : Agent) : Agent → Agent → Type 0 where
 pub same-channel : (δ : Env) (c ĉ ĉ′ : ℕ) → look δ c ≡ some (channel ĉ) → look δ c ≡ some (channel ĉ′) → ĉ ≡ ĉ′
 same-channel δ c ĉ ĉ′ e f = let q : some (channel ĉ) ≡ some (channel ĉ′) = sym e ∙ f in cc
 
-same-value : (δ : Env) (v : ℕ) (w w′ : Value) → look δ v ≡ some w → look δ v ≡ some w′ → w ≡ w′
+pub same-value : (δ : Env) (v : ℕ) (w w′ : Value) → look δ v ≡ some w → look δ v ≡ some w′ → w ≡ w′
 same-value δ v w w′ e f = let q : some w ≡ some w′ = sym e ∙ f in cc
 
 module _ (Δ : Channels) (Γ : List Commitment) (δ : Env) (S : Process) where
@@ -185,7 +185,7 @@ module _ (Δ : Channels) (Γ : List Commitment) (δ : Env) (S : Process) where
   receives-only (u ∷ C) c x ĉ′ P T (ĉ, v, R, w, e, i, g, q) e′ f = let z : ĉ ≡ ĉ′ = same-channel δ c ĉ ĉ′ e e′ in f u (inl refl) v R (rw z at i)
 
   module _ (B : List Thread) where
-    pub not-both : (α : Prefix) (P : Process) (Q : Sum) (T T′ : Agent) → ByAction Δ δ B α P T → ByCommitment Δ Γ δ B α P Q T′ → ⊥
+    not-both : (α : Prefix) (P : Process) (Q : Sum) (T T′ : Agent) → ByAction Δ δ B α P T → ByCommitment Δ Γ δ B α P Q T′ → ⊥
     unfolding ByAction ByCommitment
     not-both tau P Q T T′ a k = k
     not-both (output c v) P Q T T′ a (ĉ, e, f, q) = sends-only B c v ĉ P T a e f

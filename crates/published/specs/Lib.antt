@@ -2,12 +2,15 @@ pub mod Syntax
 pub mod Agents
 pub mod Rules
 pub mod Fired
+pub mod Stands
 pub mod Enabling
 pub mod Bindings
 pub mod Lists
+pub mod Orders
 pub mod Polarity
 pub mod Chain
 pub mod Cliques
 pub mod Choices
+pub mod Whole
 pub mod Printed
 pub mod Examples

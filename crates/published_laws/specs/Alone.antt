@@ -92,7 +92,7 @@ module _ (tb : Table) (g : Granted tb) (rd : Readable tb) (s : State) (o : Order
   at-call e = let k = kindOf tb (standsAt (thread s t)) in
       rw (process-at tb g rd (standsAt (thread s t)) node-in, ne-eqb k 1 (λ q. omega arith), eq-eqb k 2 e)
 
-  at-end : kindOf tb (standsAt (thread s t)) ≢ 1 → kindOf tb (standsAt (thread s t)) ≢ 2 → readyThread tb (thread s t) ≡ Agents.thread [] (envOf tb (thread s t)) end
+  pub at-end : kindOf tb (standsAt (thread s t)) ≢ 1 → kindOf tb (standsAt (thread s t)) ≢ 2 → readyThread tb (thread s t) ≡ Agents.thread [] (envOf tb (thread s t)) end
   unfolding readyThread nodeProcess
   at-end m n = let k = kindOf tb (standsAt (thread s t)) in rw (process-at tb g rd (standsAt (thread s t)) node-in, ne-eqb k 1 m, ne-eqb k 2 n)
 
@@ -107,7 +107,7 @@ module _ (tb : Table) (g : Granted tb) (rd : Readable tb) (s : State) (o : Order
 
   -- ---- a wait: (out), (in) and skip
 
-  wait-thread : threadOf tb (waitingRow (thread s t))
+  pub wait-thread : threadOf tb (waitingRow (thread s t))
       ≡ midway tb g rd s o t l ready b bn (commitmentsFrom tb (thread s t) 0 (branchCount tb (standsAt (thread s t))))
       (waits (branchCount tb (standsAt (thread s t))))
   unfolding waitingThread
@@ -198,7 +198,7 @@ module _ (tb : Table) (g : Granted tb) (rd : Readable tb) (s : State) (o : Order
       unfolding typeBy typeAt
       type-there = branching tb g (typeIn s) (thread s t) sound used k m .creates (x .takes .does) .1
 
-      channels-with : channelsOf (written tb s t (Creates k c)) ≡ adding (channelsOf s) c
+      pub channels-with : channelsOf (written tb s t (Creates k c)) ≡ adding (channelsOf s) c
       unfolding channelsOf adding written withMark typed withThread withChannel
       channels-with =
           let y = typeBy tb (thread s t) k in

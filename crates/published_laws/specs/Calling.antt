@@ -85,7 +85,7 @@ module _ (tb : Table) (g : Granted tb) (rd : Readable tb) (s : State) (o : Order
   abbrev δ : Env
   δ = envOf tb (thread s t)
 
-  abbrev after : List ℕ
+  abbrev pub after : List ℕ
   after = entered tb (callee tb (standsAt (thread s t))) (λ k. slotOf (thread s t) (argument tb (standsAt (thread s t)) k))
 
   calling : Calling tb (standsAt (thread s t))
@@ -106,14 +106,14 @@ module _ (tb : Table) (g : Granted tb) (rd : Readable tb) (s : State) (o : Order
       let q : look δ (arg k) ≡ some w = look-filled tb g rd (typeIn s) (thread s t) sound used (arg k) (calling .argument-slot k m) ∙ e in
       rw q
 
-  values : List Value
+  pub values : List Value
   values = tabulate (parameters tb d) valueFor
 
   given : map some values ≡ tabulate (parameters tb d) (λ k. some (valueFor k))
   unfolding values
   given = map-tabulate some (parameters tb d) valueFor (Agents.number 0)
 
-  evaluated : map (look δ) (tabulate (parameters tb d) arg) ≡ map some values
+  pub evaluated : map (look δ) (tabulate (parameters tb d) arg) ≡ map some values
   evaluated =
       map-tabulate (look δ) (parameters tb d) arg 0
       ∙ tabulate-cong (parameters tb d) (λ k. look δ (arg k)) (λ k. some (valueFor k)) argument-value ∙ sym given
@@ -156,7 +156,7 @@ module _ (tb : Table) (g : Granted tb) (rd : Readable tb) (s : State) (o : Order
       (λ y. look-past tb after k (ltb-false k rowSlots y))
 
   -- the parameters have the arguments' values, and the numbers besides are 0
-  entered-zeros : (x : ℕ) → look (envOf tb after) x ≡ zeroed (forNumbers tb d x) (look (map some values) x)
+  pub entered-zeros : (x : ℕ) → look (envOf tb after) x ≡ zeroed (forNumbers tb d x) (look (map some values) x)
   unfolding forNumbers zeroed
   entered-zeros x =
       caseB (ltb x (slotCount tb d))
@@ -175,11 +175,11 @@ module _ (tb : Table) (g : Granted tb) (rd : Readable tb) (s : State) (o : Order
       (λ y. let n = ltb-false x (slotCount tb d) y in
       after-none x n ∙ rw (y, given-none x (omega (arith, entry .few-parameters))))
 
-  after-thread : threadOf tb after ≡ Agents.thread [] (envOf tb after) (bodyOf tb d)
+  pub after-thread : threadOf tb after ≡ Agents.thread [] (envOf tb after) (bodyOf tb d)
   unfolding bodyOf entered
   after-thread = thread-is tb after (start tb Nodes d) (envOf tb after) refl refl refl
 
-  after-used : inUse after ≡ true
+  pub after-used : inUse after ≡ true
   unfolding entered
   after-used = refl
 

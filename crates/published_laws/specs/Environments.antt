@@ -17,7 +17,7 @@ use Rattle.table.specs.Table.{Table, slotCount}
 use Rattle.table.specs.Layout.{branchCount, definitionOf, slotType}
 use Rattle.flow.specs.Flow.{mayLack}
 use Rattle.state.specs.State.{maxChannels, rowSlots, standsAt, slotOf, inUse}
-use Rattle.rules.specs.Program.{branchAt, fieldB, fieldC, actOf, guardHolds, assigned}
+use Rattle.rules.specs.Program.{wrappedSum, wrappedDifference, branchAt, fieldB, fieldC, actOf, guardHolds, assigned}
 use Rattle.rules.specs.Holding.{holds}
 use Rattle.rules.specs.declared.Act.the-variants.{Assignment}
 use Rattle.granted.specs.Granted.{Granted}
@@ -200,7 +200,7 @@ module _ (tb : Table) (g : Granted tb) (rd : Readable tb) (ty : ℕ → ℕ) (ro
     -- what is assigned
     pub assigned-same : actOf tb (branchAt tb (standsAt row) i) ≡ Assignment
         → valueOf (envOf tb row) (expressionOf tb (branchAt tb (standsAt row) i)) ≡ assigned tb (branchAt tb (standsAt row) i) row
-    unfolding assigned expressionOf valueOf
+    unfolding assigned wrappedSum wrappedDifference expressionOf valueOf
     assigned-same m =
         let h = rd .reading (standsAt row) i (r .node-in u) l in
         let c = assignment-code m in

@@ -19,8 +19,11 @@ pub mod Outside
 pub mod Places
 pub mod Enabling
 pub mod Collecting
+pub mod Taking
 pub mod Running
 pub mod Choosing
+pub mod PassedOver
+pub mod Conversely
 pub mod Benches
 pub mod Starting
 pub mod Computation

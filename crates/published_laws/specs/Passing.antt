@@ -106,7 +106,7 @@ module _ (tb : Table) (g : Granted tb) (rd : Readable tb) (s : State) (o : Order
       let w : getD (set rows t freeRow) u [] ≡ thread s u = getD-set-other rows t u freeRow [] e in
       contra (pledge-offers tb (thread s u) d c v S (rw w at k′) m) (f u in-rows e))
 
-  others-silent : (d : Direction) (c : ℕ) → c < maxChannels → Unanswered tb s t d c → (x : Thread) → x ∈ others → (v : ℕ) (S : Process)
+  pub others-silent : (d : Direction) (c : ℕ) → c < maxChannels → Unanswered tb s t d c → (x : Thread) → x ∈ others → (v : ℕ) (S : Process)
       → pledge d c v S ∈ x .commitments → ⊥
   unfolding others
   others-silent d c m f x (inl q) v S k = absurd (let h : pledge d c v S ∈ [] = rw (q, bn .uncommitted) at k in h)
@@ -124,7 +124,7 @@ module _ (tb : Table) (g : Granted tb) (rd : Readable tb) (s : State) (o : Order
   abbrev pub midway : List Commitment → Sum → Thread
   midway Γ q = Agents.thread Γ (envOf tb (thread s t)) (choice q)
 
-  guard-is : (i : ℕ) → i < branchCount tb (standsAt (thread s t))
+  pub guard-is : (i : ℕ) → i < branchCount tb (standsAt (thread s t))
       → Agents.holds (envOf tb (thread s t)) (guardOf tb (branchAt tb (standsAt (thread s t)) i))
       ≡ guardHolds tb (branchAt tb (standsAt (thread s t)) i) (thread s t)
   guard-is i m = guard-same tb g rd (typeIn s) (thread s t) sound used i m

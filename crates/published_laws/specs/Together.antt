@@ -113,7 +113,7 @@ module _ (tb : Table) (g : Granted tb) (rd : Readable tb) (s : State) (o : Order
           getD-set-other (s .threads) t u parent [] u-other ∙ o .row u (x .thread-in) .free (x .unused) in
           ap (λ (row : List ℕ). set (set (s .threads) t parent) u row) (sym e) ∙ set-getD (set (s .threads) t parent) u []
 
-      family-first : Rearranged (b ∷ threadsOf tb (set (set (s .threads) t parent) u child)) (threadOf tb child ∷ (threadOf tb parent ∷ rest))
+      pub family-first : Rearranged (b ∷ threadsOf tb (set (set (s .threads) t parent) u child)) (threadOf tb child ∷ (threadOf tb parent ∷ rest))
       family-first =
           let rows = set (s .threads) t parent in
           let h = stored-first tb rows u child (omega (arith, length-set (s .threads) t parent, inside u (x .thread-in)))
@@ -157,7 +157,7 @@ module _ (tb : Table) (g : Granted tb) (rd : Readable tb) (s : State) (o : Order
       abbrev mate : List ℕ
       mate = metBy tb (thread s u) j (valueBy tb (thread s t) k)
 
-      mate-second : Rearranged rest (waitingThread tb (thread s u) ∷ apart)
+      pub mate-second : Rearranged rest (waitingThread tb (thread s u) ∷ apart)
       unfolding others
       mate-second =
           let rows = set (s .threads) t freeRow in
@@ -167,7 +167,7 @@ module _ (tb : Table) (g : Granted tb) (rd : Readable tb) (s : State) (o : Order
           let h′ = rw (e, waiting-thread tb (thread s u) (a .waits)) at h in
           twice (same-first h′) swapped
 
-      both-first : Rearranged (b ∷ threadsOf tb (set (set (s .threads) t own) u mate)) (threadOf tb own ∷ (threadOf tb mate ∷ apart))
+      pub both-first : Rearranged (b ∷ threadsOf tb (set (set (s .threads) t own) u mate)) (threadOf tb own ∷ (threadOf tb mate ∷ apart))
       both-first =
           let rows = s .threads in
           let h = stored-first tb (set rows t own) u mate (omega (arith, length-set rows t own, inside u (a .thread-in)))

@@ -13,7 +13,7 @@ use Rattle.numbers.specs.Search.Laws.{caseB, getD-tabulate, length-tabulate, is
 use Rattle.table.specs.Table.{Table}
 use Rattle.state.specs.State.{State, maxThreads, thread, isReady, withMark}
 use Rattle.rules.specs.Moves.{move, perform}
-use Rattle.rules.specs.Calls.{nextReady, pastTurn, turnBy, Course, onward, oneMore, turnEnd, takeTurn, courseOf}
+use Rattle.rules.specs.Calls.{stepAnswer, nextReady, pastTurn, turnFor, turnBy, Course, onward, oneMore, turnEnd, takeTurn, courseOf}
 use Rattle.rules.specs.declared.Move.{Move}
 use Rattle.rules.specs.declared.Move.the-variants.{Ends, Calls, Waits, Goes, Creates, Spawns, Meets, LacksThread, LacksChannel}
 use Rattle.rules.specs.declared.Reason.{Reason}
@@ -33,7 +33,7 @@ use Rattle.published_laws.specs.Firing.{firedBy, nextHad, hadIn}
 use Rattle.published_laws.specs.Stepping.{Allowed, step-reduced}
 
 went-allowed : (t : ℕ) (m : Move) → turnBy t m ≡ Went → Allowed m
-unfolding turnBy Allowed
+unfolding stepAnswer turnFor turnBy Allowed
 went-allowed t Ends e = tt
 went-allowed t Calls e = tt
 went-allowed t Waits e = tt

@@ -152,16 +152,25 @@ nextReady s = around maxThreads (turn s) (isReadyThread s)
 unfoldable pub pastTurn : State → ℕ → State
 pastTurn s t = withMark s 2 (oneUp maxThreads t)
 
+-- why a run ends where the step of thread t is refused: on ground 13 or 14 a row is lacking. On another ground there was no thread to step; a run
+-- does not come to that, since it steps a ready thread of a sound state
+unfoldable pub reasonFor : ℕ → Refusal → Reason
+reasonFor t Ground.Length = NoneReady
+reasonFor t Ground.Table = NoneReady
+reasonFor t Ground.State = NoneReady
+reasonFor t Ground.Thread = NoneReady
+reasonFor t Ground.Port = NoneReady
+reasonFor t Ground.ThreadRow = LackedThread t
+reasonFor t Ground.ChannelRow = LackedChannel t
+
+-- what a turn of thread t comes to, by the answer that its step gets
+unfoldable pub turnFor : ℕ → Stepped → Turn
+turnFor t (Stepped.Done n d) = Went
+turnFor t (Stepped.Refused r) = Stopped (reasonFor t r)
+
+-- ... by its move; from which node it is made does not matter
 unfoldable pub turnBy : ℕ → Move → Turn
-turnBy t Ends = Went
-turnBy t Calls = Went
-turnBy t Waits = Went
-turnBy t (Goes i) = Went
-turnBy t (Creates i c) = Went
-turnBy t (Spawns i u) = Went
-turnBy t (Meets i u j) = Went
-turnBy t LacksThread = Stopped (LackedThread t)
-turnBy t LacksChannel = Stopped (LackedChannel t)
+turnBy t m = turnFor t (stepAnswer 0 m)
 
 -- how far a run came: its steps, why it ended, and the state
 pub record Course : Type 0 where

@@ -4,8 +4,11 @@ use Prim.Native.Nat.{ℕ, _+_}
 use mathlib.Core.Bool.{Bool, true, false, not, _&&_, cond}
 use mathlib.Core.List.{List}
 use lib.Dec.{ltb, eqb}
+use lib.IntN.{_+ℤ_, _-ℤ_}
+use mir.Syntax.{w32}
+use mir.Val.{toZ, ofZ}
 use Rattle.numbers.specs.Rows.{at}
-use Rattle.numbers.specs.Signed.{lower, sum, difference, widened}
+use Rattle.numbers.specs.Signed.{wrap, lower, widened}
 use Rattle.table.specs.Table.{Table, nodeRow, branchRow, slotCount}
 use Rattle.table.specs.Layout.{start, definitionOf, slotType}
 use Rattle.table.specs.declared.Part.the-variants.{Nodes, Branches}
@@ -14,6 +17,14 @@ use Rattle.rules.specs.declared.Direction.{Direction}
 use Rattle.rules.specs.declared.Direction.the-variants.{Out, In}
 use Rattle.rules.specs.declared.Act.{Act}
 use Rattle.rules.specs.declared.Act.the-variants.{Tau, Meeting, New, Spawn, Assignment}
+
+-- ---- numbers in slots, each by its pattern: the sum of two whole numbers, taken back into range, and their difference
+
+unfoldable pub wrappedSum : ℕ → ℕ → ℕ
+wrappedSum x y = ofZ w32 (wrap (toZ w32 x +ℤ toZ w32 y))
+
+unfoldable pub wrappedDifference : ℕ → ℕ → ℕ
+wrappedDifference x y = ofZ w32 (wrap (toZ w32 x -ℤ toZ w32 y))
 
 module _ (tb : Table) where
   -- ---- slots
@@ -83,12 +94,12 @@ module _ (tb : Table) where
         (cond (eqb (at tb r 1) 3) (eqb (slotOf row (at tb r 2)) (slotOf row (at tb r 3)))
         (lower (slotOf row (at tb r 2)) (slotOf row (at tb r 3))))))
 
-    -- what an assignment gives: the constant b, the sum of slots b and c, or their difference, taken back into range (`Signed.antt`: `sum-wraps`)
+    -- what an assignment gives: the constant b, the sum of slots b and c, or their difference
     unfoldable pub assigned : List ℕ → ℕ
     assigned row =
         cond (eqb (at tb r 4) 5) (widened fieldB)
-        (cond (eqb (at tb r 4) 6) (sum (slotOf row fieldB) (slotOf row fieldC))
-        (difference (slotOf row fieldB) (slotOf row fieldC)))
+        (cond (eqb (at tb r 4) 6) (wrappedSum (slotOf row fieldB) (slotOf row fieldC))
+        (wrappedDifference (slotOf row fieldB) (slotOf row fieldC)))
 
 -- the side that answers a direction
 unfoldable pub opposite : Direction → Direction

@@ -10,7 +10,7 @@ ghost use mathlib.Core.Bool.{true};
 ghost use Rattle.state.specs.State.{stateOf, thread, isReady, withChannels};
 ghost use Rattle.rules.specs.Holding.{settled};
 ghost use Rattle.rules.specs.Moves.{move, written, perform, metByBench};
-ghost use Rattle.rules.specs.Calls.{turnBy, Turned, turnEnd};
+ghost use Rattle.rules.specs.Calls.{stepAnswer, reasonFor, turnBy, Turned, turnEnd};
 ghost use Rattle.writes.specs.Calling.{callSlots};
 ghost use Rattle.granted.specs.Granted.{Granted};
 ghost use Rattle.engine_laws.specs.Sound.{Sound};
@@ -20,9 +20,12 @@ ghost use Rattle.steps.specs.Made.{ChildIn, made};
 ghost use Rattle.steps.specs.Top.{raisedBy};
 ghost use Rattle.rules.specs.declared.Move.the-variants.{Ends, Calls, Waits, Goes, Creates, Spawns, Meets};
 ghost use Rattle.steps.specs.Keeping.{Facing, numberBy, AtPort};
+use rules::Deed;
 use rules::Direction;
 use rules::Move;
 use rules::Reason;
+use rules::Refusal;
+use rules::Stepped;
 use rules::Turn;
 
 const MAX_THREADS: u32 = 64;
@@ -336,20 +339,45 @@ fn step_ready(
     m
 }
 
-// What a move of thread t comes to in a run.
+// What a step from a node is answered with, by its move.
+pub fn step_answer(node: u32, m: Move) -> Stepped
+    ensures { λ r. ⌜ r ≡ stepAnswer node m ⌝ }
+{
+    match m {
+        Move::Ends => Stepped::Done(node, Deed::Ended),
+        Move::Calls => Stepped::Done(node, Deed::Called),
+        Move::Waits => Stepped::Done(node, Deed::Waited),
+        Move::Goes(i) => Stepped::Done(node, Deed::Took(i)),
+        Move::Creates(i, _) => Stepped::Done(node, Deed::Took(i)),
+        Move::Spawns(i, u) => Stepped::Done(node, Deed::TookWith(i, u)),
+        Move::Meets(i, u, _) => Stepped::Done(node, Deed::TookWith(i, u)),
+        Move::LacksThread => Stepped::Refused(Refusal::ThreadRow),
+        Move::LacksChannel => Stepped::Refused(Refusal::ChannelRow),
+    }
+}
+
+// Why a run ends where the step of thread t is refused: a row is lacking, or there was no thread to step.
+fn reason_for(t: u32, ground: Refusal) -> Reason
+    ensures { λ r. ⌜ r ≡ reasonFor t ground ⌝ }
+{
+    match ground {
+        Refusal::Length => Reason::NoneReady,
+        Refusal::Table => Reason::NoneReady,
+        Refusal::State => Reason::NoneReady,
+        Refusal::Thread => Reason::NoneReady,
+        Refusal::Port => Reason::NoneReady,
+        Refusal::ThreadRow => Reason::LackedThread(t),
+        Refusal::ChannelRow => Reason::LackedChannel(t),
+    }
+}
+
+// What a move of thread t comes to in a run, by the answer that its step would get; the node does not matter.
 fn turn_by(t: u32, m: Move) -> Turn
     ensures { λ r. ⌜ r ≡ turnBy t m ⌝ }
 {
-    match m {
-        Move::Ends => Turn::Went,
-        Move::Calls => Turn::Went,
-        Move::Waits => Turn::Went,
-        Move::Goes(_) => Turn::Went,
-        Move::Creates(_, _) => Turn::Went,
-        Move::Spawns(_, _) => Turn::Went,
-        Move::Meets(_, _, _) => Turn::Went,
-        Move::LacksThread => Turn::Stopped(Reason::LackedThread(t)),
-        Move::LacksChannel => Turn::Stopped(Reason::LackedChannel(t)),
+    match step_answer(0, m) {
+        Stepped::Done(_, _) => Turn::Went,
+        Stepped::Refused(ground) => Turn::Stopped(reason_for(t, ground)),
     }
 }
 

@@ -1,3 +1,4 @@
 pub mod Listing
 pub mod Shown
 pub mod Cut
+pub mod Reasons

@@ -32,7 +32,7 @@ use Rattle.loading.specs.Yields.{file-shaped, length-bytes, bytes-hold, sound-l
 use Rattle.state.specs.State.{State, minusOne, maxThreads, maxChannels, thread, standsAt, inUse, isReady}
 use Rattle.rules.specs.Start.{started}
 use Rattle.rules.specs.Moves.{isFreeChannel, move, perform}
-use Rattle.rules.specs.Calls.{stepAnswer, nextReady, pastTurn, turnBy, Course, oneMore, onward, turnEnd, takeTurn, courseOf}
+use Rattle.rules.specs.Calls.{stepAnswer, nextReady, pastTurn, reasonFor, turnFor, turnBy, Course, oneMore, onward, turnEnd, takeTurn, courseOf}
 use Rattle.rules.specs.declared.Move.{Move}
 use Rattle.rules.specs.declared.Move.the-variants.{Ends, Calls, Waits, Goes, Creates, Spawns, Meets, LacksThread, LacksChannel}
 use Rattle.rules.specs.declared.Deed.{Deed}
@@ -154,7 +154,7 @@ module _ (tb : Table) (g : Granted tb) (few : (n : ℕ) → n < nodes tb → bra
     together n m i u e h k = (TookWith i u, e, (low 3 (omega arith), (low i (branch-low i h), (low u (omega arith), tt))))
 
     answered : (n : ℕ) (m : Move) → Chosen tb s t m → turnBy t m ≡ Went → Answers n m
-    unfolding Answers AllShown Chosen stepAnswer turnBy actNumber branchNumber partnerNumber
+    unfolding Answers AllShown Chosen stepAnswer turnFor turnBy actNumber branchNumber partnerNumber
     answered n Ends c w = (Ended, refl, (low 0 (omega arith), (low 0 (omega arith), (none, tt))))
     answered n Calls c w = (Called, refl, (low 1 (omega arith), (low 0 (omega arith), (none, tt))))
     answered n Waits c w = (Waited, refl, (low 2 (omega arith), (low 0 (omega arith), (none, tt))))
@@ -196,7 +196,7 @@ module _ (tb : Table) where
   Held (Stopped r) = Shown (heldUpNumber r)
 
   move-held : (t : ℕ) → t < maxThreads → (m : Move) → Held (turnBy t m)
-  unfolding Held turnBy heldUpNumber
+  unfolding Held stepAnswer reasonFor turnFor turnBy heldUpNumber
   move-held t l Ends = tt
   move-held t l Calls = tt
   move-held t l Waits = tt

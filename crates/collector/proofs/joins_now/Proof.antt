@@ -11,6 +11,5 @@ joins-now-spec =
     (λ c. search joining)
     (λ c κs. search needs)
     (λ c. search joining)
-    (λ c. search joining)
     (λ c κs. search needs)
     (λ c. search joining))

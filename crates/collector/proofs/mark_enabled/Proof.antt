@@ -25,6 +25,7 @@ mark-enabled-spec =
     (tie.spec
     Inv-loop
     μ-loop
+    (λ c κs. search needs)
     (λ c. (search marking-none, λ e. search no-rounds))
     (λ c κs. search needs)
     (λ c. search fewer-left)

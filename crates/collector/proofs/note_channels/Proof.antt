@@ -8,6 +8,5 @@ note-channels-spec =
     tie.close
     (tie.spec
     (λ c κs. search needs)
-    (λ c κs. search needs)
     (λ c. search channels-noted)
     (λ c. search needs))

@@ -8,8 +8,8 @@ take-thread-spec =
     tie.close
     (tie.spec
     (λ c κs. search needs)
-    (λ c. (search free-counted, search free-kept))
+    (λ c. (search free-counted, (search free-kept, search needs)))
     (λ c κs. search needs)
-    (λ c. (search marked-counted, search marked-kept))
+    (λ c. (search marked-counted, (search marked-kept, search needs)))
     (λ c κs. search needs)
-    (λ c. (search left-counted, search left-freed)))
+    (λ c. (search left-counted, (search left-freed, search needs))))

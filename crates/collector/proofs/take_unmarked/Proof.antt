@@ -1,10 +1,12 @@
--- `collector::take_unmarked` meets its contract. The loop: the threads before the t-th have been seen to, and those that were freed are counted. Assumes nothing.
+-- `collector::take_unmarked` meets its contract. The loop: the threads before the t-th have been seen to, those that were freed are counted, and the channel
+-- rows are settled. Assumes nothing.
 use Prim.Native.Nat.{_≤_, _-_}
 use mathlib.Core.Path.{_≡_}
 use Rattle.table.specs.Table.{tableOf}
 use Rattle.state.specs.State.{stateOf}
+use Rattle.rules.specs.Holding.{settled}
 use Rattle.collector.specs.Freeing.{collectedTo, takenTo}
-use Rattle.collector.specs.Freeing.Laws.{freed-settled, freed-all, freed-more, counted-none, counted-more, counted-all, counted-fits}
+use Rattle.collector.specs.Freeing.Laws.{freed-all, freed-more, counted-none, counted-more, counted-all, counted-fits}
 use borrow.Author.Needs.{needs}
 use Rattle.collector.proofs.Ends.{none-freed}
 use Rattle.collector.proofs.take_unmarked.Statement.{statement}
@@ -13,6 +15,7 @@ use Rattle.collector.proofs.take_unmarked.Tie as tie
 abbrev Inv-loop : tie.InvT-loop
 Inv-loop table index state₀ marks count₀ t₀ state count t =
     (t ≤ 64) × (stateOf state ≡ collectedTo (tableOf table) (stateOf state₀) t) × (count ≡ takenTo (tableOf table) (stateOf state₀) t)
+    × (settled (tableOf table) (stateOf state) ≡ stateOf state)
 
 abbrev μ-loop : tie.MeasureT-loop
 μ-loop table index state₀ marks count₀ t₀ state count t = 64 - t
@@ -23,10 +26,10 @@ take-unmarked-spec =
     (tie.spec
     Inv-loop
     μ-loop
-    (λ c. (search needs, search none-freed, search counted-none))
-    (λ c κs. (search needs, (search needs, search freed-settled)))
+    (λ c. (search needs, search none-freed, search counted-none, search needs))
+    (λ c κs. search needs)
     (λ c. search counted-fits)
     (λ c. search needs)
     (λ c. search needs)
-    (λ c. (search needs, search freed-more, search counted-more))
+    (λ c. (search needs, search freed-more, search counted-more, search needs))
     (λ c. (search counted-all, search freed-all)))

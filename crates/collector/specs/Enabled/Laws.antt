@@ -54,7 +54,7 @@ module _ (tb : Table) (s : State) (given : ℕ → Bool) where
   -- ---- what the tests say
 
   -- the bench holds channel c, or a marked thread does, t itself left aside
-  Known : List Bool → ℕ → ℕ → Type 0
+  unfoldable pub Known : List Bool → ℕ → ℕ → Type 0
   Known m t c = (c < ports tb) ⊎ ((u : ℕ) × (u < maxThreads) × (u ≢ t) × (marked m u ≡ true) × (holds tb (thread s u) c ≡ true))
 
   known-elim : (m : List Bool) (t c : ℕ) → known tb s given m t c ≡ true → Known m t c
@@ -81,7 +81,7 @@ module _ (tb : Table) (s : State) (given : ℕ → Bool) where
       rw (lt-ltb c maxChannels b) (or-second (ltb c (ports tb)) (some knows maxThreads) (some-intro knows maxThreads u l y))
 
   -- why a thread is in the next round: it was in the one before, or it offers on a channel that is known
-  Joins : List Bool → ℕ → Type 0
+  unfoldable pub Joins : List Bool → ℕ → Type 0
   Joins m t = (marked m t ≡ true) ⊎ ((d : Direction) × (c : ℕ) × (offers tb (thread s t) d c ≡ true) × Known m t c)
 
   reach-elim : (m : List Bool) (t i : ℕ) → isWaiting (thread s t) ≡ true → i < branchCount tb (standsAt (thread s t)) → reaches tb s given m t i ≡ true
@@ -112,7 +112,7 @@ module _ (tb : Table) (s : State) (given : ℕ → Bool) where
   reach-intro m t c d o k =
       rw (o .passes, meeting-intro (actOf tb (branchAt tb (standsAt (thread s t)) (o .branch))) d (o .does), o .is) (known-intro m t c (o .channel-in) k)
 
-  joins-elim : (m : List Bool) (t : ℕ) → joins tb s given m t ≡ true → Joins m t
+  pub joins-elim : (m : List Bool) (t : ℕ) → joins tb s given m t ≡ true → Joins m t
   unfolding joins Joins
   joins-elim m t e =
       let n = branchCount tb (standsAt (thread s t)) in
@@ -121,7 +121,7 @@ module _ (tb : Table) (s : State) (given : ℕ → Bool) where
       (λ h. let (i, l, x) = some-elim (reaches tb s given m t) n (search parts) in inr (reach-elim m t i (search parts) l x))
       (or-elim (getD m t false) (isWaiting (thread s t) && some (reaches tb s given m t) n) e)
 
-  joins-intro : (m : List Bool) (t : ℕ) → Joins m t → joins tb s given m t ≡ true
+  pub joins-intro : (m : List Bool) (t : ℕ) → Joins m t → joins tb s given m t ≡ true
   unfolding joins Joins
   joins-intro m t (inl k) = rw k
   joins-intro m t (inr (d, c, o, k)) =

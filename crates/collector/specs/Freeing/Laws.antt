@@ -20,7 +20,6 @@ use Rattle.table.specs.Table.{Table}
 use Rattle.state.specs.State.{State, thread, typeIn, withThread, withChannels}
 use Rattle.rules.specs.Holding.{holds, holders, waiters, countOf, channelRow, recount, settled}
 use Rattle.rules.specs.Start.{freeRow}
-use Rattle.counts.specs.Upkeep.{settled-again}
 use Rattle.collector.specs.Enabled.{enabledSet}
 use Rattle.collector.specs.Collect.{nobody, taken, remaining, collected, takenCount}
 use Rattle.collector.specs.Freeing.{leaves, freedBy, rowTo, rowsTo, collectedTo, takenTo}
@@ -123,10 +122,6 @@ module _ (tb : Table) (s : State) where
   freed-none long e =
       sym e ∙ ap {B = State} (λ (y : List (List ℕ)). settled tb (record { marks = s .marks; threads = y; channels = s .channels }))
       (is-tabulate (s .threads) 64 (rowTo tb s 0) [] long (λ k h. rw (le-ltb k 0 (omega arith))))
-
-  pub freed-settled : (s₁ : State) (n : ℕ) → s₁ ≡ collectedTo tb s n → settled tb s₁ ≡ s₁
-  unfolding collectedTo
-  freed-settled s₁ n e = rw e (settled-again tb (rowsTo tb s n))
 
   pub freed-all : (s₁ : State) (n : ℕ) → s₁ ≡ collectedTo tb s n → n ≤ 64 → 64 ≤ n → s₁ ≡ collected tb s
   unfolding collectedTo rowsTo rowTo collected remaining

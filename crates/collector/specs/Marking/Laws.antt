@@ -1,32 +1,29 @@
 -- Marks that a round leaves as they are, are those of the enabled threads. Assumes nothing.
-use Prim.Native.Nat.{ℕ, zero, suc, _+_, _≤_, _<_}
+use Prim.Native.Nat.{ℕ, _+_, _≤_, _<_}
 use native.Mathlib.Omega.{arith}
-use mathlib.Core.Path.{_≡_, refl, sym, _∙_}
+use mathlib.Core.Path.{_≡_, refl, sym, _∙_, ap}
 use mathlib.Core.Bool.{Bool, true, false, not, _&&_, _||_, cond}
 use mathlib.Core.List.{List}
-use mathlib.Core.Logic.{⊎-elim}
+use mathlib.Core.Logic.{inl, inr, ⊎-elim}
 use lib.Dec.{ltb, eqb}
 use lib.ListN.{length, getD, set, length-set, replicate, length-replicate, getD-replicate, List·getD-eq-default}
 use lib.Seq.{getD-set-same, getD-set-other, ext-getD}
-use borrow.Author.Tests.{ltb-true, ltb-false, eqb-true, eqb-false}
+use borrow.Author.Tests.{ltb-true, ltb-false, lt-ltb, eqb-true, eqb-false}
 use Rattle.numbers.specs.Count.{bit, count}
 use Rattle.numbers.specs.Count.Laws.{replaced}
 use Rattle.numbers.specs.Search.{some}
-use Rattle.numbers.specs.Search.Laws.{caseB, contra, same-truth, some-elim, some-intro, some-void, some-cong, getD-tabulate, length-tabulate}
+use Rattle.numbers.specs.Search.Laws.{caseB, contra, same-truth, some-elim, some-intro, some-void, getD-tabulate, length-tabulate}
 use Rattle.numbers.specs.Tests.{and-left, and-right}
-use Rattle.table.specs.Table.{Table}
-use Rattle.table.specs.Layout.{branchCount}
-use Rattle.state.specs.State.{State, maxThreads, maxChannels, thread, standsAt, slotOf, inUse, isReady}
-use Rattle.rules.specs.Program.{branchAt, fieldA}
+use Rattle.table.specs.Table.{Table, ports}
+use Rattle.state.specs.State.{State, maxThreads, maxChannels, thread, inUse, isReady}
 use Rattle.rules.specs.Holding.{holds}
-use Rattle.counts.specs.Own.{ownOf, ownList}
-use Rattle.counts.specs.Own.Listing.{holdsTo}
-use Rattle.counts.specs.Own.Laws.{holds-none, own-suc, holds-all}
+use Rattle.engine_laws.specs.Reading.Laws.{offers-elim}
+use Rattle.engine.specs.Threads.{offersMarked, withHeld, marked-offer, offer-marked}
 use Rattle.collector.specs.Rounds.{marked}
-use Rattle.collector.specs.Enabled.{Enabled, is-ready, known, reaches, joins, begins, rounds, enabledSet}
-use Rattle.collector.specs.Enabled.Laws.{or-elim, or-second, joins-enabled, enabled-closed, enabled-iff}
+use Rattle.collector.specs.Enabled.{Enabled, is-ready, joins, begins, rounds, enabledSet}
+use Rattle.collector.specs.Enabled.Laws.{or-elim, or-second, Known, Joins, joins-elim, joins-intro, joins-enabled, enabled-closed, enabled-iff}
 use Rattle.collector.specs.Collect.{nobody}
-use Rattle.collector.specs.Marking.{raisedTo, unmarked, knownBy, reachesBy, reachesAt, comes, marksAfter, knownAfter, Still, Marking}
+use Rattle.collector.specs.Marking.{portsTo, unmarked, comes, marksAfter, knownAfter, Still, Marking}
 
 -- ---- tests
 
@@ -34,70 +31,48 @@ or-false : (a b : Bool) → (a || b) ≡ false → (a ≡ false) × (b ≡ false
 or-false true b e = contra refl e
 or-false false b e = (refl, e)
 
--- one more of a pass that found a, and y now
-or-next : (k a y : Bool) → (k || cond a true y) ≡ cond y true (k || a)
-or-next true a true = refl
-or-next true a false = refl
-or-next false true true = refl
-or-next false true false = refl
-or-next false false true = refl
-or-next false false false = refl
+or-none : (a : Bool) → a ≡ (a || false)
+or-none true = refl
+or-none false = refl
 
--- ---- the marks of the channels that a row holds
-
-module _ (tb : Table) (row : List ℕ) (k : List Bool) (e : length k ≡ 128) where
-  raised-long : (n : ℕ) → length (raisedTo k (ownList tb row) n) ≡ 128
-  unfolding raisedTo
-  raised-long zero = e
-  raised-long (suc n) = length-set (raisedTo k (ownList tb row) n) (getD (ownList tb row) n 0) true ∙ raised-long n
-
-  own-at : (n : ℕ) → n < 16 → getD (ownList tb row) n 0 ≡ ownOf tb row n
-  unfolding ownList
-  own-at n h = getD-tabulate 16 n (ownOf tb row) 0 h
-
-  raised-to : (n c : ℕ) → n ≤ 16 → c < 128 → getD (raisedTo k (ownList tb row) n) c false ≡ (getD k c false || holdsTo tb row c n)
-  unfolding raisedTo
-  raised-to zero c h l = rw (holds-none tb row c l) (or-none (getD k c false))
-    where
-      or-none : (a : Bool) → a ≡ (a || false)
-      or-none true = refl
-      or-none false = refl
-  raised-to (suc n) c h l =
-      let o = ownOf tb row n in
-      let r = raisedTo k (ownList tb row) n in
-      rw (own-at n (omega arith), own-suc tb row c l n, or-next (getD k c false) (holdsTo tb row c n) (eqb o c), ← raised-to n c (omega arith) l)
-      (caseB (eqb o c)
-      (λ y. let q : o ≡ c = eqb-true o c y in rw (y, q) (getD-set-same r c true false (omega (arith, raised-long n))))
-      (λ y. rw y (getD-set-other r o c true false (λ q. eqb-false o c y (sym q)))))
-
-  raised-all : (c : ℕ) → c < 128 → getD (raisedTo k (ownList tb row) 16) c false ≡ (getD k c false || holds tb row c)
-  raised-all c l = raised-to 16 c (omega arith) l ∙ rw (holds-all tb row c l)
+or-assoc : (a b c : Bool) → ((a || b) || c) ≡ (a || (b || c))
+or-assoc true b c = refl
+or-assoc false b c = refl
 
 -- ---- a thread that is not marked joins by the marks where it does by the known channels
 
 module _ (tb : Table) (s : State) (m k : List Bool) (g : Marking tb s m k) where
   module _ (t : ℕ) (n : marked m t ≡ false) where
-    others : (c : ℕ) → some (λ u. not (eqb u t) && (getD m u false && holds tb (thread s u) c)) maxThreads ≡ some (λ u. marked m u && holds tb (thread s u) c) maxThreads
-    others c =
-        some-cong (λ u. not (eqb u t) && (getD m u false && holds tb (thread s u) c)) (λ u. marked m u && holds tb (thread s u) c) maxThreads
-        (λ u l. caseB (eqb u t) (λ y. let q : u ≡ t = eqb-true u t y in rw (y, q, n)) (λ y. rw y))
+    -- the channels that are known are those that the bench holds, or another thread that is marked
+    known-held : (c : ℕ) → c < maxChannels → getD k c false ≡ true → Known tb s nobody m t c
+    unfolding Known
+    known-held c l e =
+        let p : ℕ → Bool = λ u. marked m u && holds tb (thread s u) c in
+        ⊎-elim (λ y. inl (ltb-true c (ports tb) y))
+        (λ y. let (u, b, h) = some-elim p maxThreads y in
+        let x : marked m u ≡ true = and-left (marked m u) (holds tb (thread s u) c) h in
+        inr (u, b, (λ q. contra (rw q at x) n), x, and-right (marked m u) (holds tb (thread s u) c) h))
+        (or-elim (ltb c (ports tb)) (some p maxThreads) (sym (g .held c l) ∙ e))
 
-    known-same : (c : ℕ) → knownBy tb k c ≡ known tb s nobody m t c
-    unfolding knownBy known
-    known-same c =
-        caseB (ltb c maxChannels)
-        (λ y. rw (y, g .held c (ltb-true c maxChannels y), others c))
-        (λ y. rw y)
+    held-known : (c : ℕ) → c < maxChannels → Known tb s nobody m t c → getD k c false ≡ true
+    unfolding Known
+    held-known c l (inl p) = g .held c l ∙ rw (lt-ltb c (ports tb) p)
+    held-known c l (inr (u, b, d, x, h)) =
+        let p : ℕ → Bool = λ u. marked m u && holds tb (thread s u) c in
+        g .held c l ∙ or-second (ltb c (ports tb)) (some p maxThreads) (some-intro p maxThreads u b (rw (x, h)))
 
-    reaches-same : (i : ℕ) → reachesAt tb (thread s t) k i ≡ reaches tb s nobody m t i
-    unfolding reachesAt reachesBy reaches
-    reaches-same i = rw (known-same (slotOf (thread s t) (fieldA tb (branchAt tb (standsAt (thread s t)) i))))
+    joins-same : offersMarked tb (thread s t) k ≡ joins tb s nobody m t
+    unfolding Joins
+    joins-same =
+        same-truth (offersMarked tb (thread s t) k) (joins tb s nobody m t)
+        (λ e. let (d, c, l, x, o) = marked-offer tb (thread s t) k e in joins-intro tb s nobody m t (inr (d, c, o, known-held c l x)))
+        (λ e. ⊎-elim (λ y. contra y n)
+        (λ (d, c, o, x). offer-marked tb (thread s t) k d c o (held-known c (offers-elim tb (thread s t) d c o .channel-in) x))
+        (joins-elim tb s nobody m t e))
 
     comes-is : comes tb s m k t ≡ (isReady (thread s t) || joins tb s nobody m t)
-    unfolding comes joins
-    comes-is =
-        let b = branchCount tb (standsAt (thread s t)) in
-        rw (n, some-cong (reachesAt tb (thread s t) k) (reaches tb s nobody m t) b (λ i l. reaches-same i))
+    unfolding comes
+    comes-is = rw (n, joins-same)
 
   -- ---- a visit keeps the marks right
 
@@ -126,11 +101,13 @@ module _ (tb : Table) (s : State) (m k : List Bool) (g : Marking tb s m k) where
         (λ y. let q : u ≡ t = eqb-true u t y in rw q here)
         (λ y. getD-set-other m t u true false (eqb-false u t y) ∙ h)
 
-    more-held : (c : ℕ) → c < maxChannels → getD (raisedTo k (ownList tb (thread s t)) 16) c false ≡ some (λ u. marked (set m t true) u && holds tb (thread s u) c) maxThreads
+    more-held : (c : ℕ) → c < maxChannels → getD (withHeld tb (thread s t) k) c false ≡ (ltb c (ports tb) || some (λ u. marked (set m t true) u && holds tb (thread s u) c) maxThreads)
+    unfolding withHeld
     more-held c i =
         let p : ℕ → Bool = λ u. marked m u && holds tb (thread s u) c in
         let q : ℕ → Bool = λ u. marked (set m t true) u && holds tb (thread s u) c in
-        rw (raised-all tb (thread s t) k (g .all-channels) c i, g .held c i)
+        getD-tabulate maxChannels c (λ c. getD k c false || holds tb (thread s t) c) false i ∙ rw (g .held c i, or-assoc (ltb c (ports tb)) (some p maxThreads) (holds tb (thread s t) c))
+        (ap (λ (z : Bool). ltb c (ports tb) || z)
         (same-truth (some p maxThreads || holds tb (thread s t) c) (some q maxThreads)
         (λ y. ⊎-elim
         (λ z. let (u, b, h) = some-elim p maxThreads z in
@@ -141,12 +118,11 @@ module _ (tb : Table) (s : State) (m k : List Bool) (g : Marking tb s m k) where
         caseB (eqb u t)
         (λ z. let x : u ≡ t = eqb-true u t z in
         or-second (some p maxThreads) (holds tb (thread s t) c) (rw x at (and-right (marked (set m t true) u) (holds tb (thread s u) c) h)))
-        (λ z. let x : p u ≡ true = sym (rw (getD-set-other m t u true false (eqb-false u t z))) ∙ h in rw (some-intro p maxThreads u b x))))
+        (λ z. let x : p u ≡ true = sym (rw (getD-set-other m t u true false (eqb-false u t z))) ∙ h in rw (some-intro p maxThreads u b x)))))
 
-    marked-more : Marking tb s (set m t true) (raisedTo k (ownList tb (thread s t)) 16)
+    marked-more : Marking tb s (set m t true) (withHeld tb (thread s t) k)
     marked-more = record {
       all-threads = length-set m t true ∙ g .all-threads;
-      all-channels = raised-long tb (thread s t) k (g .all-channels) 16;
       only-enabled = more-enabled;
       held = more-held;
     }
@@ -174,14 +150,14 @@ or-bit true false = omega arith
 or-bit false true = omega arith
 or-bit false false = omega arith
 
--- nobody is marked at first
-pub marking-none : (tb : Table) (s : State) (m k : List Bool) → m ≡ replicate 64 false → k ≡ replicate 128 false → Marking tb s m k
+-- nobody is marked at first, and the ports are known
+pub marking-none : (tb : Table) (s : State) (m k : List Bool) → m ≡ replicate 64 false → k ≡ portsTo (ports tb) → Marking tb s m k
+unfolding portsTo
 marking-none tb s m k e f = rw (e, f) (record {
   all-threads = length-replicate {A = Bool} 64 false;
-  all-channels = length-replicate {A = Bool} 128 false;
   only-enabled = λ u h. contra h (none-set 64 u);
-  held = λ c l. none-set 128 c
-      ∙ sym (some-void (λ u. marked (replicate 64 false) u && holds tb (thread s u) c) maxThreads (λ u h. rw (none-set 64 u)));
+  held = λ c l. getD-tabulate maxChannels c (λ c. ltb c (ports tb)) false l
+      ∙ rw (some-void (λ u. marked (replicate 64 false) u && holds tb (thread s u) c) maxThreads (λ u h. rw (none-set 64 u))) (or-none (ltb c (ports tb)));
 })
 
 module _ (tb : Table) (s : State) (m k m′ k′ : List Bool) (t : ℕ) (e : m′ ≡ marksAfter tb s m k t) (f : k′ ≡ knownAfter tb s m k t) where

@@ -15,7 +15,7 @@ use Rattle.table.specs.Table.{Table}
 use Rattle.state.specs.State.{State, maxThreads, thread, standsAt}
 use Rattle.rules.specs.Holding.{settled}
 use Rattle.rules.specs.Moves.{move}
-use Rattle.rules.specs.Calls.{stepAnswer, nextReady, turnBy, Course, course, Turned, turned, turnEnd, takeTurn, courseOf}
+use Rattle.rules.specs.Calls.{stepAnswer, nextReady, turnFor, turnBy, Course, course, Turned, turned, turnEnd, takeTurn, courseOf}
 use Rattle.rules.specs.declared.Move.{Move}
 use Rattle.rules.specs.declared.Move.the-variants.{Ends, Calls, Waits, Goes, Creates, Spawns, Meets, LacksThread, LacksChannel}
 use Rattle.rules.specs.declared.Deed.{Deed}
@@ -54,7 +54,7 @@ module _ (l : List ℕ) (at k t : ℕ) (x : Stepped) where
 
 -- a turn that was no step has no line anyway
 shown-is : (k t n : ℕ) (m : Move) → shown (turnBy t m) (stepLine k t (stepAnswer n m)) ≡ stepLine k t (stepAnswer n m)
-unfolding shown turnBy stepAnswer stepLine
+unfolding shown turnFor turnBy stepAnswer stepLine
 shown-is k t n Ends = refl
 shown-is k t n Calls = refl
 shown-is k t n Waits = refl
@@ -111,7 +111,7 @@ module _ (tb : Table) (s : State) where
   turn-left l p k r = refl
 
   step-long : (k t n : ℕ) (m : Move) → turnBy t m ≡ Went → length (stepLine k t (stepAnswer n m)) ≡ 37
-  unfolding turnBy stepAnswer stepLine
+  unfolding turnFor turnBy stepAnswer stepLine
   step-long k t n Ends e = length-line _
   step-long k t n Calls e = length-line _
   step-long k t n Waits e = length-line _

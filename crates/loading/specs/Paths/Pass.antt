@@ -24,10 +24,6 @@ pub or-true : (a b : Bool) → ((a || b) ≡ true) ↔ ((a ≡ true) ⊎ (b ≡ 
 or-true true b = (λ e. inl refl, λ s. refl)
 or-true false b = (λ e. inr e, λ s. ⊎-elim (λ f. contra f refl) (λ f. f) s)
 
-pub or-false : (a b : Bool) → ((a || b) ≡ false) ↔ ((a ≡ false) × (b ≡ false))
-or-false true b = (λ e. contra refl e, λ s. s .0)
-or-false false b = (λ e. (refl, e), λ s. s .1)
-
 -- mark k of node t
 abbrev pub mark : Marks → ℕ → ℕ → Bool
 mark ms t k = getD (getD ms t []) k false

@@ -1,4 +1,4 @@
-use Rattle.program.proofs.Laws.{assignments}
+use Rattle.program.proofs.Laws.{assigned-constant, assigned-sum, assigned-difference}
 use borrow.Author.Needs.{needs}
 use Rattle.program.proofs.assigned_value.Statement.{statement}
 use Rattle.program.proofs.assigned_value.Tie as tie
@@ -17,6 +17,6 @@ assigned-value-spec =
     (λ c κs. search needs)
     (λ c κs. search needs)
     (λ c κs. search needs)
-    (λ c. search assignments)
-    (λ c. search assignments)
-    (λ c. search assignments))
+    (λ c. search assigned-constant)
+    (λ c. search assigned-sum)
+    (λ c. search assigned-difference))

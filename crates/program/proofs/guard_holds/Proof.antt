@@ -1,4 +1,4 @@
-use Rattle.program.proofs.Laws.{guards}
+use Rattle.program.proofs.Laws.{guard-always, guard-equals-constant, guard-below-constant, guard-equals-slot, guard-below-slot}
 use borrow.Author.Needs.{needs}
 use Rattle.program.proofs.guard_holds.Statement.{statement}
 use Rattle.program.proofs.guard_holds.Tie as tie
@@ -8,7 +8,7 @@ guard-holds-spec =
     tie.close
     (tie.spec
     (λ c κs. search needs)
-    (λ c. search guards)
+    (λ c. search guard-always)
     (λ c κs. search needs)
     (λ c κs. search needs)
     (λ c κs. search needs)
@@ -18,7 +18,7 @@ guard-holds-spec =
     (λ c κs. search needs)
     (λ c κs. search needs)
     (λ c κs. search needs)
-    (λ c. search guards)
-    (λ c. search guards)
-    (λ c. search guards)
-    (λ c. search guards))
+    (λ c. search guard-equals-constant)
+    (λ c. search guard-below-constant)
+    (λ c. search guard-equals-slot)
+    (λ c. search guard-below-slot))

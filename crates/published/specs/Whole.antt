@@ -1,0 +1,127 @@
+-- Whole turns of a thread by 002's rules, and what two of them from one agent may differ in. Assumes nothing.
+use Prim.Native.Nat.{ℕ, suc}
+use mathlib.Core.Path.{_≡_, refl}
+use mathlib.Core.Logic.{_⊎_, inl, inr}
+use mathlib.Core.Bool.{Bool, true, false}
+use mathlib.Core.List.{List, [], _∷_, map}
+use mathlib.Core.Option.{some}
+use Rattle.published.specs.Syntax.{Process, end, choice, invoke, Sum, nothing, branch, wait, Prefix, tau, output, input, newChannel, newThread, assign, waits, waiting}
+use Rattle.published.specs.Agents.{_∈_, Value, channel, Env, look, bind, Commitment, gives, takes, Thread, thread, Channels, adding, Agent, agent}
+use Rattle.published.specs.Rules.{Rearranged, Acts, Nothing, Run, last, pass, Turn, zeroed}
+use Rattle.published.specs.Choices.{commits, ByCommitment, ByPrefix, BySum, ByProcess, Of, acts-of}
+
+-- ---- whole turns
+
+-- the first thread has come to Σ wait
+unfoldable pub firstWaits : List Thread → Bool
+firstWaits [] = false
+firstWaits (t ∷ B) = waiting (t .process)
+
+-- reductions of the first thread: each before the last passes over a branch by (out) or (in), and the last is an action, or is that (out) or (in) after which
+-- the thread waits
+module _ (def : ℕ → Process) where
+  pub data Whole : Agent → Agent → Type 0 where
+    acted : {A T : Agent} (r : Acts def Nothing A T) → commits def r ≡ false → Whole A T
+    rested : {A T : Agent} (r : Acts def Nothing A T) → commits def r ≡ true → firstWaits (T .threads) ≡ true → Whole A T
+    passed : {A T C : Agent} (r : Acts def Nothing A T) → commits def r ≡ true → Whole T C → Whole A C
+
+-- a whole turn of thread t takes the agent A to the agent T. The order of threads does not count, as in `Turn`
+pub record WholeTurn (def : ℕ → Process) (A : Agent) (t : Thread) (T : Agent) : Type 0 where
+  pub others : List Thread
+  pub brought : Rearranged (A .threads) (t ∷ others)
+  pub product : List Thread
+  pub whole : Whole def (agent (A .channels) (t ∷ others)) (agent (T .channels) product)
+  pub put-back : Rearranged product (T .threads)
+
+-- ---- what two of them may differ in
+
+-- T is Δ ⊢ A, its threads in some order
+abbrev pub Is : Agent → Channels → List Thread → Type 0
+Is T Δ A = (T .channels ≡ Δ) × Rearranged A (T .threads)
+
+-- forNumbers says which variables of each definition are for numbers, as in `Ours`
+module _ (def : ℕ → Process) (forNumbers : ℕ → ℕ → Bool) where
+  -- two ends, T and T′, of a turn of thread t from the agent A
+  pub data UpTo (A : Agent) (t : Thread) (T T′ : Agent) : Type 0 where
+    -- the same threads
+    same-end : (Δ : Channels) (B : List Thread) → Is T Δ B → Is T′ Δ B → UpTo A t T T′
+    -- (new): the name of the channel, which is a new one
+    other-name : (B : List Thread) (c : ℕ) (P : Process) (ĉ ĉ′ : ℕ) → Rearranged (A .threads) (t ∷ B) → A .channels ĉ ≡ false → A .channels ĉ′ ≡ false
+        → Is T (adding (A .channels) ĉ) (thread [] (bind (t .env) c (channel ĉ)) P ∷ B)
+        → Is T′ (adding (A .channels) ĉ′) (thread [] (bind (t .env) c (channel ĉ′)) P ∷ B) → UpTo A t T T′
+    -- (send): which thread takes w, u or u′, and by which commitment on the channel. Each leaves all others, B or B′, as they were
+    other-taker : (u u′ : Thread) (B B′ : List Thread) (P : Process) (ĉ x x′ : ℕ) (R R′ : Process) (w : Value)
+        → Rearranged (A .threads) (t ∷ u ∷ B) → Rearranged (A .threads) (t ∷ u′ ∷ B′) → takes ĉ x R ∈ u .commitments → takes ĉ x′ R′ ∈ u′ .commitments
+        → Is T (A .channels) (thread [] (t .env) P ∷ thread [] (bind (u .env) x w) R ∷ B)
+        → Is T′ (A .channels) (thread [] (t .env) P ∷ thread [] (bind (u′ .env) x′ w) R′ ∷ B′) → UpTo A t T T′
+    -- (recv): which thread gives, and by which commitment on the channel, and so what is received
+    other-giver : (u u′ : Thread) (B B′ : List Thread) (P : Process) (ĉ x v v′ : ℕ) (R R′ : Process) (w w′ : Value)
+        → Rearranged (A .threads) (t ∷ u ∷ B) → Rearranged (A .threads) (t ∷ u′ ∷ B′) → gives ĉ v R ∈ u .commitments → gives ĉ v′ R′ ∈ u′ .commitments
+        → look (u .env) v ≡ some w → look (u′ .env) v′ ≡ some w′
+        → Is T (A .channels) (thread [] (bind (t .env) x w) P ∷ thread [] (u .env) R ∷ B)
+        → Is T′ (A .channels) (thread [] (bind (t .env) x w′) P ∷ thread [] (u′ .env) R′ ∷ B′) → UpTo A t T T′
+    -- document 01 leaves a wait for a branch with a false guard too (skip): how many waits there are in Σ wait
+    other-waits : (B : List Thread) (Γ : List Commitment) (n n′ : ℕ) → Rearranged (A .threads) (t ∷ B)
+        → Is T (A .channels) (thread Γ (t .env) (choice (waits (suc n))) ∷ B)
+        → Is T′ (A .channels) (thread Γ (t .env) (choice (waits (suc n′))) ∷ B) → UpTo A t T T′
+    -- document 01 begins numbers with 0 (zeros): what they are bound to after (call)
+    from-zero : (B : List Thread) (D : ℕ) (vs : List ℕ) (ws : List Value) (δ′ : Env) → Rearranged (A .threads) (t ∷ B)
+        → t .process ≡ invoke D vs → map (look (t .env)) vs ≡ map some ws → ((x : ℕ) → look δ′ x ≡ zeroed (forNumbers D x) (look (map some ws) x))
+        → Is T (A .channels) (thread [] (map some ws) (def D) ∷ B) → Is T′ (A .channels) (thread [] δ′ (def D) ∷ B) → UpTo A t T T′
+
+-- ---- the first reduction of a whole turn
+
+module _ (def : ℕ → Process) where
+  -- what is left after an (out) or (in)
+  unfoldable pub Onward : Agent → Agent → Type 0
+  Onward T C = ((firstWaits (T .threads) ≡ true) × (C ≡ T)) ⊎ Whole def T C
+
+  pub whole-of : {A C : Agent} → Whole def A C
+      → Of def (A .channels) (A .threads) false C ⊎ ((T : Agent) × Of def (A .channels) (A .threads) true T × Onward T C)
+  unfolding Onward
+  whole-of (acted r e) = inl (rw e at (acts-of def r))
+  whole-of (rested {A} {T} r e w) = inr (T, rw e at (acts-of def r), inl (w, refl))
+  whole-of (passed {A} {T} r e w) = inr (T, rw e at (acts-of def r), inr w)
+
+-- ---- a whole turn is a turn
+
+module _ (Δ : Channels) (Γ : List Commitment) (δ : Env) (B : List Thread) where
+  -- (out) and (in) change the first thread alone
+  prefix-alone : (α : Prefix) (P : Process) (Q : Sum) (T : Agent) → ByCommitment Δ Γ δ B α P Q T → (t : Thread) × (T ≡ agent Δ (t ∷ B))
+  unfolding ByCommitment
+  prefix-alone tau P Q T a = absurd a
+  prefix-alone (output c v) P Q T (ĉ, e, f, q) = (_, q)
+  prefix-alone (input c x) P Q T (ĉ, e, f, q) = (_, q)
+  prefix-alone (newChannel c) P Q T a = absurd a
+  prefix-alone (newThread R) P Q T a = absurd a
+  prefix-alone (assign x e) P Q T a = absurd a
+
+  sum-alone : (Q : Sum) (T : Agent) → BySum Δ Γ δ B true Q T → (t : Thread) × (T ≡ agent Δ (t ∷ B))
+  unfolding BySum ByPrefix
+  sum-alone nothing T a = absurd a
+  sum-alone (branch g α P Q) T (inl (f, a)) = sum-alone Q T a
+  sum-alone (branch g α P Q) T (inr (f, a)) = prefix-alone α P Q T a
+  sum-alone (wait Q) T a = absurd a
+
+  process-alone : (def : ℕ → Process) (P : Process) (T : Agent) → ByProcess Δ Γ δ B def true P T → (t : Thread) × (T ≡ agent Δ (t ∷ B))
+  unfolding ByProcess
+  process-alone def end T a = absurd a
+  process-alone def (choice Q) T a = sum-alone Q T a
+  process-alone def (invoke D vs) T a = absurd a
+
+module _ (def : ℕ → Process) where
+  passes-on : (Δ : Channels) (A : List Thread) (T C : Agent) → Of def Δ A true T → Acts def Nothing (agent Δ A) T → Run def Nothing T C
+      → Run def Nothing (agent Δ A) C
+  unfolding Of
+  passes-on Δ [] T C h r w = absurd h
+  passes-on Δ (t ∷ B) T C h r w =
+      let (t′, q) = process-alone Δ (t .commitments) (t .env) B def (t .process) T h in
+      pass (rw q at r) (rw q at w)
+
+  whole-run : {A C : Agent} → Whole def A C → Run def Nothing A C
+  whole-run (acted r e) = last r
+  whole-run (rested r e w) = last r
+  whole-run (passed {A} {T} {C} r e w) = passes-on (A .channels) (A .threads) T C (rw e at (acts-of def r)) r (whole-run w)
+
+  pub whole-turn : {A : Agent} {t : Thread} {T : Agent} → WholeTurn def A t T → Turn def Nothing A t T
+  whole-turn h = record { others = h .others; brought = h .brought; product = h .product; run = whole-run (h .whole); put-back = h .put-back }

@@ -1,0 +1,150 @@
+-- One law for each way out of the functions. Assumes nothing.
+use Prim.Native.Nat.{ℕ, _+_, _<_, _≤_}
+use native.Mathlib.Omega.{arith}
+use native.Mathlib.Numerals.{add-one}
+use mathlib.Core.Path.{_≡_, refl, sym, _∙_}
+use mathlib.Core.Bool.{Bool, true, false, not, _||_}
+use mathlib.Core.List.{List}
+use lib.ListN.{length, getD, set}
+use lib.Seq.{set-out}
+use borrow.Author.Tests.{lt-ltb, le-ltb, eq-eqb, ne-eqb, not-true, not-false}
+use Rattle.numbers.specs.Count.{bit}
+use Rattle.numbers.specs.Rows.{at}
+use Rattle.numbers.specs.Search.{some}
+use Rattle.numbers.specs.Search.Laws.{some-zero, some-still, some-intro}
+use Rattle.table.specs.Table.{Table}
+use Rattle.table.specs.Layout.{branchCount}
+use Rattle.state.specs.State.{State, stateOf, thread, status, standsAt, slotOf, isWaiting, withThread}
+use Rattle.state.specs.State.Laws.{length-threads}
+use Rattle.rules.specs.Program.{branchAt, actOf, guardHolds, same}
+use Rattle.rules.specs.Holding.{settled}
+use Rattle.rules.specs.Start.{freeRow}
+use Rattle.rules.specs.Offers.{meets?}
+use Rattle.rules.specs.declared.Direction.{Direction}
+use Rattle.rules.specs.declared.Direction.the-variants.{Out, In}
+use Rattle.rules.specs.declared.Act.{Act}
+use Rattle.rules.specs.declared.Act.the-variants.{Tau, Meeting, New, Spawn, Assignment}
+use Rattle.counts.specs.Own.{ownList}
+use Rattle.counts.specs.Shift.{settledOne}
+use Rattle.counts.specs.Upkeep.{one-settled, settled-again}
+use Rattle.threads.specs.Threads.{offersMarked, withHeld}
+use Rattle.threads.specs.Looking.{raisedTo, isMarked, reachesBy, reachesAt}
+use Rattle.threads.specs.Looking.Laws.{raised-held, reaches-is, offers-nothing}
+
+-- is_marked
+module _ (k : List Bool) (c : ℕ) where
+  pub marked-in : (r : Bool) → r ≡ getD k c false → c < 128 → r ≡ isMarked k c
+  unfolding isMarked
+  marked-in r e h = rw (lt-ltb c 128 h) e
+
+  pub marked-out : 128 ≤ c → false ≡ isMarked k c
+  unfolding isMarked
+  marked-out h = rw (le-ltb c 128 h)
+
+-- is_meeting
+either-way : (d : Direction) → true ≡ (same d Out || same d In)
+unfolding same
+either-way Out = refl
+either-way In = refl
+
+module _ (tb : Table) (row : ℕ) (a : Act) (e : a ≡ actOf tb row) where
+  pub no-tau : a ≡ Tau → false ≡ (meets? (actOf tb row) Out || meets? (actOf tb row) In)
+  unfolding meets?
+  no-tau f = rw (← e, f)
+
+  pub no-new : a ≡ New → false ≡ (meets? (actOf tb row) Out || meets? (actOf tb row) In)
+  unfolding meets?
+  no-new f = rw (← e, f)
+
+  pub no-spawn : a ≡ Spawn → false ≡ (meets? (actOf tb row) Out || meets? (actOf tb row) In)
+  unfolding meets?
+  no-spawn f = rw (← e, f)
+
+  pub no-assignment : a ≡ Assignment → false ≡ (meets? (actOf tb row) Out || meets? (actOf tb row) In)
+  unfolding meets?
+  no-assignment f = rw (← e, f)
+
+  pub a-meeting : (d : Direction) → a ≡ Meeting d → true ≡ (meets? (actOf tb row) Out || meets? (actOf tb row) In)
+  unfolding meets?
+  a-meeting d f = rw (← e, f) (either-way d)
+
+pub ruleset meetings = (no-tau, no-new, no-spawn, no-assignment, a-meeting)
+
+-- reaches_by: g is whether the guard is true, a whether the branch is a meeting, and c the channel
+module _ (tb : Table) (row : List ℕ) (k : List Bool) (r : ℕ) (g : Bool) (e : g ≡ guardHolds tb r row) where
+  pub reach-shut : not g ≡ true → false ≡ reachesBy tb row k r
+  unfolding reachesBy
+  reach-shut f = rw (← e, not-true g f)
+
+  module _ (f : not g ≡ false) (a : Bool) (h : a ≡ (meets? (actOf tb r) Out || meets? (actOf tb r) In)) where
+    pub reach-alone : not a ≡ true → false ≡ reachesBy tb row k r
+    unfolding reachesBy
+    reach-alone i = rw (← e, not-false g f, ← h, not-true a i)
+
+    pub reach-marked : (x c : ℕ) (y : Bool) → not a ≡ false → y ≡ isMarked k c → c ≡ slotOf row x → x ≡ at tb r 5 → y ≡ reachesBy tb row k r
+    unfolding reachesBy
+    reach-marked x c y i j l n = rw (← e, not-false g f, ← h, not-false a i, ← n, ← l) j
+
+pub ruleset reaching = (reach-shut, reach-alone, reach-marked)
+
+-- offers_marked: y is the status of the thread
+module _ (tb : Table) (row : List ℕ) (k : List Bool) (y : ℕ) (s : y ≡ status row) where
+  pub not-waiting : (y ≡ 2 → ⊥) → false ≡ offersMarked tb row k
+  not-waiting n = offers-nothing tb row k (ne-eqb (status row) 2 (λ q. n (s ∙ q)))
+
+  module _ (w : y ≡ 2) where
+    waits : isWaiting row ≡ true
+    waits = eq-eqb (status row) 2 (sym s ∙ w)
+
+    pub offers-here : (node n i x : ℕ) (r : Bool) → x ≡ branchAt tb node i → r ≡ reachesBy tb row k x → node ≡ standsAt row → n ≡ branchCount tb node → r ≡ true → i < n
+        → true ≡ offersMarked tb row k
+    unfolding reachesAt
+    offers-here node n i x r f g e h j l =
+        let b : i < branchCount tb (standsAt row) = rw (h, e) at l in
+        let z : reachesBy tb row k (branchAt tb (standsAt row) i) ≡ true = rw (← e, ← f, ← g) j in
+        sym (sym (reaches-is tb row k waits) ∙ some-intro (λ i. reachesBy tb row k (branchAt tb (standsAt row) i)) (branchCount tb (standsAt row)) i b z)
+
+    pub offers-none : (node n i : ℕ) → some (reachesAt tb row k) i ≡ false → n ≡ branchCount tb node → node ≡ standsAt row → i ≤ n → n ≤ i → false ≡ offersMarked tb row k
+    offers-none node n i h e f a b = let q : i ≡ n = omega arith in rw (← reaches-is tb row k waits, ← f, ← e, ← q) (sym h)
+
+module _ (tb : Table) (row : List ℕ) (k : List Bool) where
+  pub none-reaches : some (reachesAt tb row k) 0 ≡ false
+  none-reaches = some-zero (reachesAt tb row k)
+
+  module _ (node i x : ℕ) (r : Bool) (e : node ≡ standsAt row) (f : x ≡ branchAt tb node i) (g : r ≡ reachesBy tb row k x) where
+    not-here : r ≡ false → reachesAt tb row k i ≡ false
+    unfolding reachesAt
+    not-here j = rw (← e, ← f, ← g) j
+
+    pub none-more : some (reachesAt tb row k) i ≡ false → r ≡ false → some (reachesAt tb row k) (i + 1) ≡ false
+    none-more h j = rw (add-one i) (some-still (reachesAt tb row k) i h (not-here j))
+
+-- mark_channel
+pub no-mark : (m : List Bool) (c : ℕ) → length m ≡ 128 → 128 ≤ c → m ≡ set m c true
+no-mark m c e h = sym (set-out m c true (omega arith))
+
+-- set_marks
+module _ (m : List Bool) (l : List ℕ) where
+  pub raised-none : m ≡ raisedTo m l 0
+  unfolding raisedTo
+  raised-none = refl
+
+  pub raised-more : (m₁ m₂ : List Bool) (i : ℕ) → m₂ ≡ set m₁ (getD l i 0) true → m₁ ≡ raisedTo m l i → m₂ ≡ raisedTo m l (i + 1)
+  unfolding raisedTo
+  raised-more m₁ m₂ i f e = rw (f, e, add-one i)
+
+  pub raised-past : (m₁ : List Bool) (i : ℕ) → m₁ ≡ raisedTo m l i → i ≤ 16 → 16 ≤ i → m₁ ≡ raisedTo m l 16
+  raised-past m₁ i e h j = let q : i ≡ 16 = omega arith in rw q at e
+
+-- mark_held
+pub held-marked : (tb : Table) (row : List ℕ) (k k₁ : List Bool) (l : List ℕ) → k₁ ≡ raisedTo k l 16 → l ≡ ownList tb row → length k ≡ 128 → k₁ ≡ withHeld tb row k
+held-marked tb row k k₁ l e f h = e ∙ rw f (raised-held tb row k h)
+
+-- release
+module _ (tb : Table) (b : List ℕ) (t : ℕ) (s₁ s₂ : State) (l : List ℕ) (w : ℕ) (e : s₂ ≡ settledOne tb s₁ t l w) (f : s₁ ≡ withThread (stateOf b) t freeRow)
+    (g : l ≡ ownList tb (thread (stateOf b) t)) (h : w ≡ bit (isWaiting (thread (stateOf b) t))) (i : settled tb (stateOf b) ≡ stateOf b) (j : t < 64) where
+  pub released : s₂ ≡ settled tb (withThread (stateOf b) t freeRow)
+  released = e ∙ rw (f, g, h) (one-settled tb (stateOf b) (length-threads b) i t j freeRow)
+
+  pub released-settled : settled tb s₂ ≡ s₂
+  released-settled = rw released (settled-again tb (withThread (stateOf b) t freeRow))

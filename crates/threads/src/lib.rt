@@ -1,0 +1,161 @@
+// What a layer above the engine asks of one thread of a state, by its words: its status, its offers on channels that are marked, the channels that it
+// holds; and its release.
+ghost use mathlib.Core.Path.{_≡_};
+ghost use mathlib.Core.Bool.{true, _||_};
+ghost use Prim.Native.Nat.{_<_};
+ghost use lib.ListN.{set};
+ghost use Rattle.table.specs.Table.{tableOf, ports};
+ghost use Rattle.table.specs.Index.{Indexed};
+ghost use Rattle.state.specs.State.{stateOf, thread, status, withThread};
+ghost use Rattle.rules.specs.Program.{actOf};
+ghost use Rattle.rules.specs.Holding.{settled};
+ghost use Rattle.rules.specs.Start.{freeRow};
+ghost use Rattle.rules.specs.Offers.{meets?};
+ghost use Rattle.rules.specs.declared.Direction.the-variants.{Out, In};
+ghost use Rattle.threads.specs.Threads.{offersMarked, withHeld};
+ghost use Rattle.threads.specs.Looking.{raisedTo, isMarked, reachesBy};
+use rules::Act;
+
+const CHANNELS: u32 = 128;
+
+const NO_CHANNEL: u8 = 128;
+
+const WAITING: u32 = 2;
+
+// How many ports the bench holds.
+pub fn port_count(table: &[u8], index: &[u32]) -> u32
+    requires { ⌜ Indexed (tableOf (now table)) (now index) ⌝ }
+    ensures { λ r. ⌜ r ≡ ports (tableOf (now (table .entry))) ⌝ }
+{
+    table::cell_of(table, index, 0, 6)
+}
+
+// The status of thread t: 0 free, 1 ready, 2 waiting.
+pub fn status_of(words: &[u32; state::WORDS], t: u32) -> u32
+    ensures { λ r. ⌜ r ≡ status (thread (stateOf (now (words .entry))) t) ⌝ }
+{
+    state::thread_word(words, t as usize, 0)
+}
+
+// Whether c is a channel, and marked.
+fn is_marked(marks: &[bool; 128], c: u32) -> bool
+    ensures { λ r. ⌜ r ≡ isMarked (now (marks .entry)) c ⌝ }
+{
+    if c < CHANNELS {
+        return marks[c as usize];
+    }
+    false
+}
+
+// Whether the branch in a row is a meeting.
+fn is_meeting(table: &[u8], index: &[u32], row: usize) -> bool
+    requires { ⌜ Indexed (tableOf (now table)) (now index) ⌝ }
+    ensures { λ r. ⌜ r ≡ (meets? (actOf (tableOf (now (table .entry))) row) Out || meets? (actOf (tableOf (now (table .entry))) row) In) ⌝ }
+{
+    match program::act_of(table, index, row) {
+        Act::Tau => false,
+        Act::Meeting(_) => true,
+        Act::New => false,
+        Act::Spawn => false,
+        Act::Assignment => false,
+    }
+}
+
+// Whether the branch in a row, of thread t, is a meeting with a true guard on a channel that is marked.
+fn reaches_by(
+    table: &[u8],
+    index: &[u32],
+    row: usize,
+    words: &[u32; state::WORDS],
+    t: u32,
+    marks: &[bool; 128],
+) -> bool
+    requires { ⌜ Indexed (tableOf (now table)) (now index) ⌝ }
+    ensures { λ r. ⌜ r ≡ reachesBy (tableOf (now (table .entry))) (thread (stateOf (now (words .entry))) t) (now (marks .entry)) row ⌝ }
+{
+    if !program::guard_holds(table, index, row, words, t) {
+        return false;
+    }
+    if !is_meeting(table, index, row) {
+        return false;
+    }
+    let c = program::slot(words, t, table::cell_of(table, index, row, 5));
+    is_marked(marks, c)
+}
+
+// Whether thread t offers, in one direction or the other, on a channel that is marked.
+pub fn offers_marked(
+    table: &[u8],
+    index: &[u32],
+    words: &[u32; state::WORDS],
+    t: u32,
+    marks: &[bool; 128],
+) -> bool
+    requires { ⌜ Indexed (tableOf (now table)) (now index) ⌝ }
+    ensures { λ r. ⌜ r ≡ offersMarked (tableOf (now (table .entry))) (thread (stateOf (now (words .entry))) t) (now (marks .entry)) ⌝ }
+{
+    if status_of(words, t) != WAITING {
+        return false;
+    }
+    let node = state::thread_word(words, t as usize, 1);
+    let n = table::branch_count_of(table, index, node);
+    for i in 0..n {
+        let row = program::branch_at(table, index, node, i);
+        if reaches_by(table, index, row, words, t, marks) {
+            return true;
+        }
+    }
+    false
+}
+
+// Channel c is marked; 128, which is no channel, marks nothing.
+fn mark_channel(marks: &mut [bool; 128], c: u8)
+    ensures { λ _. ⌜ now (marks .exit) ≡ set (now (marks .entry)) c true ⌝ }
+{
+    // as a slice the marks tell their number
+    let all: &[bool] = marks;
+    if c < NO_CHANNEL {
+        marks[c as usize] = true;
+    }
+}
+
+// The channels of a list are marked.
+fn set_marks(marks: &mut [bool; 128], list: &[u8; counts::LIST])
+    ensures { λ _. ⌜ now (marks .exit) ≡ raisedTo (now (marks .entry)) (now (list .entry)) 16 ⌝ }
+{
+    for i in 0..counts::LIST {
+        mark_channel(marks, list[i]);
+    }
+}
+
+// The channels that thread t holds are marked too.
+pub fn mark_held(
+    table: &[u8],
+    index: &[u32],
+    words: &[u32; state::WORDS],
+    t: u32,
+    marks: &mut [bool; 128],
+)
+    requires { ⌜ Indexed (tableOf (now table)) (now index) ⌝ }
+    ensures { λ _. ⌜ now (marks .exit) ≡ withHeld (tableOf (now (table .entry))) (thread (stateOf (now (words .entry))) t) (now (marks .entry)) ⌝ }
+{
+    // as a slice the marks tell their number
+    let all: &[bool] = marks;
+    let mut list = [0u8; counts::LIST];
+    counts::take_down(table, index, words, t, &mut list);
+    set_marks(marks, &list);
+}
+
+// The row of thread t is freed, and the channel rows are settled again.
+pub fn release(table: &[u8], index: &[u32], words: &mut [u32; state::WORDS], t: u32)
+    requires { ⌜ Indexed (tableOf (now table)) (now index) ⌝ }
+    requires { ⌜ t < 64 ⌝ }
+    requires { ⌜ settled (tableOf (now table)) (stateOf (now words)) ≡ stateOf (now words) ⌝ }
+    ensures { λ _. ⌜ stateOf (now (words .exit)) ≡ settled (tableOf (now (table .entry))) (withThread (stateOf (now (words .entry))) t freeRow) ⌝ }
+    ensures { λ _. ⌜ settled (tableOf (now (table .entry))) (stateOf (now (words .exit))) ≡ stateOf (now (words .exit)) ⌝ }
+{
+    let mut old = [0u8; counts::LIST];
+    let waits = counts::take_down(table, index, words, t, &mut old);
+    writes::write_free(words, t);
+    counts::settle_one(table, index, words, t, &old, waits);
+}

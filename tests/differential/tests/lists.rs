@@ -1,0 +1,90 @@
+//! Whole lists of calls, worked by the proved driver, against the reference.
+
+use differential::{for_seeds, List, Lists, Traffic};
+use generate::{any_call, changed_state, damaged_table, profiled, table_of, Layout, Random, LIVELY, STILL};
+use interface::{Call, STATE_BYTES};
+
+/// Files of each profile, and the most calls of a list.
+const FILES: u64 = 60;
+const CALLS: usize = 120;
+
+/// Some call, but no start. A state of a wrong length has no thread that a call could be chosen by.
+fn any_listed(random: &mut Random, state: &[u8], ports: usize) -> Call {
+    let empty = [0; STATE_BYTES];
+    let state = if state.len() == STATE_BYTES { state } else { &empty };
+    match any_call(random, state, ports) {
+        Call::Start => Call::Collect,
+        call => call,
+    }
+}
+
+/// The state that a start leaves.
+fn started(table: &[u8]) -> Vec<u8> {
+    let mut state = vec![0x5a; STATE_BYTES];
+    reference::ENGINE.answer(Call::Start, table, &mut state);
+    state
+}
+
+/// A list of calls from this state, each of them chosen by the state to which the ones before have led.
+fn any_list(random: &mut Random, ports: usize, table: &[u8], state: &[u8], traffic: &mut Traffic) -> List {
+    let mut list = List::new(state);
+    for _ in 0..random.below(CALLS) {
+        let call = any_listed(random, list.state(), ports);
+        let answer = list.push(random, call, table);
+        traffic.add(call, &answer);
+    }
+    list
+}
+
+#[test]
+fn lists_from_a_start() {
+    let mut lists = Lists::new(driver::work_list);
+    let mut traffic = Traffic::default();
+    for (place, profile) in LIVELY.iter().chain(&STILL).enumerate() {
+        for_seeds(17_000_000 + 100_000 * place as u64, FILES, |random, about| {
+            let file = profiled(random, profile);
+            let table = table_of(&file.rows);
+            let state = started(&table);
+            let ports = Layout::new(&file).ports();
+            let list = any_list(random, ports, &table, &state, &mut traffic);
+            let about = format!("{about}, {}", profile.name);
+            lists.compare(&list, &table, &state, list.answer_bytes(), &about);
+        });
+    }
+    traffic.print();
+    for name in ["step", "give", "take", "run", "collect"] {
+        traffic.expect(name, [0], 300);
+    }
+    traffic.expect("step", [11, 13], 50);
+    traffic.expect("give", [12], 50);
+    traffic.expect("take", [12], 50);
+    traffic.expect("given to somebody", [0, 1], 100);
+    traffic.expect("taken from somebody", [0, 1], 100);
+}
+
+/// Buffers of any length, tables and states with a fault, a rest behind the last call.
+#[test]
+fn buffers_of_any_kind() {
+    let mut lists = Lists::new(driver::work_list);
+    let mut traffic = Traffic::default();
+    for_seeds(18_000_000, 400, |random, about| {
+        let profile = random.pick(&LIVELY.each_ref());
+        let file = profiled(random, profile);
+        let (mut table, layout) = (table_of(&file.rows), Layout::new(&file));
+        let mut state = started(&table);
+        match random.below(5) {
+            0 => state = changed_state(random, &layout, &state),
+            1 => table = damaged_table(random, &file),
+            2 => state.truncate(random.below(STATE_BYTES)),
+            3 => table.push(0),
+            _ => {}
+        }
+        let mut list = any_list(random, layout.ports(), &table, &state, &mut traffic);
+        list.push_rest(random);
+        let most = list.answer_bytes() + 50;
+        lists.compare(&list, &table, &state, random.below(most), about);
+    });
+    for name in ["step", "run"] {
+        traffic.expect(name, [0, 8, 9, 10], 100);
+    }
+}

@@ -1,0 +1,142 @@
+#!/usr/bin/env bash
+# Shows that the exported calls are held to the claim by their contracts. In a copy the contract of each call on a state
+# is changed, and its body with it, so that the crate pithread is still proved: two contracts say less, three say
+# something else. The driver has nothing but these contracts, and has to be refused at each of its five calls.
+set -euo pipefail
+root=$(cd "$(dirname "$0")/.." && pwd)
+source "$root/tests/counted.sh"
+cd "$root"
+
+scratch=$(mktemp -d)
+log=$scratch/log
+trap 'rm -rf "$scratch"' EXIT
+
+# The crates as they are, and what has been proved of them already; the libraries that will be written anew are copies.
+mkdir -p "$scratch/target/rlib"
+cp -r crates crates.txt "$scratch"
+cp -r target/stamp "$scratch/target"
+for library in target/rlib/*.rlib; do
+    case $library in
+    */pithread.rlib | */guarantee.rlib | */driver.rlib) cp -r "$library" "$scratch/target/rlib" ;;
+    *) ln -s "$root/$library" "$scratch/target/rlib" ;;
+    esac
+done
+calls=$scratch/crates/pithread/src/lib.rt
+proofs=$scratch/crates/pithread/proofs
+
+# change OLD NEW: in the source of the calls, where OLD has to stand once.
+change() {
+    OLD=$1 NEW=$2 awk '
+        { text = text $0 "\n" }
+        END {
+            old = ENVIRON["OLD"]; new = ENVIRON["NEW"]
+            at = index(text, old)
+            rest = substr(text, at + length(old))
+            if (!at || index(rest, old)) exit 1
+            printf "%s%s%s", substr(text, 1, at - 1), new, rest
+        }' "$calls" >"$scratch/changed" || { echo "not there, or not once: $1"; exit 1; }
+    mv "$scratch/changed" "$calls"
+}
+
+proved() {
+    (cd "$scratch" && rt check driver) >"$log" 2>&1
+}
+
+refused() {
+    ! proved && grep -q '^rt: driver NOT PROVED' "$log"
+}
+
+# What the last check said: that this crate is proved, and that the proof of this function of the driver is refused.
+proved_there() {
+    grep -q "^rt: $1 proved" "$log"
+}
+
+refused_at() {
+    grep -q "crates/driver/proofs/$1/Proof.antt:.*error" "$log"
+}
+
+check "the copy is proved as it is" proved
+
+both='(now (table .entry)) (now (state .entry))'
+
+# Other calls than those asked for.
+change "(giveResult $both port number)" "(giveResult $both 0 number)"
+change 'engine::give(table, state, port, ' 'engine::give(table, state, 0, '
+change "(takeResult $both port)" "(takeResult $both 0)"
+change 'engine::take(table, state, port)' 'engine::take(table, state, 0)'
+change "(runResult $both n)" "(runResult $both 1)"
+change 'engine::run(table, state, n)' 'engine::run(table, state, 1)'
+
+# A step that answers what it should and then goes on: the contract says nothing of the state.
+change "_≡_ {A = StateResult StepAnswer} (record { answer = r; state = now (state .exit) }) (stepResult $both thread)" \
+    "r ≡ stepResult $both thread .answer"
+change '    step_numbers(engine::step(table, state, thread))' \
+    '    let answer = step_numbers(engine::step(table, state, thread));
+    engine::run(table, state, 1);
+    answer'
+cat >"$proofs/pithread_step/Proof.antt" <<'PROOF'
+use Prim.Native.Nat.{ℕ}
+use mathlib.Core.Path.{_≡_, ap}
+use mathlib.Core.List.{List}
+use Rattle.rules.specs.Calls.{outcome, stepCall}
+use Rattle.rules.specs.declared.Stepped.{Stepped}
+use Rattle.pithread.specs.Interface.{StateResult, stepNumbers, stepResult}
+use Rattle.pithread.specs.Interface.Calls.{step-answered}
+use Rattle.pithread.specs.declared.StepAnswer.{StepAnswer}
+use borrow.Author.Needs.{needs}
+use Rattle.pithread.proofs.pithread_step.Statement.{statement}
+use Rattle.pithread.proofs.pithread_step.Tie as tie
+
+answered : (table b b₁ : List ℕ) (t : ℕ) (a : Stepped) (r : StepAnswer) → outcome a b₁ ≡ stepCall table b t → r ≡ stepNumbers a → r ≡ stepResult table b t .answer
+answered table b b₁ t a r e f = ap (λ (x : StateResult StepAnswer). x .answer) (step-answered table b b₁ t a r e f)
+
+pub pithread-step-spec : {M : Type 1} → statement M
+pithread-step-spec =
+    tie.close
+    (tie.spec
+    (λ c κs. search needs)
+    (λ c κs. search needs)
+    (λ c κs. search needs)
+    (λ c. search needs)
+    (λ c. search answered))
+PROOF
+
+# A collection that always says that it took nobody: the contract says nothing of the answer.
+change "λ r. ⌜ _≡_ {A = StateResult CollectAnswer} (record { answer = r; state = now (state .exit) }) (collectResult $both)" \
+    "λ _. ⌜ now (state .exit) ≡ collectResult $both .state"
+change '    collect_numbers(collector::collect(table, state))' \
+    '    collector::collect(table, state);
+    collect_fields(0, 0)'
+cat >"$proofs/pithread_collect/Proof.antt" <<'PROOF'
+use Prim.Native.Nat.{ℕ}
+use mathlib.Core.Path.{_≡_, refl, ap}
+use mathlib.Core.List.{List}
+use Rattle.rules.specs.Calls.{outcome}
+use Rattle.collector.specs.Collect.{collectCall}
+use Rattle.collector.specs.declared.Collected.{Collected}
+use Rattle.pithread.specs.Interface.{StateResult, collectNumbers, collectResult}
+use Rattle.pithread.specs.Interface.Calls.{collect-answered}
+use Rattle.pithread.specs.declared.CollectAnswer.{CollectAnswer}
+use borrow.Author.Needs.{needs}
+use Rattle.pithread.proofs.pithread_collect.Statement.{statement}
+use Rattle.pithread.proofs.pithread_collect.Tie as tie
+
+left : (table b b₁ : List ℕ) (a : Collected) → outcome a b₁ ≡ collectCall table b → b₁ ≡ collectResult table b .state
+left table b b₁ a e = ap (λ (x : StateResult CollectAnswer). x .state) (collect-answered table b b₁ a (collectNumbers a) e refl)
+
+pub pithread-collect-spec : {M : Type 1} → statement M
+pithread-collect-spec =
+    tie.close
+    (tie.spec
+    (λ c κs. search needs)
+    (λ c κs. search needs)
+    (λ c. search needs)
+    (λ c. search left))
+PROOF
+
+check "the driver is refused with other contracts" refused
+check "the calls themselves are proved with them" proved_there pithread
+for call in step give take run collect; do
+    check "it is refused at the call $call" refused_at "$call"
+done
+close_checks
