@@ -82,7 +82,7 @@ ends-in-order : inOrder endOnly ≡ true
 unfolding judging
 ends-in-order = refl
 
-receives-in-order : inOrder portReceiver ≡ true
+pub receives-in-order : inOrder portReceiver ≡ true
 unfolding judging
 receives-in-order = refl
 
@@ -153,7 +153,7 @@ no-port = let few : ports (tableOf ends) ≤ 0 = rw (bytes-are endOnly ends-in-o
 
 -- ---- nobody: at the start no thread waits at the port; after a step one does, and a give meets it
 
-abbrev begun : ℕ → State
+abbrev pub begun : ℕ → State
 begun n = courseOf (filledUp portReceiver) n (started (filledUp portReceiver)) .state
 
 module _ (n : ℕ) where

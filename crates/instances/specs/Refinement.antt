@@ -8,10 +8,13 @@ use mathlib.Core.Option.{Option, none, some}
 use Rattle.numbers.specs.Search.Laws.{contra}
 use Rattle.table.specs.Table.{Table}
 use Rattle.loading.specs.Printed.{filledUp}
+use Rattle.state.specs.State.{stateBytes}
 use Rattle.rules.specs.Start.{entered, started}
+use Rattle.engine_laws.specs.Lists.{give}
 use Rattle.collector_laws.specs.Computing.{running}
 use Rattle.cases.specs.Tables.{portReceiver}
-use Rattle.published.specs.Syntax.{Process, end, choice, nothing, wait, waiting, someWait, onlyWaits}
+use Rattle.guarantee.specs.Claim.{on}
+use Rattle.published.specs.Syntax.{Process, end, choice, nothing, branch, always, output, assign, constant, wait, waiting, someWait, onlyWaits}
 use Rattle.published.specs.Agents as Agents
 use Rattle.published.specs.Agents.{_∈_, Value, channel, refers, mentions, knows, Thread}
 use Rattle.published.specs.Rules.{Reaches}
@@ -20,7 +23,10 @@ use Rattle.published_laws.specs.Standing.{bodyOf, forNumbers, OurRules, envOf, 
 use Rattle.published_laws.specs.Products.{Bench}
 use Rattle.published_laws.specs.Benches.{portsAnd, bench-is}
 use Rattle.published_laws.specs.Starting.{started-agent}
+use Rattle.published_laws.specs.Computation.{giving, benchCall}
+use Rattle.instances.specs.Files.{bytes-are}
 use Rattle.instances.specs.Collection.{listed, facing}
+use Rattle.instances.specs.Buffers.{receives, receives-in-order, begun, nobody-there, somebody-there}
 
 -- ---- the bench of a file with one port: a thread that knows the port; one that knows another channel is none, nor is one that waits
 
@@ -61,3 +67,14 @@ unfolding running agentOf threadsOf threadOf waitingThread commitmentsFrom commi
 facing-unreached o o′ E E′ p =
     our-proposition-2 (bodyOf tb) (forNumbers tb) (agentOf tb (benchAt o E) (started tb)) (agentOf tb (benchAt o′ E′) (facing 2 2)) (start-bare o E) p
     1 2 (omega arith) (omega arith) (λ q. omega arith) 0 1 1 _ _ (inl refl) (inl refl)
+
+-- ... and what the bench does is told by the calls: where a give of 7 on port 0 meets a thread it sends 7 there, and where it meets nobody it does nothing
+
+pub bench-sends : benchCall receives (stateBytes (begun 1)) (on (give 0 7 (omega arith))) end
+    ≡ choice (branch always (assign 1 (constant 7)) (choice (branch always (output 0 1) end nothing)) nothing)
+unfolding benchCall giving
+bench-sends = rw (somebody-there, bytes-are portReceiver receives-in-order)
+
+pub bench-rests : benchCall receives (stateBytes (begun 0)) (on (give 0 7 (omega arith))) end ≡ end
+unfolding benchCall giving
+bench-rests = rw nobody-there
