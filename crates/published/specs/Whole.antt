@@ -1,13 +1,15 @@
 -- Whole turns of a thread by 002's rules, and what two of them from one agent may differ in. Assumes nothing.
 use Prim.Native.Nat.{ℕ, suc}
-use mathlib.Core.Path.{_≡_, refl}
+use mathlib.Core.Path.{_≡_, refl, sym, _∙_, ap}
 use mathlib.Core.Logic.{_⊎_, inl, inr}
 use mathlib.Core.Bool.{Bool, true, false}
 use mathlib.Core.List.{List, [], _∷_, map}
 use mathlib.Core.Option.{some}
 use Rattle.published.specs.Syntax.{Process, end, choice, invoke, Sum, nothing, branch, wait, Prefix, tau, output, input, newChannel, newThread, assign, waits, waiting}
 use Rattle.published.specs.Agents.{_∈_, Value, channel, Env, look, bind, Commitment, gives, takes, Thread, thread, Channels, adding, Agent, agent}
-use Rattle.published.specs.Rules.{Rearranged, Acts, Nothing, Run, last, pass, Turn, zeroed}
+use Rattle.published.specs.Rules.{Rearranged, Acts, step, new, spawn, next, call, inert, send, out, recv, inn, more, Nothing, Run, last, pass, Turn, zeroed}
+use Rattle.published.specs.Bindings.{clash}
+use Rattle.published.specs.Fired.{Rule, by-inert, by-call, by-step, by-new, by-spawn, by-send, by-recv, by-passing, by-assigns, by-zeros, Fired, fired, behind, nothing-fires, firing, Ends, ActsBy, TurnBy}
 use Rattle.published.specs.Choices.{commits, ByCommitment, ByPrefix, BySum, ByProcess, Of, acts-of}
 
 -- ---- whole turns
@@ -125,3 +127,78 @@ module _ (def : ℕ → Process) where
 
   pub whole-turn : {A : Agent} {t : Thread} {T : Agent} → WholeTurn def A t T → Turn def Nothing A t T
   whole-turn h = record { others = h .others; brought = h .brought; product = h .product; run = whole-run (h .whole); put-back = h .put-back }
+
+-- ---- a turn that ends with an action is whole, as is one that ends with (out) or (in) at Σ wait
+
+-- (out) and (in)
+unfoldable pub passing : Rule → Bool
+passing by-inert = false
+passing by-call = false
+passing by-step = false
+passing (by-new c) = false
+passing (by-spawn t) = false
+passing (by-send t k) = false
+passing (by-recv t k) = false
+passing by-passing = true
+passing by-assigns = false
+passing by-zeros = false
+
+module _ (def : ℕ → Process) where
+  commits-passing : {A T : Agent} (r : Acts def Nothing A T) → commits def r ≡ passing (firing def Nothing nothing-fires r .rule)
+  unfolding commits firing passing behind Nothing
+  commits-passing (step g) = refl
+  commits-passing (new ĉ g f) = refl
+  commits-passing (spawn g) = refl
+  commits-passing (next g r) = commits-passing r
+  commits-passing (call ws e) = refl
+  commits-passing inert = refl
+  commits-passing (send ĉ x w g c i v) = refl
+  commits-passing (out ĉ g c f) = refl
+  commits-passing (recv ĉ v w g c i e) = refl
+  commits-passing (inn ĉ g c f) = refl
+  commits-passing (more m) = absurd m
+
+  -- zeros is no rule of 002
+  never-zeros : {A T : Agent} (r : Acts def Nothing A T) → firing def Nothing nothing-fires r .rule ≡ by-zeros → ⊥
+  unfolding firing behind Nothing
+  never-zeros (step g) e = clash cc
+  never-zeros (new ĉ g f) e = clash cc
+  never-zeros (spawn g) e = clash cc
+  never-zeros (next g r) e = never-zeros r e
+  never-zeros (call ws q) e = clash cc
+  never-zeros inert e = clash cc
+  never-zeros (send ĉ x w g c i v) e = clash cc
+  never-zeros (out ĉ g c f) e = clash cc
+  never-zeros (recv ĉ v w g c i q) e = clash cc
+  never-zeros (inn ĉ g c f) e = clash cc
+  never-zeros (more m) e = absurd m
+
+  ends-otherwise : {A T : Agent} (w : Run def Nothing A T) (f : Fired) → Ends def Nothing nothing-fires w f → f .rule ≡ by-zeros → ⊥
+  unfolding Ends behind
+  ends-otherwise (last r) f e z = never-zeros r (ap (λ (x : Fired). x .rule) e ∙ z)
+  ends-otherwise (pass r w) f (inl (g, p, e, q)) z = ends-otherwise w g e (sym (ap (λ (x : Fired). x .rule) q) ∙ z)
+  ends-otherwise (pass r w) f (inr (p, e, q)) z = ends-otherwise w (fired 0 by-zeros) e refl
+
+  run-whole : {A T : Agent} (w : Run def Nothing A T) (f : Fired) → Ends def Nothing nothing-fires w f → passing (f .rule) ≡ false → Whole def A T
+  unfolding Ends behind passing
+  run-whole (last r) f e z = acted r (commits-passing r ∙ ap (λ (x : Fired). passing (x .rule)) e ∙ z)
+  run-whole (pass r w) f (inl (g, p, e, q)) z =
+      passed r (commits-passing r ∙ ap passing p) (run-whole w g e (sym (ap (λ (x : Fired). passing (x .rule)) q) ∙ z))
+  run-whole (pass r w) f (inr (p, e, q)) z = absurd (ends-otherwise w (fired 0 by-zeros) e refl)
+
+  pub action-whole : {A : Agent} {t : Thread} {f : Fired} {T : Agent} → TurnBy def Nothing nothing-fires A t f T → passing (f .rule) ≡ false → WholeTurn def A t T
+  action-whole {f = f} h z = record {
+    others = h .turn .others;
+    brought = h .turn .brought;
+    product = h .turn .product;
+    whole = run-whole (h .turn .run) f (h .ends) z;
+    put-back = h .turn .put-back;
+  }
+
+  pub passed-so : {A T C : Agent} → ActsBy def Nothing nothing-fires (fired 0 by-passing) A T → Whole def T C → Whole def A C
+  unfolding passing
+  passed-so (r, e) w = passed r (commits-passing r ∙ ap (λ (x : Fired). passing (x .rule)) e) w
+
+  pub rested-so : {A T : Agent} → ActsBy def Nothing nothing-fires (fired 0 by-passing) A T → firstWaits (T .threads) ≡ true → Whole def A T
+  unfolding passing
+  rested-so (r, e) w = rested r (commits-passing r ∙ ap (λ (x : Fired). passing (x .rule)) e) w

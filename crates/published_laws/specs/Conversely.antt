@@ -104,7 +104,7 @@ module _ (tb : Table) (s : State) (t : ℕ) where
       caseB (eqb kind 1) (λ y. rw y before-choice) (λ y. rw y (caseB (eqb kind 2) (λ x. rw x tt) (λ x. rw x tt)))
 
   -- where the engine waits, no branch goes ahead
-  all-passed : Blocked tb s t → (i : ℕ) → i < branchCount tb (standsAt (thread s t)) → Passed tb s t i
+  pub all-passed : Blocked tb s t → (i : ℕ) → i < branchCount tb (standsAt (thread s t)) → Passed tb s t i
   all-passed w i m =
       caseB (guardHolds tb (branchAt tb (standsAt (thread s t)) i) (thread s t))
       (λ y. let (d, e) = w .meeting-only i m y in

@@ -40,7 +40,7 @@ unfolding onlyWaits waits
 only-waits zero = refl
 only-waits (suc n) = only-waits n
 
-some-waits : (n : ℕ) → 0 < n → someWait (waits n) ≡ true
+pub some-waits : (n : ℕ) → 0 < n → someWait (waits n) ≡ true
 unfolding someWait waits
 some-waits zero l = absurd (omega arith)
 some-waits (suc n) l = only-waits n

@@ -24,6 +24,7 @@ pub mod Running
 pub mod Choosing
 pub mod PassedOver
 pub mod Conversely
+pub mod Wholly
 pub mod Benches
 pub mod Starting
 pub mod Computation

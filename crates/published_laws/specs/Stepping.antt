@@ -57,6 +57,20 @@ module _ (tb : Table) (g : Granted tb) (rd : Readable tb) (s : State) (ok : Soun
   abbrev FirstOpen : ℕ → Act → Type 0
   FirstOpen k a = Open tb s t k a × ((j : ℕ) → j < k → Passed tb s t j)
 
+  -- after the turn the channels that nobody holds any more are reclaimed
+  stepped : Turns (move tb s t)
+      → SteppedBy (bodyOf tb) More own (agentOf tb b s) (threadOf tb (thread s t)) (firedBy tb s t (move tb s t)) (agentOf tb b (perform tb s t (move tb s t)))
+  unfolding perform
+  stepped h = rw (ready-thread tb (thread s t) ready) (record {
+    stepped = record {
+      between = agentOf tb b (written tb s t (move tb s t));
+      turn = h .turn;
+      reclaimed = counted-anew tb (written tb s t (move tb s t))
+          (written-orderly tb g s (ok .orderly) t l ready (move tb s t) (chosen tb s t) .shaped .all-channels) b bn;
+    };
+    ends = h .ends;
+  })
+
   meets-fired : (k u j : ℕ) (d : Direction) → Open tb s t k (Meeting d) → Answering tb s t (opposite d) (channelBy tb s t k) u j
       → firedBy tb s t (Meets k u j)
       ≡ fired k (meetingRule d (waitingThread tb (thread s u)) (pledge (opposite d) (channelBy tb s t k) (fieldB tb (branchAt tb (standsAt (thread s u)) j))
@@ -135,22 +149,6 @@ module _ (tb : Table) (g : Granted tb) (rd : Readable tb) (s : State) (ok : Soun
         (λ x. rw x (calling (eqb-true kind 2 x) (rw (y, x) at z)))
         (λ x. rw x (ends-reduced tb g rd s (ok .orderly) t l ready b bn More own (eqb-false kind 1 y) (eqb-false kind 2 x)))))
 
-    -- and then the channels that nobody holds any more are reclaimed
-    stepped : Allowed (move tb s t)
-        → SteppedBy (bodyOf tb) More own (agentOf tb b s) (threadOf tb (thread s t)) (firedBy tb s t (move tb s t)) (agentOf tb b (perform tb s t (move tb s t)))
-    unfolding perform
-    stepped z =
-        let h = move-reduced z in
-        rw (ready-thread tb (thread s t) ready) (record {
-          stepped = record {
-            between = agentOf tb b (written tb s t (move tb s t));
-            turn = h .turn;
-            reclaimed = counted-anew tb (written tb s t (move tb s t))
-                (written-orderly tb g s (ok .orderly) t l ready (move tb s t) (chosen tb s t) .shaped .all-channels) b bn;
-          };
-          ends = h .ends;
-        })
-
 -- ---- every step that is not refused
 
 -- a move for which no row is lacking
@@ -188,19 +186,27 @@ module _ (tb : Table) (g : Granted tb) (rd : Readable tb) (s : State) (ok : Soun
       → SteppedBy (bodyOf tb) (OurRules tb) (OurLabels tb) (agentOf tb b s) (threadOf tb (thread s t)) (firedBy tb s t (move tb s t))
       (agentOf tb b (perform tb s t (move tb s t)))
   unfolding Allowed firedBy goingRule
-  step-reduced =
-      stepped tb g rd s ok t l ready b bn (OurRules tb) (OurLabels tb) Allowed (λ z. z) (λ z. z)
-      (λ k z. calls-reduced tb g rd s (ok .orderly) t l ready b bn k)
-      (λ k p z. waits-reduced tb g rd s (ok .orderly) t l ready b bn (OurRules tb) (OurLabels tb) (λ i m f A C x. (x, refl)) k p)
-      (λ k (x, before) z. rw (x .does) (assignment-reduced tb g rd s (ok .orderly) t l ready b bn k (x .at-choice) (x .branch-in) before x))
+  step-reduced z =
+      stepped tb g rd s ok t l ready b bn (OurRules tb) (OurLabels tb) Allowed
+      (move-reduced tb g rd s ok t l ready b bn (OurRules tb) (OurLabels tb) Allowed (λ y. y) (λ y. y)
+      (λ k y. calls-reduced tb g rd s (ok .orderly) t l ready b bn k)
+      (λ k p y. waits-reduced tb g rd s (ok .orderly) t l ready b bn (OurRules tb) (OurLabels tb) (λ i m f A C x. (x, refl)) k p)
+      (λ k (x, before) y. rw (x .does) (assignment-reduced tb g rd s (ok .orderly) t l ready b bn k (x .at-choice) (x .branch-in) before x)) z)
 
-  -- and it is one by 002's rules alone, if it is neither a call of a definition with number locals, nor an assignment, nor a wait with a guard that is false
-  pub step-published : Plain tb (thread s t) (move tb s t)
-      → SteppedBy (bodyOf tb) Nothing nothing-fires (agentOf tb b s) (threadOf tb (thread s t)) (firedBy tb s t (move tb s t))
-      (agentOf tb b (perform tb s t (move tb s t)))
+  -- and it is one by 002's rules alone, if it is neither a call of a definition with number locals, nor an assignment, nor a wait with a guard that is false:
+  -- the turn ...
+  pub turn-published : Plain tb (thread s t) (move tb s t)
+      → TurnBy (bodyOf tb) Nothing nothing-fires (agentOf tb b s) (readyThread tb (thread s t)) (firedBy tb s t (move tb s t))
+      (agentOf tb b (written tb s t (move tb s t)))
   unfolding Plain firedBy
-  step-published =
-      stepped tb g rd s ok t l ready b bn Nothing nothing-fires (Plain tb (thread s t)) (λ z. z) (λ z. z)
+  turn-published =
+      move-reduced tb g rd s ok t l ready b bn Nothing nothing-fires (Plain tb (thread s t)) (λ z. z) (λ z. z)
       (λ k z. calls-published tb g rd s (ok .orderly) t l ready b bn k z Nothing nothing-fires)
       (λ k p z. waits-reduced tb g rd s (ok .orderly) t l ready b bn Nothing nothing-fires (λ i m f A C x. contra (z i m) f) k p)
       (λ k (x, before) z. tau-assignment (actOf tb (branchAt tb (standsAt (thread s t)) k)) z (x .does))
+
+  -- ... and the step
+  pub step-published : Plain tb (thread s t) (move tb s t)
+      → SteppedBy (bodyOf tb) Nothing nothing-fires (agentOf tb b s) (threadOf tb (thread s t)) (firedBy tb s t (move tb s t))
+      (agentOf tb b (perform tb s t (move tb s t)))
+  step-published z = stepped tb g rd s ok t l ready b bn Nothing nothing-fires (Plain tb (thread s t)) (turn-published z)
