@@ -25,3 +25,4 @@ pub mod Choosing
 pub mod Benches
 pub mod Starting
 pub mod Computation
+pub mod Instance
