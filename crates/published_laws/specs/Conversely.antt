@@ -38,7 +38,7 @@ use Rattle.published.specs.Syntax.{Process, Sum, waits}
 use Rattle.published.specs.Agents as Agents
 use Rattle.published.specs.Agents.{_∈_, look, Commitment, Thread, Channels, Agent, agent}
 use Rattle.published.specs.Rules.{Rearranged, same-first, twice, Many, Reclaims, Nothing}
-use Rattle.published.specs.Lists.{in-rearranged, turned-back}
+use Rattle.published.specs.Lists.{same-order, in-rearranged, turned-back}
 use Rattle.published.specs.Fired.{nothing-fires}
 use Rattle.published.specs.Orders.{cancelled}
 use Rattle.published.specs.Choices.{Sends, Receives, ByAction, ByCommitment, ByProcess, Of, same-channel, same-value}
@@ -113,6 +113,18 @@ module _ (tb : Table) (s : State) (t : ℕ) where
 
 -- ---- the ends
 
+-- the moves with which 002 leaves nothing open: an end, a branch taken alone, a new thread
+unfoldable pub Settled : Move → Type 0
+Settled Ends = Unit {0}
+Settled Calls = ⊥
+Settled Waits = ⊥
+Settled (Goes i) = Unit {0}
+Settled (Creates i c) = ⊥
+Settled (Spawns i u) = Unit {0}
+Settled (Meets i u j) = ⊥
+Settled LacksThread = ⊥
+Settled LacksChannel = ⊥
+
 module _ (tb : Table) (g : Granted tb) (rd : Readable tb) (s : State) (o : Orderly tb s) (t : ℕ) (l : t < maxThreads) (ready : isReady (thread s t) ≡ true)
     (b : Thread) (bn : Bench tb b) (T : Agent) (h : WholeTurn (bodyOf tb) (agentOf tb b s) (readyThread tb (thread s t)) T) where
   abbrev rest : List Thread
@@ -127,6 +139,13 @@ module _ (tb : Table) (g : Granted tb) (rd : Readable tb) (s : State) (o : Order
   -- from the agent of the state before to that of what the move writes
   abbrev EndsLike : Move → Type 0
   EndsLike m = UpTo (bodyOf tb) (forNumbers tb) (agentOf tb b s) (readyThread tb (thread s t)) T (agentOf tb b (written tb s t m))
+
+  -- it is that agent itself, the threads in some order
+  abbrev EndsSo : Move → Type 0
+  EndsSo m = Is T (agentOf tb b (written tb s t m) .channels) (agentOf tb b (written tb s t m) .threads)
+
+  as-like : (m : Move) → EndsSo m → EndsLike m
+  as-like m e = same-end (agentOf tb b (written tb s t m) .channels) (agentOf tb b (written tb s t m) .threads) e (refl, same-order _)
 
   -- the threads beside it are those of the state
   same-others : Rearranged (others tb g rd s o t l ready b bn) (h .others)
@@ -150,10 +169,10 @@ module _ (tb : Table) (g : Granted tb) (rd : Readable tb) (s : State) (o : Order
   own-row row u x e = turned-back (twice (new-first tb g rd s o t l ready b bn row u) (rw e (same-first same-others)))
 
   -- (inert)
-  ends-so : kindOf tb (standsAt (thread s t)) ≢ 1 → kindOf tb (standsAt (thread s t)) ≢ 2 → EndsLike Ends
+  ends-so : kindOf tb (standsAt (thread s t)) ≢ 1 → kindOf tb (standsAt (thread s t)) ≢ 2 → EndsSo Ends
   unfolding Of ByProcess agentOf written withThread channelsOf others
   ends-so m n =
-      ⊎-elim (λ q. same-end (channelsOf s) (h .others) (is-end (channelsOf s) (h .others) q) (refl, turned-back same-others)) (λ (U, x, y). absurd x)
+      ⊎-elim (λ q. let (c, p) = is-end (channelsOf s) (h .others) q in (c, twice same-others p)) (λ (U, x, y). absurd x)
       (whole-of (bodyOf tb) (rw (at-end tb g rd s o t l ready b bn m n) at turn))
 
   -- (call)
@@ -203,19 +222,18 @@ module _ (tb : Table) (g : Granted tb) (rd : Readable tb) (s : State) (o : Order
           (λ Γ Q U y. f Γ Q U (rw (x .does) at y)) (agent (T .channels) (h .product)) w)
 
       -- (step)
-      tau-so : Open tb s t k Tau → EndsLike (Goes k)
+      tau-so : Open tb s t k Tau → EndsSo (Goes k)
       unfolding ByAction ByCommitment prefixOf agentOf written withThread channelsOf
       tau-so x =
           let row = thread s t in
-          let q = by-action Tau x (λ Γ Q U y. y) in
-          same-end (channelsOf s) _ (is-end (channelsOf s) _ q) (
-            refl,
-            own-row (goneBy tb row k) (ready-used (goneBy tb row k) (goneBy-ready tb row k)) _
-                (tau-thread tb g rd (typeIn s) row sound used k (x .branch-in) (x .does)),
+          let (c, p) = is-end (channelsOf s) _ (by-action Tau x (λ Γ Q U y. y)) in (
+            c,
+            twice (turned-back (own-row (goneBy tb row k) (ready-used (goneBy tb row k) (goneBy-ready tb row k)) _
+                (tau-thread tb g rd (typeIn s) row sound used k (x .branch-in) (x .does)))) p,
           )
 
       -- document 01's own: 002 has no rule for it
-      assignment-so : Open tb s t k Assignment → EndsLike (Goes k)
+      assignment-so : Open tb s t k Assignment → EndsSo (Goes k)
       unfolding ByAction ByCommitment prefixOf
       assignment-so x = absurd (by-action Assignment x (λ Γ Q U y. y))
 
@@ -234,16 +252,16 @@ module _ (tb : Table) (g : Granted tb) (rd : Readable tb) (s : State) (o : Order
           )
 
       -- (spawn)
-      spawn-so : (u : ℕ) → Spawning tb s t k u → EndsLike (Spawns k u)
+      spawn-so : (u : ℕ) → Spawning tb s t k u → EndsSo (Spawns k u)
       unfolding ByAction ByCommitment prefixOf agentOf written withMark spawnedBy withThread channelsOf
       spawn-so u x =
           let row = thread s t in
-          let q = by-action Spawn (x .takes) (λ Γ Q U y. y) in
-          let p = rw (
+          let (c, p) = is-end (channelsOf s) _ (by-action Spawn (x .takes) (λ Γ Q U y. y)) in
+          let q = rw (
             next-thread tb g rd (typeIn s) row sound used k (x .takes .branch-in),
             child-thread tb g rd (typeIn s) row sound used k (x .takes .branch-in) (x .takes .does),
           ) at (family-first tb g rd s o t l ready b bn Nothing nothing-fires k kind (x .takes .branch-in) before-it u x) in
-          same-end (channelsOf s) _ (is-end (channelsOf s) _ q) (refl, turned-back (twice p (same-first (same-first same-others))))
+          (c, twice (twice q (same-first (same-first same-others))) p)
 
       -- (send) and (recv), where the engine's partner is thread u by its branch j
       module _ (u j : ℕ) (d : Direction) (x : Open tb s t k (Meeting d)) (a : Answering tb s t (opposite d) (channelBy tb s t k) u j) where
@@ -355,18 +373,30 @@ module _ (tb : Table) (g : Granted tb) (rd : Readable tb) (s : State) (o : Order
 
   -- ---- by the move that the engine makes
 
+  settled-so : (m : Move) → Chosen tb s t m → Before tb s t m → Settled m → EndsSo m
+  unfolding Chosen Before Settled
+  settled-so Ends (m, n) p z = ends-so m n
+  settled-so Calls c p z = absurd z
+  settled-so Waits c p z = absurd z
+  settled-so (Goes i) (inl c) p z = tau-so (c .at-choice) i p c
+  settled-so (Goes i) (inr c) p z = assignment-so (c .at-choice) i p c
+  settled-so (Creates i k) c p z = absurd z
+  settled-so (Spawns i u) c p z = spawn-so (c .takes .at-choice) i p u c
+  settled-so (Meets i u j) c p z = absurd z
+  settled-so LacksThread c p z = absurd z
+  settled-so LacksChannel c p z = absurd z
+
   ends-like : (m : Move) → Chosen tb s t m → Before tb s t m → Allowed m → EndsLike m
-  unfolding Chosen Before Allowed
-  ends-like Ends (m, n) p z = ends-so m n
+  unfolding Chosen Before Allowed Settled
+  ends-like Ends c p z = as-like Ends (settled-so Ends c p tt)
   ends-like Calls c p z = calls-so c
   ends-like Waits c p z =
       let n = branchCount tb (standsAt (thread s t)) in
       let some-branch = rd .some-branch (standsAt (thread s t)) (sound .node-in used) (c .at-choice) in
       waits-so (c .at-choice) (n - 1) (omega (arith, some-branch)) (all-passed tb s t c)
-  ends-like (Goes i) (inl c) p z = tau-so (c .at-choice) i p c
-  ends-like (Goes i) (inr c) p z = assignment-so (c .at-choice) i p c
+  ends-like (Goes i) c p z = as-like (Goes i) (settled-so (Goes i) c p tt)
   ends-like (Creates i k) c p z = creation-so (c .takes .at-choice) i p k c
-  ends-like (Spawns i u) c p z = spawn-so (c .takes .at-choice) i p u c
+  ends-like (Spawns i u) c p z = as-like (Spawns i u) (settled-so (Spawns i u) c p tt)
   ends-like (Meets i u j) c p z = meeting-so (c .takes .at-choice) i p u j (c .direction) (c .takes) (c .partner) (c .direction) refl
   ends-like LacksThread c p z = absurd z
   ends-like LacksChannel c p z = absurd z
@@ -381,6 +411,12 @@ module _ (tb : Table) (g : Granted tb) (rd : Readable tb) (s : State) (ok : Soun
   turn-conversely z T h =
       let e = ready-thread tb (thread s t) ready in
       rw e (ends-like tb g rd s (ok .orderly) t l ready b bn T (rw e at h) (move tb s t) (chosen tb s t) (before tb s t) z)
+
+  -- where 002 leaves nothing open it is that agent itself, its threads in some order
+  pub turn-exactly : Settled (move tb s t) → (T : Agent) → WholeTurn (bodyOf tb) (agentOf tb b s) (threadOf tb (thread s t)) T
+      → Is T (agentOf tb b (written tb s t (move tb s t)) .channels) (agentOf tb b (written tb s t (move tb s t)) .threads)
+  turn-exactly z T h =
+      settled-so tb g rd s (ok .orderly) t l ready b bn T (rw (ready-thread tb (thread s t) ready) at h) (move tb s t) (chosen tb s t) (before tb s t) z
 
   -- after that the step only reclaims
   pub step-conversely : Allowed (move tb s t) → (T : Agent) → WholeTurn (bodyOf tb) (agentOf tb b s) (threadOf tb (thread s t)) T

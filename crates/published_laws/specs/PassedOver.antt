@@ -18,7 +18,6 @@ use Rattle.granted.specs.Granted.{Granted}
 use Rattle.engine_laws.specs.Sound.{Orderly}
 use Rattle.engine_laws.specs.Chosen.{channelBy}
 use Rattle.published.specs.Syntax.{Process, Sum, nothing, Prefix, andWait, waits, waiting, someWait}
-use Rattle.published.specs.Agents as Agents
 use Rattle.published.specs.Agents.{_∈_, Env, Commitment, Thread, Channels, Agent, agent}
 use Rattle.published.specs.Choices.{Sends, Receives, ByAction, ByCommitment, ByPrefix, BySum, ByProcess, Of, same-channel}
 use Rattle.published.specs.Whole.{Whole, firstWaits, Onward, whole-of}
