@@ -4,3 +4,4 @@ pub mod Later
 pub mod Proof
 pub mod Instance
 pub mod Exported
+pub mod Reasons
