@@ -5,3 +5,4 @@ pub mod Proof
 pub mod Instance
 pub mod Exported
 pub mod InNumbers
+pub mod Reasons
