@@ -1,1 +1,3 @@
 pub mod Encoding
+pub mod Guaranteed
+pub mod Examples

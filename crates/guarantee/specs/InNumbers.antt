@@ -1,7 +1,7 @@
 -- The whole claim, demand 3 of document 01, in the numbers that C passes and gets. `Claim.antt` says it by the answers of the definitions; here a call is
 -- done, refused with 10, meets a thread or takes n of them as the numbers of its answer say, and all bytes are those that the exported calls leave in their
 -- buffers. The calls are those of the claim: a give has the pattern of its number, for which C passes the number itself (`toZ w32`), and every number of 32
--- bits has one (`every-number` below). This file says it and `InNumbers/Proof.antt` shows it.
+-- bits has one (`every-number` below). This file says it and `InNumbers/Proof.antt` shows it. Assumes nothing.
 pub mod Proof
 use Prim.Native.Nat.{ℕ, _<_}
 use mathlib.Core.Path.{_≡_}
@@ -40,11 +40,12 @@ leftFrom table state ks = leftAll table (startResult table state .state) ks
 
 -- ---- who moves in a call, by its answer
 
--- some threads, if the call is done: its refusal is 0
+-- a call is done where its refusal is 0
 unfoldable pub isZero : ℤ → Bool
 isZero (pos n) = eqb n 0
 isZero (negsuc n) = false
 
+-- then these threads move, and else nobody
 unfoldable pub ifDone : ℤ → List ℕ → List ℕ
 ifDone z who = cond (isZero z) who []
 
