@@ -3,20 +3,19 @@ use Prim.Native.Nat.{ℕ, _+_, _-_, _<_, _≤_}
 use native.Mathlib.Omega.{arith}
 use mathlib.Core.Path.{_≡_, refl, sym, _∙_, ap}
 use mathlib.Core.List.{List}
-use mathlib.Core.Bool.{Bool, true, false, _&&_}
+use mathlib.Core.Bool.{Bool, true, false}
 use lib.Dec.{eqb, ltb}
 use lib.ListN.{getD}
 use lib.Seq.{getD-set-other, set-getD, set-set}
 use borrow.Author.Tests.{lt-ltb, le-ltb, ltb-true}
 use Rattle.numbers.specs.Rows.{at}
-use Rattle.numbers.specs.Search.Laws.{caseB, contra}
 use Rattle.numbers.specs.Tests.{and-left, and-right}
 use Rattle.table.specs.Table.{Table}
 use Rattle.state.specs.State.{State, maxThreads, maxChannels, thread, standsAt, isReady, withMark, withThread, withChannel, withChannels}
 use Rattle.rules.specs.Holding.{settled}
 use Rattle.rules.specs.Offers.{partnerOf}
 use Rattle.rules.specs.Moves.{oneUp, move, written, perform, typed, spawnedBy, valueBy, metByBench}
-use Rattle.rules.specs.Calls.{bench, canStep, stepAnswer, Course, course, oneMore, onward, isReadyThread, nextReady, pastTurn, turnBy, turned, turnEnd, courseOf}
+use Rattle.rules.specs.Calls.{bench, canStep, stepAnswer, Course, course, isReadyThread, nextReady, pastTurn, turnBy, turned, turnEnd, courseOf}
 use Rattle.rules.specs.declared.Direction.the-variants.{Out, In}
 use Rattle.rules.specs.declared.Partner.{Partner}
 use Rattle.rules.specs.declared.Partner.the-variants as Partner
@@ -31,19 +30,20 @@ use Rattle.rules.specs.declared.Taken.{Taken}
 use Rattle.rules.specs.declared.Taken.the-variants as Taken
 use Rattle.rules.specs.declared.Reason.{Reason}
 use Rattle.rules.specs.declared.Turn.{Turn}
-use Rattle.rules.specs.declared.Turn.the-variants.{Went, Stopped}
+use Rattle.rules.specs.declared.Turn.the-variants.{Went}
 use Rattle.rules.specs.declared.Ran.{Ran}
 use Rattle.rules.specs.declared.Ran.the-variants as Ran
 use Rattle.steps.specs.Made.{made}
 use Rattle.engine_laws.specs.Sound.{Sound}
 use Rattle.engine_laws.specs.Sound.Laws.{sound-settled}
+use Rattle.engine_laws.specs.Reasons.{last-turn}
 use Rattle.steps.specs.Made.Laws.{turn-ends}
 use Rattle.steps.specs.Counted.{Counted}
 use Rattle.steps.specs.Counted.Laws.{counted-start}
 use Rattle.branches.specs.Way.{wayOf, valueAlong}
 use Rattle.branches.specs.declared.Way.{Way}
 use Rattle.calls.specs.Course.{after, turnAt, courseBy, course-by, course-none, course-more}
-use Rattle.calls.specs.States.{After, afterwards, stepAfter, stepOn, givenOn, giveOn, takenOn, takeOn, runOn}
+use Rattle.calls.specs.States.{afterwards, stepAfter, stepOn, givenOn, giveOn, takenOn, takeOn, runOn}
 
 -- ---- ground 11
 
@@ -71,17 +71,12 @@ settled-mark : (tb : Table) (s : State) (v : ℕ) → settled tb (withMark s 2 v
 unfolding settled withMark withChannels
 settled-mark tb s v = refl
 
-one-on : (tb : Table) (w : Turn) (x : State) → onward w x (courseOf tb 0) .state ≡ x
-unfolding onward oneMore courseOf
-one-on tb Went x = refl
-one-on tb (Stopped r) x = refl
-
 module _ (tb : Table) (s : State) (t : ℕ) where
   by-one : t < 64 → courseBy tb 1 s t .state ≡ pastTurn (made tb s t (move tb s t)) t
   unfolding courseBy turnAt pastTurn
   by-one l =
       let e = turn-ends tb s t (move tb s t) (made tb s t (move tb s t)) (withMark (made tb s t (move tb s t)) 2 (oneUp maxThreads t)) (turnBy t (move tb s t)) (oneUp maxThreads t) refl refl refl refl refl in
-      rw (lt-ltb t 64 l, ← e) (one-on tb (turnBy t (move tb s t)) (withMark (made tb s t (move tb s t)) 2 (oneUp maxThreads t)))
+      rw (lt-ltb t 64 l, ← e) (last-turn tb (turnBy t (move tb s t)) (withMark (made tb s t (move tb s t)) 2 (oneUp maxThreads t)))
 
   -- a move leaves the turn as it is
   turn-stays : (m : Move) → getD (made tb s t m .marks) 2 0 ≡ getD (s .marks) 2 0

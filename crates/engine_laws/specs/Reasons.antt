@@ -326,7 +326,7 @@ module _ (table : List ℕ) (ok : accepted table ≡ true) (fit : (i : ℕ) → 
   came (suc n) state b = came-by n state b (turns table ok fit state b) (came n)
 
 -- a turn after which no more steps are asked for
-last-turn : (tb : Table) (w : Turn) (x : State) → onward w x (courseOf tb 0) .state ≡ x
+pub last-turn : (tb : Table) (w : Turn) (x : State) → onward w x (courseOf tb 0) .state ≡ x
 unfolding onward oneMore courseOf
 last-turn tb Went x = refl
 last-turn tb (Stopped r) x = refl
