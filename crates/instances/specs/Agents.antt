@@ -20,7 +20,7 @@ use Rattle.published.specs.Enabling.{active, Disabled}
 use Rattle.published.specs.Chain.{Chain, lemma-1}
 use Rattle.published.specs.Polarity.{Bare, proposition-2}
 use Rattle.published.specs.Cliques.{proposition-3, proposition-4, proposition-5}
-use Rattle.published.specs.Printed.{waitrc, proposition-6, P, W, R, case-three, p-enabled, not-stuck}
+use Rattle.published.specs.Printed.{waitrc, P, W, R, case-three, p-enabled, not-stuck}
 
 -- ---- threads: one that has come to its end, and one that alone knows the channel on which it waits (document 01's first case)
 
@@ -175,10 +175,6 @@ facing-not-reached def A Δ h p =
 pub counts-agree : waitrc 0 case-three ≡ globalrc 0 case-three
 unfolding waitrc waiting someWait onlyWaits globalrc count bit knows mentions refers
 counts-agree = refl
-
-pub w-waits : waiting (W .process) ≡ true
-unfolding knows mentions refers
-w-waits = proposition-6 0 case-three counts-agree W (inr (inl refl)) refl
 
 pub counts-differ : ¬ (waitrc 1 case-three ≡ globalrc 1 case-three)
 unfolding waitrc waiting someWait onlyWaits globalrc count bit knows mentions refers

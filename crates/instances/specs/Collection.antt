@@ -48,7 +48,7 @@ tb = filledUp parting
 unfoldable pub parted : State
 parted = courseOf (filledUp parting) 5 (started (filledUp parting)) .state
 
-parting-in-order : inOrder parting ≡ true
+pub parting-in-order : inOrder parting ≡ true
 unfolding judging
 parting-in-order = refl
 
@@ -131,7 +131,7 @@ pub not-apart : ¬ Apart (filledUp listed) (facing 2 2 .threads)
 unfolding running Apart
 not-apart h = h 0 1 (omega arith) (omega arith) (λ q. omega arith) Out 0 refl refl
 
-listed-in-order : inOrder listed ≡ true
+pub listed-in-order : inOrder listed ≡ true
 unfolding judging
 listed-in-order = refl
 

@@ -26,10 +26,6 @@ use Rattle.instances.specs.Files.{teaching, spawner, maker, in-order, ro
 
 -- ---- frames: in document 01's third case thread 0 sends to thread 2, which waits, and thread 1 waits on
 
-pub one-meets : move chain chained 0 ≡ Meets 0 2 0
-unfolding running chained
-one-meets = refl
-
 -- the move changes the row of thread 2, ...
 pub partner-goes-on : (isWaiting (thread chained 2) ≡ true) × (isReady (thread (perform chain chained 0 (move chain chained 0)) 2) ≡ true)
 unfolding running chained
