@@ -3,19 +3,21 @@ use Prim.Native.Nat.{ℕ, _<_}
 use native.Mathlib.Omega.{arith}
 use mathlib.Core.Path.{_≡_, _∙_, ap}
 use mathlib.Core.Logic.{_≢_}
-use mathlib.Core.List.{List}
+use mathlib.Core.List.{List, _∷_}
+use lib.ListN.{set}
 use mathlib.Core.Bool.{Bool, true, false}
 use Rattle.numbers.specs.Search.Laws.{contra}
 use Rattle.numbers.specs.Rows.{at}
 use Rattle.table.specs.Table.{Table}
-use Rattle.state.specs.State.{State, stateOf, thread, standsAt, slotOf, withThread}
+use Rattle.state.specs.State.{State, stateOf, thread, channel, standsAt, slotOf, slotsOf, withMark, withThread, withChannel}
 use Rattle.state.specs.State.Laws.{length-threads, thread-same, thread-other, thread-twice}
-use Rattle.rules.specs.Program.{branchAt, nextOf}
-use Rattle.rules.specs.Moves.{resumed, stored, met, gone, sideOf, createdBy}
+use Rattle.rules.specs.Program.{branchAt, nextOf, childOf}
+use Rattle.rules.specs.Moves.{oneUp, resumed, stored, met, gone, sideOf, typed, createdBy, typeBy, spawnedBy, written}
 use Rattle.rules.specs.declared.Direction.{Direction}
 use Rattle.rules.specs.declared.Direction.the-variants.{Out, In}
 use Rattle.rules.specs.declared.Act.{Act}
 use Rattle.rules.specs.declared.Act.the-variants.{Tau, Meeting, New, Spawn, Assignment}
+use Rattle.rules.specs.declared.Move.the-variants.{Creates, Spawns}
 use Rattle.branches.specs.Passed.{passed}
 use Rattle.branches.specs.Way.{assigns?, valueAlong, metAlong, metAlongBoth}
 use Rattle.branches.specs.declared.Way.{Way}
@@ -95,3 +97,22 @@ unfolding passed
 passed-on tb s s₁ s₂ t a u b n m k v x y z e f o p i q j g h l =
     let w : thread s₁ u ≡ thread s u = ap (λ (r : State). thread r u) f ∙ thread-other s t (resumed (thread s t) n) u o in
     e ∙ rw (w, f, p, i, q, j, g, l, h)
+
+-- ---- a mark k gets m: the channels' past a new channel, the threads' past a child
+
+module _ (tb : Table) (s s₁ s₂ : State) (t i k m : ℕ) where
+  pub creation-written : (s₃ : State) (c ty : ℕ) → s₃ ≡ withMark s₂ k m → k ≡ 1 → m ≡ oneUp 128 c → s₂ ≡ withChannel s₁ c (set (channel s₁ c) 0 ty)
+      → ty ≡ typeBy tb (thread s t) i → s₁ ≡ withThread s t (createdBy tb (thread s t) i c) → s₃ ≡ written tb s t (Creates i c)
+  unfolding written typed
+  creation-written s₃ c ty e f g h p q = e ∙ rw (f, g, h, p, q)
+
+  pub spawn-written : (u : ℕ) → s₂ ≡ withMark s₁ k m → k ≡ 0 → m ≡ oneUp 64 u → s₁ ≡ spawnedBy tb s t i u → s₂ ≡ written tb s t (Spawns i u)
+  unfolding written
+  spawn-written u e f g h = e ∙ rw (f, g, h)
+
+-- the child stands at n, and its parent goes on at m; d is the node of both before, and r the row of the branch
+pub child-written : (tb : Table) (s s₁ s₂ : State) (t i u n m r d : ℕ) (l : List ℕ) → s₂ ≡ withThread s₁ u (1 ∷ n ∷ l) → l ≡ slotsOf (thread s t)
+    → n ≡ childOf tb d r → s₁ ≡ withThread s t (resumed (thread s t) m) → m ≡ nextOf tb d r → r ≡ branchAt tb d i → d ≡ standsAt (thread s t)
+    → s₂ ≡ spawnedBy tb s t i u
+unfolding spawnedBy resumed
+child-written tb s s₁ s₂ t i u n m r d l e f g h p q x = e ∙ rw (f, g, h, p, q, x)

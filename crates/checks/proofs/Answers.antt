@@ -8,11 +8,12 @@ use Rattle.numbers.specs.Rows.{at}
 use Rattle.numbers.specs.Search.{every}
 use Rattle.numbers.specs.Tests.{and-yes, and-no, flag-yes, flag-no}
 use Rattle.table.specs.Table.{Table, types, definitions, ports, parameters, slotCount, nodeCount, carried}
-use Rattle.table.specs.Layout.{start, definitionOf}
+use Rattle.table.specs.Layout.{start, definitionOf, slotType}
 use Rattle.table.specs.Form.{within}
 use Rattle.table.specs.declared.Part.the-variants.{Nodes}
+use Rattle.table.specs.declared.Role.{Role}
 use Rattle.checks.specs.Ranges.{ahead, restUnused, argumentInRange, callInRange, operandInRange, targetsInRange, branchInRange, rowInRange, outOfRange}
-use Rattle.checks.specs.Types.{portTyped, portsTyped, argumentTyped, nodeTyped, branchTyped, rowTyped, typesDisagree}
+use Rattle.checks.specs.Types.{roleTyped, portTyped, portsTyped, argumentTyped, nodeTyped, branchTyped, rowTyped, typesDisagree}
 
 -- a disjunction of tests
 module _ (t b r : Bool) where
@@ -31,6 +32,15 @@ module _ (t u : Bool) (e : t ≡ u) where
   part-no r b h g = and-no u b r (flag-no t u e (not-true t h)) g
 
 pub ruleset part = (part-yes, part-no)
+
+-- the type t of a port's slot is n
+pub port-read : (tb : Table) (k t n : ℕ) → t ≡ slotType tb 0 k → n ≡ 1 → eqb t n ≡ portTyped tb k
+unfolding portTyped
+port-read tb k t n e f = rw (e, f)
+
+-- the arm of a role
+pub role-arm : (a b : Role) (t u : ℕ) (r : Bool) → a ≡ b → r ≡ roleTyped b t u → r ≡ roleTyped a t u
+role-arm a b t u r e f = rw e f
 
 -- what a call answered of numbers that calls answered
 pub within-read : (t : Bool) (l m a x y z : ℕ) → t ≡ within l m a → l ≡ x → m ≡ y → a ≡ z → t ≡ within x y z

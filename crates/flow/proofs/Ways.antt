@@ -38,15 +38,17 @@ module _ (tb : Table) (r : ℕ) (a : Role) (t : Bool) (e : a ≡ operandRole tb 
 
 -- ---- a branch
 
-module _ (tb : Table) (f r w a k : ℕ) (m p : List Bool) (ms ms₁ : Marks)
-    (e : w ≡ slotWritten tb r) (g : p ≡ pastWrite w m) (h : a ≡ at tb r 8) (i : ms₁ ≡ arrive ms (f + a) p) (j : k ≡ at tb r 4) where
-  pub branch-next : (k ≡ 4 → ⊥) → ms₁ ≡ branchFollowed tb f m r ms
+-- k is its action, a and b are its targets; p are the marks past what it writes, and ms₁ those of all nodes after its next node
+module _ (tb : Table) (f r a k w : ℕ) (m p : List Bool) (ms ms₁ : Marks) where
+  pub branch-next : a ≡ at tb r 8 → k ≡ at tb r 4 → w ≡ slotWritten tb r → p ≡ pastWrite w m → ms₁ ≡ arrive ms (f + a) p → (k ≡ 4 → ⊥)
+      → ms₁ ≡ branchFollowed tb f m r ms
   unfolding branchFollowed
-  branch-next n = i ∙ rw (← j, ne-eqb k 4 n, ← e, ← g, h)
+  branch-next h j e g i n = i ∙ rw (← j, ne-eqb k 4 n, ← e, ← g, h)
 
-  pub branch-spawn : (b : ℕ) (ms₂ : Marks) → k ≡ 4 → b ≡ at tb r 9 → ms₂ ≡ arrive ms₁ (f + b) p → ms₂ ≡ branchFollowed tb f m r ms
+  pub branch-spawn : (b : ℕ) (ms₂ : Marks) → b ≡ at tb r 9 → a ≡ at tb r 8 → k ≡ at tb r 4 → w ≡ slotWritten tb r → p ≡ pastWrite w m
+      → ms₁ ≡ arrive ms (f + a) p → ms₂ ≡ arrive ms₁ (f + b) p → k ≡ 4 → ms₂ ≡ branchFollowed tb f m r ms
   unfolding branchFollowed
-  branch-spawn b ms₂ n q s = s ∙ rw (i, ← j, n, ← e, ← g, h, q)
+  branch-spawn b ms₂ q h j e g i s n = s ∙ rw (i, ← j, n, ← e, ← g, h, q)
 
 -- ---- the branches of a node
 

@@ -15,12 +15,18 @@ use Rattle.table.specs.declared.Part.the-variants.{Branches}
 use Rattle.state.specs.State.{State, slotOf}
 use Rattle.rules.specs.Program.{fieldA, actOf, guardHolds, opposite, same}
 use Rattle.rules.specs.Offers.{meets?, offersIn}
-use Rattle.rules.specs.Moves.{oneUp, isFreeThread}
+use Rattle.rules.specs.Moves.{oneUp, isFreeThread, isFreeChannel}
 use Rattle.rules.specs.declared.Direction.{Direction}
 use Rattle.rules.specs.declared.Direction.the-variants.{Out, In}
 use Rattle.moves.specs.Seen.{seenIn}
 use Rattle.moves.specs.Tried.{firstRow}
 use Rattle.moves.specs.declared.Seen.the-variants.{Answers, Competes, Neither}
+
+-- ---- a free channel row: v is its word k
+
+pub free-channel-read : (s : State) (c k v n : ℕ) → v ≡ at (s .channels) c k → k ≡ 0 → n ≡ 0 → eqb v n ≡ isFreeChannel s c
+unfolding isFreeChannel
+free-channel-read s c k v n e f g = rw (e, f, g)
 
 -- ---- the code of a branch's act
 

@@ -17,6 +17,26 @@ use Rattle.text.specs.Text.{figures, negative, size, signed, numeral, ri
 use Rattle.text.specs.Columns.{six, letterOf, columns, blankOf}
 use Rattle.text.specs.Text.Laws.{figures-one, figures-more, size-text, minus-text, same-true, same-self, text-reads, wrong-reads}
 
+-- ---- a column
+
+module _ (n : Bool) (here right : ℕ) where
+  pub letter-figure : 0 < here → 48 + here % 10 ≡ letterOf n here right
+  unfolding letterOf
+  letter-figure h = rw (lt-ltb 0 here h)
+
+  module _ (h : here ≤ 0) where
+    pub letter-minus : n ≡ true → 0 < right → 45 ≡ letterOf n here right
+    unfolding letterOf
+    letter-minus e l = rw (le-ltb 0 here h, e, lt-ltb 0 right l)
+
+    pub letter-before : n ≡ true → right ≤ 0 → 32 ≡ letterOf n here right
+    unfolding letterOf
+    letter-before e l = rw (le-ltb 0 here h, e, le-ltb 0 right l)
+
+    pub letter-blank : n ≡ false → 32 ≡ letterOf n here right
+    unfolding letterOf
+    letter-blank e = rw (le-ltb 0 here h, e)
+
 -- ---- the columns of a number
 
 figures-two : (m : ℕ) → 10 ≤ m → m < 100 → figures m ≡ (48 + m / 10 % 10) ∷ (48 + m % 10) ∷ []

@@ -1,10 +1,10 @@
-use Rattle.rules.specs.Moves.{written, typed}
+use Rattle.branches.proofs.Laws.{creation-written}
+use mathlib.Core.Path.{refl}
 use borrow.Author.Needs.{needs}
 use Rattle.branches.proofs.write_creation.Statement.{statement}
 use Rattle.branches.proofs.write_creation.Tie as tie
 
 pub write-creation-spec : {M : Type 1} → statement M
-unfolding written typed
 write-creation-spec =
     tie.close
     (tie.spec
@@ -13,4 +13,5 @@ write-creation-spec =
     (λ c κs. search needs)
     (λ c κs. search needs)
     (λ c κs. search needs)
-    (λ c. cc))
+    (λ c. creation-written _ _ _ _ _ _ _ _ _ _ _ (c .put-mark .ensures) refl (c .before .one-up .ensures .0)
+    (c .before .before .before .put-channel .ensures) (c .before .before .before .before .before .before .before .type-by .ensures) (c .before .before .before .before .before .write-holder .ensures)))

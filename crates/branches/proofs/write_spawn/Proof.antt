@@ -1,14 +1,13 @@
-use Rattle.rules.specs.Moves.{written}
+use Rattle.branches.proofs.Laws.{spawn-written}
 use borrow.Author.Needs.{needs}
 use Rattle.branches.proofs.write_spawn.Statement.{statement}
 use Rattle.branches.proofs.write_spawn.Tie as tie
 
 pub write-spawn-spec : {M : Type 1} → statement M
-unfolding written
 write-spawn-spec =
     tie.close
     (tie.spec
     (λ c κs. search needs)
     (λ c κs. search needs)
     (λ c κs. search needs)
-    (λ c. cc))
+    (λ c. search spawn-written))

@@ -1,3 +1,4 @@
+use Rattle.checks.proofs.Answers.{role-arm}
 use Rattle.checks.specs.Types.{roleTyped}
 use borrow.Author.Needs.{needs}
 use Rattle.checks.proofs.role_typed.Statement.{statement}
@@ -16,11 +17,11 @@ role-typed-spec =
     (λ c. search needs)
     (λ c. search needs)
     (λ c. search needs)
-    (λ c. cc)
-    (λ c. cc)
-    (λ c. cc)
-    (λ c. cc)
-    (λ c. cc)
-    (λ c. cc)
-    (λ c. cc)
-    (λ c. cc))
+    (λ c. search role-arm)
+    (λ c. search role-arm)
+    (λ c. search role-arm)
+    (λ c. search role-arm)
+    (λ c. search role-arm)
+    (λ c. search role-arm)
+    (λ c. search role-arm)
+    (λ c. search role-arm))

@@ -21,4 +21,6 @@ follow-branch-spec =
     (λ c. search needs)
     (λ c κs. search needs)
     (λ c. search needs)
-    (λ c. search branch-spawn))
+    (λ c. branch-spawn _ _ _ _ _ _ _ _ _ _ _ _ (c .before .before .before .before .cell3 .ensures .0) (c .before .before .before .before .before .before .before .before .before .before .before .cell .ensures .0)
+    (c .before .before .before .before .before .before .cell2 .ensures .0) (c .before .before .before .before .before .before .before .before .before .before .before .before .before .slot-written .ensures)
+    (c .before .before .before .before .before .before .before .before .before .before .before .before .past-write .ensures) (c .before .before .before .before .before .before .before .before .before .arrive-at .ensures) (c .before .before .arrive-at2 .ensures) (search)))

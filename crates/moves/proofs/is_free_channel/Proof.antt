@@ -1,12 +1,11 @@
-use Rattle.rules.specs.Moves.{isFreeChannel}
+use Rattle.moves.proofs.Ways.{free-channel-read}
 use borrow.Author.Needs.{needs}
 use Rattle.moves.proofs.is_free_channel.Statement.{statement}
 use Rattle.moves.proofs.is_free_channel.Tie as tie
 
 pub is-free-channel-spec : {M : Type 1} → statement M
-unfolding isFreeChannel
 is-free-channel-spec =
     tie.close
     (tie.spec
     (λ c κs. search needs)
-    (λ c. cc))
+    (λ c. search free-channel-read))

@@ -3,13 +3,12 @@ use Prim.Native.Nat.{ℕ, zero, suc, _+_, _-_, _%_, _<_, _≤_}
 use native.Mathlib.Omega.{arith}
 use native.Mathlib.Decide.{decLt}
 use mathlib.Core.Path.{_≡_, refl, _∙_, ap}
-use mathlib.Core.Bool.{Bool}
 use lib.IntN.{ℤ, pos, negsuc, subℕ, _+ℤ_, _-ℤ_}
 use mir.Syntax.{w16, w32}
 use mir.Val.{Fits, SFits, toZ, ofZ}
 use mir.Facts.{ofZ-toZ, sfits-toZ}
 use borrow.Author.Tests.{le-ltb, lt-ltb}
-use Rattle.numbers.specs.Signed.{residue, wrap, lower, sum, difference, widened}
+use Rattle.numbers.specs.Signed.{residue, wrap, sum, difference, widened}
 
 -- a pattern whose highest bit is set is that of a negative number
 pub toZ-high : (x : ℕ) → 2147483648 ≤ x → x < 4294967296 → toZ w32 x ≡ negsuc (4294967295 - x)
@@ -52,10 +51,6 @@ pub sum-below : (x y : ℕ) → sum x y < 4294967296
 unfolding sum
 sum-below x y = omega arith
 
-pub difference-below : (x y : ℕ) → difference x y < 4294967296
-unfolding difference
-difference-below x y = omega arith
-
 -- what is subtracted and added again changes nothing
 pub difference-is : (x y r : ℕ) → Fits w32 y → Fits w32 r → (r + y) % 4294967296 ≡ x → r ≡ difference x y
 unfolding difference
@@ -80,19 +75,3 @@ widened-number v f = go (decLt v 32768)
     go : Dec (v < 32768) → toZ w32 (widened v) ≡ toZ w16 v
     go (yes h) = rw (lt-ltb v 32768 h, lt-ltb v 2147483648 (omega arith))
     go (no h) = rw (le-ltb v 32768 (omega arith), le-ltb ((v + 4294901760) % 4294967296) 2147483648 (omega arith)) (ap negsuc (omega arith))
-
--- ---- what a call answered of numbers that calls answered
-
-pub lower-read : (r : Bool) (a b x y : ℕ) → r ≡ lower a b → a ≡ x → b ≡ y → r ≡ lower x y
-lower-read r a b x y e f g = cc
-
-pub sum-read : (r a b x y : ℕ) → r ≡ sum a b → a ≡ x → b ≡ y → r ≡ sum x y
-sum-read r a b x y e f g = cc
-
-pub difference-read : (r a b x y : ℕ) → r ≡ difference a b → a ≡ x → b ≡ y → r ≡ difference x y
-difference-read r a b x y e f g = cc
-
-pub widened-read : (r a x : ℕ) → r ≡ widened a → a ≡ x → r ≡ widened x
-widened-read r a x e f = cc
-
-pub ruleset number-reads = (lower-read, sum-read, difference-read, widened-read)

@@ -10,5 +10,5 @@ make-call-spec =
     (λ c κs. search needs)
     (λ c κs. search needs)
     (λ c. (search calls-made, search calls-counted))
-    (λ c κs. search needs)
+    (λ c κs. (search needs, (search needs, (search needs, search))))
     (λ c. search needs))

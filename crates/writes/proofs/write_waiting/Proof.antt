@@ -1,13 +1,12 @@
-use Rattle.rules.specs.Moves.{waitingRow}
+use Rattle.writes.specs.Rows.Laws.{waiting-written}
 use borrow.Author.Needs.{needs}
 use Rattle.writes.proofs.write_waiting.Statement.{statement}
 use Rattle.writes.proofs.write_waiting.Tie as tie
 
 pub write-waiting-spec : {M : Type 1} → statement M
-unfolding waitingRow
 write-waiting-spec =
     tie.close
     (tie.spec
     (λ c κs. search needs)
     (λ c κs. search needs)
-    (λ c. cc))
+    (λ c. search waiting-written))

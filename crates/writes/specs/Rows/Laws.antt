@@ -11,14 +11,14 @@ use Rattle.numbers.specs.Laid.{laid}
 use Rattle.numbers.specs.Laid.Laws.{laid-none, laid-all, laid-put}
 use Rattle.numbers.specs.Search.{tabulate}
 use Rattle.numbers.specs.Search.Laws.{getD-tabulate, length-tabulate}
-use Rattle.state.specs.State.{State, stateOf, thread, slotOf, slotsOf, stateWords, rowSlots, withThread}
+use Rattle.state.specs.State.{State, stateOf, thread, standsAt, slotOf, slotsOf, stateWords, rowSlots, withThread}
 use Rattle.state.specs.State.Laws.{length-threads, length-thread, thread-same, thread-twice}
 use Rattle.numbers.specs.Rows.{at}
 use Rattle.table.specs.Table.{Table}
 use Rattle.table.specs.Layout.{start}
 use Rattle.table.specs.declared.Part.the-variants.{Nodes}
 use Rattle.rules.specs.Start.{entered}
-use Rattle.rules.specs.Moves.{stored}
+use Rattle.rules.specs.Moves.{waitingRow, stored}
 use Rattle.writes.specs.Rows.{reslotted, refilled, entryAt, portAt}
 
 -- ---- two words at the head of a row
@@ -35,6 +35,12 @@ module _ (b b₁ : List ℕ) (t v n : ℕ) (s₂ : State) where
       let r = set (thread (stateOf b) t) 0 v in
       let g : thread (stateOf b₁) t ≡ r = ap (λ (s : State). thread s t) f ∙ thread-same (stateOf b) t r (omega (arith, length-threads b)) in
       e ∙ rw (g, f, thread-twice (stateOf b) t r (set r 1 n), two-words (thread (stateOf b) t) v n (omega (arith, length-thread b l t h)))
+
+-- a thread that waits where it stands: h is its status and n its node
+pub waiting-written : (s s₁ : State) (t h n : ℕ) → s₁ ≡ withThread s t (h ∷ n ∷ slotsOf (thread s t)) → h ≡ 2 → n ≡ standsAt (thread s t)
+    → s₁ ≡ withThread s t (waitingRow (thread s t))
+unfolding waitingRow
+waiting-written s s₁ t h n e f g = e ∙ rw (f, g)
 
 -- ---- the slots of a row, one after the other
 
