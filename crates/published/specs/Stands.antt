@@ -3,12 +3,13 @@
 use Prim.Native.Nat.{ℕ, zero, suc, _+_}
 use native.Mathlib.Omega.{arith}
 use mathlib.Core.Path.{_≡_, refl, sym, _∙_, ap}
-use mathlib.Core.Logic.{_⊎_, inl, inr, ⊎-elim, _≢_}
+use mathlib.Core.Logic.{_⊎_, inl, inr, _≢_}
 use mathlib.Core.Bool.{Bool, true, false}
 use mathlib.Core.List.{List, [], _∷_}
+use mathlib.Core.Option.{some}
 use Rattle.numbers.specs.Search.Laws.{contra}
 use Rattle.published.specs.Syntax.{always, Process, end, choice, invoke, Sum, nothing, branch, wait, Prefix, tau, output, input, newChannel, newThread, assign, andWait}
-use Rattle.published.specs.Agents.{_∈_, Env, holds, Commitment, gives, takes, Thread, thread, Channels, Agent, agent}
+use Rattle.published.specs.Agents.{_∈_, channel, number, Env, bind, holds, Commitment, takes, Thread, thread, Channels, Agent, agent}
 use Rattle.published.specs.Rules.{Acts, step, new, spawn, next, call, inert, send, out, recv, inn, more, Ours, skip, assigns, zeros, stays, Run, last, pass}
 use Rattle.published.specs.Fired.{Rule, by-inert, by-call, by-step, by-new, by-spawn, by-send, by-recv, by-passing, by-assigns, by-zeros, Fired, fired, behind, Labels, ours-fire, firing, Ends, SteppedBy, Had, Turns, none-had, had}
 use Rattle.published.specs.Bindings.{clash}
@@ -245,6 +246,33 @@ module _ (def : ℕ → Process) (forNumbers : ℕ → ℕ → Bool) where
   pub twofold-not-sent : {A B : Agent} (δ : Env) (u : Thread) (k : Commitment)
       → SteppedBy def (Ours def forNumbers) (ours-fire def forNumbers) A (twofold δ) (fired 1 (by-send u k)) B → ⊥
   twofold-not-sent δ u k h = let (e, q) = twofold-only δ (fired 1 (by-send u k)) h (λ z. clash cc) in let z : ⊥ = omega arith in z
+
+  -- ---- another: [true] c!v, end beside a thread that waits to receive on c; variables 0 and 1 of the sender are c and v
+
+  abbrev sender : Thread
+  sender = thread [] (some (channel 0) ∷ some (number 7) ∷ []) (choice (branch always (output 0 1) end nothing))
+
+  abbrev receiver : Thread
+  receiver = thread (takes 0 0 end ∷ []) [] (choice (wait nothing))
+
+  pub sender-meets : (Δ : Channels)
+      → SteppedBy def (Ours def forNumbers) (ours-fire def forNumbers) (agent Δ (sender ∷ receiver ∷ [])) sender (fired 0 (by-send receiver (takes 0 0 end)))
+      (agent Δ (thread [] (some (channel 0) ∷ some (number 7) ∷ []) end ∷ thread [] (some (number 7) ∷ []) end ∷ []))
+  unfolding holds bind firing Ends
+  sender-meets Δ = record {
+    stepped = record {
+      between = agent Δ (thread [] (some (channel 0) ∷ some (number 7) ∷ []) end ∷ thread [] (some (number 7) ∷ []) end ∷ []);
+      turn = record {
+        others = receiver ∷ [];
+        brought = same-order (sender ∷ receiver ∷ []);
+        product = thread [] (some (channel 0) ∷ some (number 7) ∷ []) end ∷ thread [] (some (number 7) ∷ []) end ∷ [];
+        run = last (send 0 0 (number 7) refl refl (inl refl) refl);
+        put-back = same-order (thread [] (some (channel 0) ∷ some (number 7) ∷ []) end ∷ thread [] (some (number 7) ∷ []) end ∷ []);
+      };
+      reclaimed = stays;
+    };
+    ends = refl;
+  }
 
   -- a thread without commitments is never met
   pub bare-not-met : {A B : Agent} {t : Thread} (i : ℕ) (δ : Env) (P : Process) (k : Commitment)

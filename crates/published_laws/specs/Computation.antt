@@ -105,7 +105,7 @@ module _ (table : List ℕ) (ok : accepted table ≡ true) (fit : (i : ℕ) → 
         h,
         turns-reach (bodyOf tb) (OurRules tb) (OurLabels tb)
             (run-call-reduced table ok fit state sb (benchAt o E′) (bench-is tb o (own-refers o h) E′ w) n (courseOf tb n (view state) .steps)
-            (courseOf tb n (view state) .reason) (run-done table ok fit state sb (benchAt o E′) (bench-is tb o (own-refers o h) E′ w) n)),
+            (courseOf tb n (view state) .reason) (run-done table ok fit state sb n)),
       );
     }
 
@@ -213,7 +213,7 @@ module _ (table : List ℕ) (ok : accepted table ≡ true) (fit : (i : ℕ) → 
   unfolding accepted
   right-lengths state long = (eqb-true (length table) tableLength (and-left _ _ ok), long)
 
-  start-view : (state : List ℕ) → length state ≡ stateLength → view (startCall table state .state) ≡ started tb
+  pub start-view : (state : List ℕ) → length state ≡ stateLength → view (startCall table state .state) ≡ started (tableOf table)
   unfolding startCall startBy
   start-view state long =
       let shaped = started-sound tb (granted table ok fit) .orderly .shaped in

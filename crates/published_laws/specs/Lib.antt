@@ -28,3 +28,4 @@ pub mod Wholly
 pub mod Benches
 pub mod Starting
 pub mod Computation
+pub mod Instance

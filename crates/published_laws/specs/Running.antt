@@ -97,6 +97,20 @@ module _ (table : List ℕ) (ok : accepted table ≡ true) (fit : (i : ℕ) → 
   sound : Sound tb (view state)
   sound = view-sound table state sb
 
+  -- ---- the bytes that a run leaves, and its answer: it is done
+
+  pub run-view : (n : ℕ) → view (runCall table state n .state) ≡ courseOf (tableOf table) n (view state) .state
+  unfolding runCall runBy
+  run-view n =
+      let after = courseOf tb n (view state) .state in
+      rw (admitted table ok state sb, view-bytes after (course-kept tb g n (view state) sound .orderly .shaped))
+
+  pub run-done : (n : ℕ)
+      → runCall table state n .answer
+      ≡ Ran.Done (courseOf (tableOf table) n (view state) .steps) (courseOf (tableOf table) n (view state) .reason)
+  unfolding runCall runBy
+  run-done n = rw (admitted table ok state sb)
+
   module _ (b : Thread) (bn : Bench (tableOf table) b) where
     -- thread t's step, to the bytes `later`: a turn of it, which ends with a rule that the answer d tells
     abbrev pub StepBy : ℕ → Deed → List ℕ → Type 0
@@ -133,19 +147,6 @@ module _ (table : List ℕ) (ok : accepted table ≡ true) (fit : (i : ℕ) → 
         (λ y. clash (let q = rw (ad, y) at e in cc))
 
     -- ---- a run
-
-    run-view : (n : ℕ) → view (runCall table state n .state) ≡ courseOf tb n (view state) .state
-    unfolding runCall runBy
-    run-view n =
-        let after = courseOf tb n (view state) .state in
-        rw (admitted table ok state sb, view-bytes after (course-kept tb g n (view state) sound .orderly .shaped))
-
-    -- it is answered as done
-    pub run-done : (n : ℕ)
-        → runCall table state n .answer
-        ≡ Ran.Done (courseOf (tableOf table) n (view state) .steps) (courseOf (tableOf table) n (view state) .reason)
-    unfolding runCall runBy
-    run-done n = rw (admitted table ok state sb)
 
     -- a run that is answered with k steps is k turns; each is of the thread that is the first ready, from the turn on, in the bytes that a run of so many steps
     -- as were made before leaves

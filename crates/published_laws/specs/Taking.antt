@@ -14,7 +14,7 @@ use Rattle.numbers.specs.Search.{sumTo}
 use Rattle.numbers.specs.Search.Laws.{caseB, contra}
 use Rattle.table.specs.Table.{Table, tableOf}
 use Rattle.loader.specs.Load.{accepted}
-use Rattle.state.specs.State.{maxThreads, view, thread, inUse}
+use Rattle.state.specs.State.{State, maxThreads, view, thread, inUse}
 use Rattle.granted.specs.Granted.{Granted}
 use Rattle.granted.specs.Accepted.{granted}
 use Rattle.engine_laws.specs.Sound.{Sound}
@@ -32,6 +32,10 @@ use Rattle.published_laws.specs.Standing.{threadOf, agentOf}
 use Rattle.published_laws.specs.Products.{Bench}
 use Rattle.published_laws.specs.Places.{rank, rank-nth}
 use Rattle.published_laws.specs.Collecting.{taken-disabled}
+
+-- the place of row t's thread among those of the agent: the bench comes first, and then the rows in use in their order
+abbrev pub placeIn : State → ℕ → ℕ
+placeIn s t = suc (rank (s .threads) t)
 
 same-number : (n m : ℕ) → Collected.Done n ≡ Collected.Done m → n ≡ m
 same-number n m e = cc
@@ -60,17 +64,13 @@ module _ (table : List ℕ) (ok : accepted table ≡ true) (fit : (i : ℕ) → 
   unfolding takenThread
   taken-row t u = taken-is table ok fit state sb t ∙ rw (lt-ltb t maxThreads (in-range t u))
 
-  -- the place of row t's thread among those of the agent: the bench comes first, and then the rows in use in their order
-  abbrev pub placeIn : ℕ → ℕ
-  placeIn t = suc (rank (view state .threads) t)
-
   module _ (b : Thread) (bn : Bench (tableOf table) b) (t : ℕ) (u : inUse (thread (view state) t) ≡ true) where
-    pub place-thread : nth (agentOf (tableOf table) b (view state) .threads) (placeIn t) ≡ threadOf (tableOf table) (thread (view state) t)
+    pub place-thread : nth (agentOf (tableOf table) b (view state) .threads) (placeIn (view state) t) ≡ threadOf (tableOf table) (thread (view state) t)
     unfolding agentOf
     place-thread = rank-nth tb (view state .threads) t (rw (sound .orderly .shaped .all-threads) (in-range t u)) u
 
     -- a thread in use is taken exactly when 002 calls it disabled
-    pub taken-iff-disabled : (takenBy table state t ≡ true) ↔ Disabled (agentOf (tableOf table) b (view state) .threads) (placeIn t)
+    pub taken-iff-disabled : (takenBy table state t ≡ true) ↔ Disabled (agentOf (tableOf table) b (view state) .threads) (placeIn (view state) t)
     unfolding agentOf
     taken-iff-disabled =
         let l = in-range t u in
