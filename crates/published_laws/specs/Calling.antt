@@ -214,7 +214,7 @@ module _ (tb : Table) (g : Granted tb) (rd : Readable tb) (s : State) (o : Order
         (λ z. rw (given-value x (ltb-true x (parameters tb d) z)) (zeroed-some (forNumbers tb d x) (valueFor x)))
         (λ z. rw (no-numbers x (ltb-false x (parameters tb d) z)))
 
-    as-given : envOf tb after ≡ map some values
+    pub as-given : envOf tb after ≡ map some values
     unfolding envOf
     as-given =
         trimmed-same (tabulate rowSlots (slotValue tb after)) (map some values)

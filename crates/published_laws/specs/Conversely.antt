@@ -36,7 +36,7 @@ use Rattle.engine_laws.specs.Kept.{written-orderly}
 use Rattle.published.specs.Syntax as Syntax
 use Rattle.published.specs.Syntax.{Process, Sum, waits}
 use Rattle.published.specs.Agents as Agents
-use Rattle.published.specs.Agents.{_∈_, look, Commitment, Thread, Channels, Agent, agent}
+use Rattle.published.specs.Agents.{_∈_, Value, look, Commitment, Thread, Channels, Agent, agent}
 use Rattle.published.specs.Rules.{Rearranged, same-first, twice, Many, Reclaims, Nothing}
 use Rattle.published.specs.Lists.{same-order, in-rearranged, turned-back}
 use Rattle.published.specs.Fired.{nothing-fires}
@@ -51,9 +51,9 @@ use Rattle.published_laws.specs.Commitments.{pledge}
 use Rattle.published_laws.specs.Passing.{Passed, closed, unmet, passed, others, channel-is}
 use Rattle.published_laws.specs.Afterwards.{tau-thread, created-thread, next-thread, child-thread, gave-thread, received-thread}
 use Rattle.published_laws.specs.Alone.{own-first, new-first, at-choice, at-call, at-end, wait-thread, channels-with}
-use Rattle.published_laws.specs.Calling.{after, values, evaluated, entered-zeros, after-thread, after-used}
+use Rattle.published_laws.specs.Calling.{after, values, evaluated, entered-zeros, after-thread, after-used, as-given}
 use Rattle.published_laws.specs.Together.{met-commits, given-value, family-first, mate-second, both-first}
-use Rattle.published_laws.specs.Stepping.{Allowed}
+use Rattle.published_laws.specs.Stepping.{Allowed, Plain}
 use Rattle.published_laws.specs.PassedOver.{nextBy, acts-by, rests, ahead-of}
 
 -- ---- the branches before the one that the engine takes
@@ -113,17 +113,18 @@ module _ (tb : Table) (s : State) (t : ℕ) where
 
 -- ---- the ends
 
--- the moves with which 002 leaves nothing open: an end, a branch taken alone, a new thread
-unfoldable pub Settled : Move → Type 0
-Settled Ends = Unit {0}
-Settled Calls = ⊥
-Settled Waits = ⊥
-Settled (Goes i) = Unit {0}
-Settled (Creates i c) = ⊥
-Settled (Spawns i u) = Unit {0}
-Settled (Meets i u j) = ⊥
-Settled LacksThread = ⊥
-Settled LacksChannel = ⊥
+-- the moves with which 002 leaves nothing open, and to which document 01 adds nothing: an end, a call of a definition without numbers besides its parameters, a
+-- wait with no guard that is false, a branch taken alone, a new thread
+unfoldable pub Settled : Table → List ℕ → Move → Type 0
+Settled tb row Ends = Unit {0}
+Settled tb row Calls = Plain tb row Calls
+Settled tb row Waits = Plain tb row Waits
+Settled tb row (Goes i) = Unit {0}
+Settled tb row (Creates i c) = ⊥
+Settled tb row (Spawns i u) = Unit {0}
+Settled tb row (Meets i u j) = ⊥
+Settled tb row LacksThread = ⊥
+Settled tb row LacksChannel = ⊥
 
 module _ (tb : Table) (g : Granted tb) (rd : Readable tb) (s : State) (o : Orderly tb s) (t : ℕ) (l : t < maxThreads) (ready : isReady (thread s t) ≡ true)
     (b : Thread) (bn : Bench tb b) (T : Agent) (h : WholeTurn (bodyOf tb) (agentOf tb b s) (readyThread tb (thread s t)) T) where
@@ -176,35 +177,74 @@ module _ (tb : Table) (g : Granted tb) (rd : Readable tb) (s : State) (o : Order
       (whole-of (bodyOf tb) (rw (at-end tb g rd s o t l ready b bn m n) at turn))
 
   -- (call)
-  calls-so : kindOf tb (standsAt (thread s t)) ≡ 2 → EndsLike Calls
-  unfolding Of ByProcess agentOf written withThread channelsOf readyThread
-  calls-so kind =
-      let row = after tb g rd s o t l ready b bn kind in
-      ⊎-elim
-      (λ (ws, e, q). let z : map some ws ≡ map some (values tb g rd s o t l ready b bn kind) = sym e ∙ evaluated tb g rd s o t l ready b bn kind in
-      from-zero (h .others) (callee tb (standsAt (thread s t))) _ (values tb g rd s o t l ready b bn kind) (envOf tb row)
-      (h .brought) (ap (λ (x : Thread). x .process) (at-call tb g rd s o t l ready b bn kind))
-      (evaluated tb g rd s o t l ready b bn kind) (entered-zeros tb g rd s o t l ready b bn kind)
-      (is-end _ _ (rw z at q))
-      (refl, own-row row (after-used tb g rd s o t l ready b bn kind) _ (after-thread tb g rd s o t l ready b bn kind)))
-      (λ (U, x, y). absurd x)
-      (whole-of (bodyOf tb) (rw (at-call tb g rd s o t l ready b bn kind) at turn))
+  module _ (kind : kindOf tb (standsAt (thread s t)) ≡ 2) where
+    abbrev called : List ℕ
+    called = after tb g rd s o t l ready b bn kind
+
+    abbrev ws : List Value
+    ws = values tb g rd s o t l ready b bn kind
+
+    by-call : Is T (channelsOf s) (Agents.thread [] (map some ws) (bodyOf tb (callee tb (standsAt (thread s t)))) ∷ h .others)
+    unfolding Of ByProcess
+    by-call =
+        ⊎-elim
+        (λ (vs, e, q). let z : map some vs ≡ map some ws = sym e ∙ evaluated tb g rd s o t l ready b bn kind in is-end _ _ (rw z at q))
+        (λ (U, x, y). absurd x)
+        (whole-of (bodyOf tb) (rw (at-call tb g rd s o t l ready b bn kind) at turn))
+
+    called-first : Rearranged (Agents.thread [] (envOf tb called) (bodyOf tb (callee tb (standsAt (thread s t)))) ∷ h .others)
+        (b ∷ threadsOf tb (set (s .threads) t called))
+    called-first = own-row called (after-used tb g rd s o t l ready b bn kind) _ (after-thread tb g rd s o t l ready b bn kind)
+
+    calls-like : EndsLike Calls
+    unfolding agentOf written withThread channelsOf readyThread
+    calls-like =
+        from-zero (h .others) (callee tb (standsAt (thread s t))) _ ws (envOf tb called) (h .brought)
+        (ap (λ (x : Thread). x .process) (at-call tb g rd s o t l ready b bn kind))
+        (evaluated tb g rd s o t l ready b bn kind) (entered-zeros tb g rd s o t l ready b bn kind) by-call (refl, called-first)
+
+    -- without numbers besides the parameters
+    calls-so : Plain tb (thread s t) Calls → EndsSo Calls
+    unfolding Plain agentOf written withThread channelsOf
+    calls-so z =
+        let (c, p) = by-call in
+        (c, twice (turned-back (rw (as-given tb g rd s o t l ready b bn kind z) at called-first)) p)
 
   -- ---- at a choice
 
   module _ (kind : kindOf tb (standsAt (thread s t)) ≡ 1) where
     -- (out) and (in) to the last branch
-    waits-so : (n : ℕ) → branchCount tb (standsAt (thread s t)) ≡ suc n → ((j : ℕ) → j < branchCount tb (standsAt (thread s t)) → Passed tb s t j)
-        → EndsLike Waits
-    unfolding agentOf written withThread channelsOf waits readyThread
-    waits-so n c all =
-        let row = thread s t in
-        let w = rw (at-choice tb g rd s o t l ready b bn kind, c) at turn in
-        let a = ahead-of tb g rd s o t l ready b bn (h .others) among [] _ (agent (T .channels) (h .product)) w in
-        let (w′, q) = rests tb g rd s o t l ready b bn (h .others) among all n 0 (omega (arith, c)) [] 0 (agent (T .channels) (h .product)) a in
-        other-waits (h .others) (commitmentsFrom tb row 0 (suc n)) w′ n (h .brought)
-        (is-end (channelsOf s) (Agents.thread (commitmentsFrom tb row 0 (suc n)) (envOf tb row) (Syntax.choice (waits (suc w′))) ∷ h .others) q)
-        (refl, own-row (waitingRow row) (waiting-used (waitingRow row) (waiting-waits row)) _ (rw c at (wait-thread tb g rd s o t l ready b bn)))
+    module _ (n : ℕ) (c : branchCount tb (standsAt (thread s t)) ≡ suc n)
+        (all : (j : ℕ) → j < branchCount tb (standsAt (thread s t)) → Passed tb s t j) where
+      abbrev resting : ℕ → Thread
+      resting w = Agents.thread (commitmentsFrom tb (thread s t) 0 (suc n)) (envOf tb (thread s t)) (Syntax.choice (waits (suc w)))
+
+      by-waits : (w : ℕ) × Is T (channelsOf s) (resting w ∷ h .others) × (Plain tb (thread s t) Waits → w ≡ n)
+      unfolding Plain waits
+      by-waits =
+          let w = rw (at-choice tb g rd s o t l ready b bn kind, c) at turn in
+          let a = ahead-of tb g rd s o t l ready b bn (h .others) among [] _ (agent (T .channels) (h .product)) w in
+          let (w′, q, f) = rests tb g rd s o t l ready b bn (h .others) among all n 0 (omega (arith, c)) [] 0 (agent (T .channels) (h .product)) a in
+          (w′, is-end (channelsOf s) (resting w′ ∷ h .others) q, λ z. let e = f z in omega arith)
+
+      resting-first : Rearranged (resting n ∷ h .others) (b ∷ threadsOf tb (set (s .threads) t (waitingRow (thread s t))))
+      resting-first =
+          let row = waitingRow (thread s t) in
+          own-row row (waiting-used row (waiting-waits (thread s t))) _ (rw c at (wait-thread tb g rd s o t l ready b bn))
+
+      waits-like : EndsLike Waits
+      unfolding agentOf written withThread channelsOf readyThread
+      waits-like =
+          let (w, e, f) = by-waits in
+          other-waits (h .others) (commitmentsFrom tb (thread s t) 0 (suc n)) w n (h .brought) e (refl, resting-first)
+
+      -- with no guard that is false
+      waits-so : Plain tb (thread s t) Waits → EndsSo Waits
+      unfolding agentOf written withThread channelsOf
+      waits-so z =
+          let (w, (d, p), f) = by-waits in
+          let e : w ≡ n = f z in
+          (d, twice (turned-back resting-first) (rw e at p))
 
     -- branch k is the first that goes ahead
     module _ (k : ℕ) (before-it : (j : ℕ) → j < k → Passed tb s t j) where
@@ -238,9 +278,9 @@ module _ (tb : Table) (g : Granted tb) (rd : Readable tb) (s : State) (o : Order
       assignment-so x = absurd (by-action Assignment x (λ Γ Q U y. y))
 
       -- (new)
-      creation-so : (c : ℕ) → Creating tb s t k c → EndsLike (Creates k c)
+      creation-like : (c : ℕ) → Creating tb s t k c → EndsLike (Creates k c)
       unfolding ByAction ByCommitment prefixOf agentOf written withMark typed withThread withChannel channelsOf readyThread
-      creation-so c x =
+      creation-like c x =
           let row = thread s t in
           let (ĉ, f, q) = by-action New (x .takes) (λ Γ Q U y. y) in
           let free : channelsOf s c ≡ false = rw (x .untyped) in
@@ -325,9 +365,9 @@ module _ (tb : Table) (g : Granted tb) (rd : Readable tb) (s : State) (o : Order
               other-taker v (waitingThread tb (thread s u)) C apart (nextBy tb g rd s o t l ready b bn k) (channelBy tb s t k) y slot′ R next′ w′ p two-first
               (rw c at i) mate-takes (is-end _ _ (rw f at z)) (refl, turned-back both)
 
-          gives-so : EndsLike (Meets k u j)
+          gives-like : EndsLike (Meets k u j)
           unfolding ByAction ByCommitment prefixOf agentOf
-          gives-so =
+          gives-like =
               send-like (h .others) (h .brought)
               (by-action (Meeting Out) (record { at-choice = kind; branch-in = x .branch-in; passes = x .passes; does = does })
               (λ Γ Q U (ĉ, q, f, z). let c : ĉ ≡ channelBy tb s t k = same-as Out does ĉ q in
@@ -358,26 +398,29 @@ module _ (tb : Table) (g : Granted tb) (rd : Readable tb) (s : State) (o : Order
               (fieldB tb (branchAt tb (standsAt (thread s t)) k)) y slot′ R next′ w w′ p two-first (rw c at i) mate-gives e has
               (is-end _ _ z) (refl, turned-back both)
 
-          receives-so : EndsLike (Meets k u j)
+          receives-like : EndsLike (Meets k u j)
           unfolding ByAction ByCommitment prefixOf agentOf
-          receives-so =
+          receives-like =
               receive-like (h .others) (h .brought)
               (by-action (Meeting In) (record { at-choice = kind; branch-in = x .branch-in; passes = x .passes; does = does })
               (λ Γ Q U (ĉ, q, f, z). let c : ĉ ≡ channelBy tb s t k = same-as In does ĉ q in
               f (waitingThread tb (thread s u)) mate-there slot′ next′ (rw c mate-gives)))
 
-        meeting-so : (e : Direction) → e ≡ d → EndsLike (Meets k u j)
+        meeting-like : (e : Direction) → e ≡ d → EndsLike (Meets k u j)
         unfolding opposite
-        meeting-so Out z = gives-so (x .does ∙ ap Meeting (sym z)) (a .does ∙ ap (λ y. Meeting (opposite y)) (sym z)) (ap opposite (sym z))
-        meeting-so In z = receives-so (x .does ∙ ap Meeting (sym z)) (a .does ∙ ap (λ y. Meeting (opposite y)) (sym z)) (ap opposite (sym z))
+        meeting-like Out z = gives-like (x .does ∙ ap Meeting (sym z)) (a .does ∙ ap (λ y. Meeting (opposite y)) (sym z)) (ap opposite (sym z))
+        meeting-like In z = receives-like (x .does ∙ ap Meeting (sym z)) (a .does ∙ ap (λ y. Meeting (opposite y)) (sym z)) (ap opposite (sym z))
 
   -- ---- by the move that the engine makes
 
-  settled-so : (m : Move) → Chosen tb s t m → Before tb s t m → Settled m → EndsSo m
+  some-branch : kindOf tb (standsAt (thread s t)) ≡ 1 → branchCount tb (standsAt (thread s t)) ≡ suc (branchCount tb (standsAt (thread s t)) - 1)
+  some-branch kind = let x = rd .some-branch (standsAt (thread s t)) (sound .node-in used) kind in omega arith
+
+  settled-so : (m : Move) → Chosen tb s t m → Before tb s t m → Settled tb (thread s t) m → EndsSo m
   unfolding Chosen Before Settled
   settled-so Ends (m, n) p z = ends-so m n
-  settled-so Calls c p z = absurd z
-  settled-so Waits c p z = absurd z
+  settled-so Calls c p z = calls-so c z
+  settled-so Waits c p z = waits-so (c .at-choice) _ (some-branch (c .at-choice)) (all-passed tb s t c) z
   settled-so (Goes i) (inl c) p z = tau-so (c .at-choice) i p c
   settled-so (Goes i) (inr c) p z = assignment-so (c .at-choice) i p c
   settled-so (Creates i k) c p z = absurd z
@@ -389,15 +432,12 @@ module _ (tb : Table) (g : Granted tb) (rd : Readable tb) (s : State) (o : Order
   ends-like : (m : Move) → Chosen tb s t m → Before tb s t m → Allowed m → EndsLike m
   unfolding Chosen Before Allowed Settled
   ends-like Ends c p z = as-like Ends (settled-so Ends c p tt)
-  ends-like Calls c p z = calls-so c
-  ends-like Waits c p z =
-      let n = branchCount tb (standsAt (thread s t)) in
-      let some-branch = rd .some-branch (standsAt (thread s t)) (sound .node-in used) (c .at-choice) in
-      waits-so (c .at-choice) (n - 1) (omega (arith, some-branch)) (all-passed tb s t c)
+  ends-like Calls c p z = calls-like c
+  ends-like Waits c p z = waits-like (c .at-choice) _ (some-branch (c .at-choice)) (all-passed tb s t c)
   ends-like (Goes i) c p z = as-like (Goes i) (settled-so (Goes i) c p tt)
-  ends-like (Creates i k) c p z = creation-so (c .takes .at-choice) i p k c
+  ends-like (Creates i k) c p z = creation-like (c .takes .at-choice) i p k c
   ends-like (Spawns i u) c p z = as-like (Spawns i u) (settled-so (Spawns i u) c p tt)
-  ends-like (Meets i u j) c p z = meeting-so (c .takes .at-choice) i p u j (c .direction) (c .takes) (c .partner) (c .direction) refl
+  ends-like (Meets i u j) c p z = meeting-like (c .takes .at-choice) i p u j (c .direction) (c .takes) (c .partner) (c .direction) refl
   ends-like LacksThread c p z = absurd z
   ends-like LacksChannel c p z = absurd z
 
@@ -413,7 +453,7 @@ module _ (tb : Table) (g : Granted tb) (rd : Readable tb) (s : State) (ok : Soun
       rw e (ends-like tb g rd s (ok .orderly) t l ready b bn T (rw e at h) (move tb s t) (chosen tb s t) (before tb s t) z)
 
   -- where 002 leaves nothing open it is that agent itself, its threads in some order
-  pub turn-exactly : Settled (move tb s t) → (T : Agent) → WholeTurn (bodyOf tb) (agentOf tb b s) (threadOf tb (thread s t)) T
+  pub turn-exactly : Settled tb (thread s t) (move tb s t) → (T : Agent) → WholeTurn (bodyOf tb) (agentOf tb b s) (threadOf tb (thread s t)) T
       → Is T (agentOf tb b (written tb s t (move tb s t)) .channels) (agentOf tb b (written tb s t (move tb s t)) .threads)
   turn-exactly z T h =
       settled-so tb g rd s (ok .orderly) t l ready b bn T (rw (ready-thread tb (thread s t) ready) at h) (move tb s t) (chosen tb s t) (before tb s t) z

@@ -132,18 +132,20 @@ module _ (tb : Table) (g : Granted tb) (rd : Readable tb) (s : State) (o : Order
         cond (guardHolds tb (branchAt tb (standsAt (thread s t)) i) (thread s t))
         (committed tb (thread s t) (branchAt tb (standsAt (thread s t)) i) (actOf tb (branchAt tb (standsAt (thread s t)) i))) []
 
-    -- past a branch that does not go ahead, where there are branches behind it
+    -- past a branch that does not go ahead, where there are branches behind it; there is one wait more if its guard is true
     past : (i : ℕ) → Passed tb s t i → i < branchCount tb (standsAt (thread s t)) → (Γ : List Commitment) (w m : ℕ) (T : Agent)
         → Ahead Γ (tip tb g rd s o t l ready b bn i (sumBefore tb (processAt tb) (waits w) (standsAt (thread s t)) (suc i) (suc m))) T
         → (w′ : ℕ) × Ahead (Γ ++ leftBy i) (sumBefore tb (processAt tb) (waits w′) (standsAt (thread s t)) (suc i) (suc m)) T
+        × (guardHolds tb (branchAt tb (standsAt (thread s t)) i) (thread s t) ≡ true → w′ ≡ suc w)
     unfolding Onward
     past i p h Γ w m T (inl a) =
         let Q = sumBefore tb (processAt tb) (waits w) (standsAt (thread s t)) (suc i) (suc m) in
-        ⊎-elim (λ (f, x). (w, rw (f, append-nil Γ) (inl x))) (λ (f, e, x). contra e refl) (passes-over i p h false Γ Q T a)
+        ⊎-elim (λ (f, x). (w, rw (f, append-nil Γ) (inl x), λ y. contra y f)) (λ (f, e, x). contra e refl) (passes-over i p h false Γ Q T a)
     past i p h Γ w m T (inr (U, a, v)) =
         let Q = sumBefore tb (processAt tb) (waits w) (standsAt (thread s t)) (suc i) (suc m) in
-        ⊎-elim (λ (f, x). (w, rw (f, append-nil Γ) (inr (U, x, v))))
-        (λ (f, e, x). (suc w, rw f (rw (one-more-wait w) at (goes-on (Γ ++ committed tb (thread s t) (row i) (actOf tb (row i))) (waits w) (suc i) m T (rw x at v)))))
+        let Γ′ = Γ ++ committed tb (thread s t) (row i) (actOf tb (row i)) in
+        ⊎-elim (λ (f, x). (w, rw (f, append-nil Γ) (inr (U, x, v)), λ y. contra y f))
+        (λ (f, e, x). (suc w, rw f (rw (one-more-wait w) at (goes-on Γ′ (waits w) (suc i) m T (rw x at v))), λ y. refl))
         (passes-over i p h true Γ Q U a)
 
     -- ---- where branch k is the first that goes ahead, the turn ends by its action
@@ -169,7 +171,7 @@ module _ (tb : Table) (g : Granted tb) (rd : Readable tb) (s : State) (o : Order
           let q : i ≡ k = omega arith in acts-there Γ (sumBefore tb (processAt tb) (waits w) (standsAt (thread s t)) (suc k) m) T (rw q at a)
       reaches (suc zero) (suc j) i z e c Γ w T a = absurd (omega arith)
       reaches (suc (suc m)) (suc j) i z e c Γ w T a =
-          let (w′, a′) = past i (before i (omega arith)) (omega arith) Γ w m T a in
+          let (w′, a′, y) = past i (before i (omega arith)) (omega arith) Γ w m T a in
           reaches (suc m) j (suc i) (omega arith) (omega arith) (omega arith) (Γ ++ leftBy i) w′ T a′
 
       pub acts-by : (T : Agent) → Whole (bodyOf tb) (agent (channelsOf s) (midway tb g rd s o t l ready b bn []
@@ -206,12 +208,17 @@ module _ (tb : Table) (g : Granted tb) (rd : Readable tb) (s : State) (o : Order
           (λ (f, e, x). rw f (stops (Γ ++ committed tb (thread s t) (row i) (actOf tb (row i))) w T (rw x at v)))
           (passes-over i (all i h) h true Γ (waits w) U a)
 
+      -- the branches from i on, one and m more; if all guards are true there is a wait for each of them
       pub rests : (m i : ℕ) → i + suc m ≡ branchCount tb (standsAt (thread s t)) → (Γ : List Commitment) (w : ℕ) (T : Agent)
           → Ahead Γ (sumBefore tb (processAt tb) (waits w) (standsAt (thread s t)) i (suc m)) T
           → (w′ : ℕ) × (T ≡ agent (channelsOf s) (midway tb g rd s o t l ready b bn (Γ ++ commitmentsFrom tb (thread s t) i (suc m)) (waits (suc w′)) ∷ B))
+          × (((j : ℕ) → j < branchCount tb (standsAt (thread s t)) → guardHolds tb (branchAt tb (standsAt (thread s t)) j) (thread s t) ≡ true) → w′ ≡ w + m)
       unfolding sumBefore tip commitmentsFrom
-      rests zero i e Γ w T a = (w, rw (append-nil (leftBy i)) (last-one i (omega arith) Γ w T a))
+      rests zero i e Γ w T a = (w, rw (append-nil (leftBy i)) (last-one i (omega arith) Γ w T a), λ y. omega arith)
       rests (suc m) i e Γ w T a =
-          let (w′, a′) = past i (all i (omega arith)) (omega arith) Γ w m T a in
-          let (w″, q) = rests m (suc i) (omega arith) (Γ ++ leftBy i) w′ T a′ in
-          (w″, rw (append-assoc Γ (leftBy i) (commitmentsFrom tb (thread s t) (suc i) (suc m))) at q)
+          let (w′, a′, f) = past i (all i (omega arith)) (omega arith) Γ w m T a in
+          let (w″, q, h) = rests m (suc i) (omega arith) (Γ ++ leftBy i) w′ T a′ in (
+            w″,
+            rw (append-assoc Γ (leftBy i) (commitmentsFrom tb (thread s t) (suc i) (suc m))) at q,
+            λ y. let x = h y in let z = f (y i (omega arith)) in omega arith,
+          )

@@ -1,5 +1,5 @@
--- Where 002's rules are enough for the engine's move, its turn is a whole turn; so `Conversely.antt` does not speak of nothing. Assumes nothing but what the table
--- grants.
+-- Where 002's rules are enough for the engine's move, its turn is a whole turn; so `Conversely.antt` does not speak of nothing. Assumes nothing but what the
+-- table grants.
 use Prim.Native.Nat.{ℕ, zero, suc, _+_, _-_, _<_}
 use native.Mathlib.Omega.{arith}
 use mathlib.Core.Path.{_≡_, refl}
