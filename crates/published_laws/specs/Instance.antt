@@ -17,13 +17,16 @@ use Rattle.loader.specs.Load.{tableLength, tableBytes, Outcome, outcome, loaded
 use Rattle.loader.specs.declared.Loaded.the-variants.{Done}
 use Rattle.loading.specs.Printed.{filledUp}
 use Rattle.loading.specs.Yields.{bytes-hold, file-shaped, sound-loads}
-use Rattle.state.specs.State.{State, stateLength, view, thread, inUse}
+use Rattle.state.specs.State.{State, stateLength, view, thread, inUse, isReady}
 use Rattle.rules.specs.Start.{started}
+use Rattle.rules.specs.Moves.{move, written}
 use Rattle.rules.specs.Calls.{startCall, nextReady, Course, courseOf, runCall}
+use Rattle.rules.specs.declared.Move.the-variants.{Creates}
 use Rattle.rules.specs.declared.Deed.the-variants.{Took, TookWith}
 use Rattle.rules.specs.declared.Reason.the-variants.{AllDone}
 use Rattle.rules.specs.declared.Ran.the-variants as Ran
-use Rattle.engine_laws.specs.Buffers.{SoundBuffer}
+use Rattle.granted.specs.Accepted.{granted}
+use Rattle.engine_laws.specs.Buffers.{SoundBuffer, view-sound}
 use Rattle.engine_laws.specs.Calls.{start-done, start-sound}
 use Rattle.engine_laws.specs.Lists.{run, after, after-sound}
 use Rattle.engine_laws.specs.Instance.{loaded-small, loaded-accepted}
@@ -39,12 +42,16 @@ use Rattle.published.specs.Agents.{refers, Thread}
 use Rattle.published.specs.Bindings.{clash}
 use Rattle.published.specs.Enabling.{Disabled}
 use Rattle.published.specs.Fired.{by-new, by-passing, fired, Turns}
-use Rattle.published_laws.specs.Standing.{bodyOf, agentOf, OurRules, OurLabels}
+use Rattle.published.specs.Whole.{WholeTurn}
+use Rattle.published_laws.specs.Readable.{readable}
+use Rattle.published_laws.specs.Standing.{bodyOf, threadOf, agentOf, OurRules, OurLabels}
 use Rattle.published_laws.specs.Products.{Bench}
 use Rattle.published_laws.specs.Firing.{firedBy, TellsWith, Tells, nextHad}
 use Rattle.published_laws.specs.Benches.{portsAnd, bench-is}
 use Rattle.published_laws.specs.Taking.{placeIn, taken-iff-disabled}
 use Rattle.published_laws.specs.Running.{run-view, run-done, run-call-reduced}
+use Rattle.published_laws.specs.Stepping.{Plain}
+use Rattle.published_laws.specs.Wholly.{turn-whole}
 use Rattle.published_laws.specs.Computation.{start-view}
 
 -- ---- the file of `guarantee/specs/Instance.antt`: thread 0 makes a channel, spawns thread 1, which receives on the channel, makes another channel in the
@@ -186,3 +193,16 @@ child-disabled =
 pub parent-enabled : Disabled (agentOf (tableOf table) idle (view worked) .threads) (placeIn (view worked) 0) → ⊥
 parent-enabled d =
     contra (taken-iff-disabled table table-accepted table-small worked worked-sound idle idle-bench 0 (rw worked-view (both-used .1)) .1 d) parent-left
+
+-- ---- the turn of thread 0 at the start, which makes a channel, is a whole turn: `Conversely.antt` speaks of it, and of those that give the channel another name
+
+at-start : (isReady (thread (started tb) 0) ≡ true) × (move tb (started tb) 0 ≡ Creates 0 1)
+unfolding collecting
+at-start = (refl, refl)
+
+pub first-whole : WholeTurn (bodyOf (tableOf table)) (agentOf (tableOf table) idle (view begun)) (threadOf (tableOf table) (thread (view begun) 0))
+    (agentOf (tableOf table) idle (written (tableOf table) (view begun) 0 (move (tableOf table) (view begun) 0)))
+unfolding Plain
+first-whole =
+    turn-whole (tableOf table) (granted table table-accepted table-small) (readable table table-accepted table-small) (view begun)
+    (view-sound table begun begun-sound) 0 (omega arith) (rw begun-view (at-start .0)) idle idle-bench (rw (table-holds, begun-view, at-start .1) tt)

@@ -25,6 +25,7 @@ pub mod Choosing
 pub mod PassedOver
 pub mod Conversely
 pub mod Wholly
+pub mod StepConversely
 pub mod Benches
 pub mod Starting
 pub mod Computation

@@ -53,7 +53,7 @@ use Rattle.published_laws.specs.Turning.{course-turns}
 use Rattle.published_laws.specs.Outside.{give-reduced, take-reduced}
 use Rattle.published_laws.specs.Collecting.{collection-reduced}
 
-done-allowed : (n : ℕ) (m : Move) (k : ℕ) (d : Deed) → stepAnswer n m ≡ Stepped.Done k d → Allowed m
+pub done-allowed : (n : ℕ) (m : Move) (k : ℕ) (d : Deed) → stepAnswer n m ≡ Stepped.Done k d → Allowed m
 unfolding stepAnswer Allowed
 done-allowed n Ends k d e = tt
 done-allowed n Calls k d e = tt
@@ -74,12 +74,12 @@ taken-who a u w b e = (cc, cc)
 ran-steps : (n k : ℕ) (r x : Reason) → Ran.Done n r ≡ Ran.Done k x → n ≡ k
 ran-steps n k r x e = cc
 
-end-answer : (a : Stepped) (state : List ℕ) (s : State) → stepEnd a state s .answer ≡ a
+pub end-answer : (a : Stepped) (state : List ℕ) (s : State) → stepEnd a state s .answer ≡ a
 unfolding stepEnd
 end-answer (Stepped.Done n d) state s = refl
 end-answer (Stepped.Refused r) state s = refl
 
-end-state : (a : Stepped) (k : ℕ) (d : Deed) → a ≡ Stepped.Done k d → (state : List ℕ) (s : State) → stepEnd a state s .state ≡ stateBytes s
+pub end-state : (a : Stepped) (k : ℕ) (d : Deed) → a ≡ Stepped.Done k d → (state : List ℕ) (s : State) → stepEnd a state s .state ≡ stateBytes s
 unfolding stepEnd
 end-state (Stepped.Done n e) k d q state s = refl
 end-state (Stepped.Refused r) k d q state s = clash cc
