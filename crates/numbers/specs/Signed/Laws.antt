@@ -6,9 +6,8 @@ use mathlib.Core.Path.{_≡_, refl, _∙_, ap}
 use lib.IntN.{ℤ, pos, negsuc, subℕ, _+ℤ_, _-ℤ_}
 use mir.Syntax.{w16, w32}
 use mir.Val.{Fits, SFits, toZ, ofZ}
-use mir.Facts.{ofZ-toZ, sfits-toZ}
 use borrow.Author.Tests.{le-ltb, lt-ltb}
-use Rattle.numbers.specs.Signed.{residue, wrap, sum, difference, widened}
+use Rattle.numbers.specs.Signed.{residue, sum, difference, widened}
 
 -- a pattern whose highest bit is set is that of a negative number
 pub toZ-high : (x : ℕ) → 2147483648 ≤ x → x < 4294967296 → toZ w32 x ≡ negsuc (4294967295 - x)
@@ -55,17 +54,6 @@ sum-below x y = omega arith
 pub difference-is : (x y r : ℕ) → Fits w32 y → Fits w32 r → (r + y) % 4294967296 ≡ x → r ≡ difference x y
 unfolding difference
 difference-is x y r f g e = omega arith
-
-module _ (x y : ℕ) (f : Fits w32 x) (g : Fits w32 y) where
-  -- the sum of two patterns is the pattern of the wrapped sum
-  pub sum-wraps : toZ w32 (sum x y) ≡ wrap (toZ w32 x +ℤ toZ w32 y)
-  unfolding sum
-  sum-wraps = rw (residue-add (toZ w32 x) (toZ w32 y) (sfits-toZ f) (sfits-toZ g), ofZ-toZ f, ofZ-toZ g)
-
-  -- and so for the difference
-  pub difference-wraps : toZ w32 (difference x y) ≡ wrap (toZ w32 x -ℤ toZ w32 y)
-  unfolding difference
-  difference-wraps = rw (residue-sub (toZ w32 x) (toZ w32 y) (sfits-toZ f) (sfits-toZ g), ofZ-toZ f, ofZ-toZ g)
 
 -- widening keeps the number
 pub widened-number : (v : ℕ) → v < 65536 → toZ w32 (widened v) ≡ toZ w16 v
