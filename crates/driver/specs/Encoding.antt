@@ -23,7 +23,7 @@ use Rattle.driver.specs.declared.Answer.{Answer}
 
 -- ---- calls
 
--- the bits of a word, and of the number of steps
+-- the lower 32 bits, which a word of a buffer has alone
 abbrev pub pattern : ℕ → ℕ
 pattern v = v % 4294967296
 

@@ -1,4 +1,4 @@
--- Where the theorems on 002's agents (`crates/published`) bite, and pairs that its relations exclude. Assumes nothing.
+-- Instances of the theorems on 002's agents (`crates/published`), and pairs that its relations exclude. Assumes nothing.
 use Prim.Native.Nat.{ℕ}
 use native.Mathlib.Omega.{arith}
 use mathlib.Core.Path.{_≡_, refl, sym, _∙_, ap}

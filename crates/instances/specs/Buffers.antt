@@ -1,4 +1,4 @@
--- Where the theorems on refusals (`engine_laws/specs/Entry.antt`, `Refusals.antt`) bite: a call that each of the grounds 8 to 12 refuses, and one that it does
+-- Instances of the theorems on refusals (`engine_laws/specs/Entry.antt`, `Refusals.antt`): a call that each of the grounds 8 to 12 refuses, and one that it does
 -- not. Assumes nothing.
 use Prim.Native.Nat.{ℕ, zero, suc, _<_, _≤_}
 use native.Mathlib.Omega.{arith}

@@ -1,4 +1,4 @@
--- Where the theorems on sound states and on collection (`crates/engine_laws`, `crates/collector_laws`) bite: threads that are enabled and that are not, series
+-- Instances of the theorems on sound states and on collection (`crates/engine_laws`, `crates/collector_laws`): threads that are enabled and that are not, series
 -- that there are and that there are not, sets that are sealed off and that are not, states that are sound and that are not. Assumes nothing.
 use Prim.Native.Nat.{ℕ}
 use native.Mathlib.Omega.{arith}

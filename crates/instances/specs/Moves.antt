@@ -1,4 +1,4 @@
--- Where the theorems on moves (`crates/engine_laws`) bite: a meeting that changes another row, a channel that is learnt, rows that are lacking, and states
+-- Instances of the theorems on moves (`crates/engine_laws`): a meeting that changes another row, a channel that is learnt, rows that are lacking, and states
 -- that are sound and that are not. Assumes nothing.
 use Prim.Native.Nat.{ℕ}
 use native.Mathlib.Omega.{arith}

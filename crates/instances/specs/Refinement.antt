@@ -1,4 +1,4 @@
--- Where the theorems that tie states to 002's agents (`crates/published_laws`) bite: threads that are a bench and that are not, an agent that no series of
+-- Instances of the theorems that tie states to 002's agents (`crates/published_laws`): threads that are a bench and that are not, an agent that no series of
 -- reductions reaches from the start of a file, whatever the bench does, and a turn that ends otherwise than the engine's step. Assumes nothing.
 use Prim.Native.Nat.{ℕ, suc, _<_}
 use native.Mathlib.Omega.{arith}
