@@ -1,5 +1,6 @@
--- Each reason for which a run ends, worked by bytes: states of which every thread row, or every channel row, is in use, and the same with a row less,
--- where the run goes on. So none of the four cases in `engine_laws/specs/Reasons.antt` is empty. Assumes nothing.
+-- Each reason for which a run ends, worked by bytes: states of which every thread row, or every channel row, is in use, and one with free rows, where the
+-- run goes on (from 63 threads to 64: `instances/specs/Moves.antt`). So none of the four cases in `engine_laws/specs/Reasons.antt` is empty.
+-- Assumes nothing.
 use Prim.Native.Nat.{ℕ, _+_, _*_, _<_}
 use native.Mathlib.Omega.{arith}
 use mathlib.Core.Path.{_≡_, refl, ap, _∙_}
@@ -178,12 +179,12 @@ step-no-thread-row =
     run-ends (tableFor spawner) (spawning 64) (table-small spawner spawner-in-order) (bytes-small (spawners 64)) 5 0 (LackedThread 0) no-thread-row
     .lacked-thread 0 .0 refl .2
 
--- with 63 the spawn goes ahead; the run ends with the one step that was asked for, for reason 0 and for no other
-pub thread-row-left : runCall (tableFor spawner) (spawning 63) 1 .answer ≡ Ran.Done 1 AllDone
+-- with one the spawn goes ahead; the run ends with the one step that was asked for, for reason 0 and for no other
+pub thread-row-left : runCall (tableFor spawner) (spawning 1) 1 .answer ≡ Ran.Done 1 AllDone
 unfolding testingStates
-thread-row-left = spawner-run 63 refl refl 1
+thread-row-left = spawner-run 1 refl refl 1
 
-pub not-lacked : ¬ (runCall (tableFor spawner) (spawning 63) 1 .answer ≡ Ran.Done 0 (LackedThread 0))
+pub not-lacked : ¬ (runCall (tableFor spawner) (spawning 1) 1 .answer ≡ Ran.Done 0 (LackedThread 0))
 not-lacked e = let f = thread-row-left in clash cc
 
 -- with none it is reason 1, unless no step was asked for
