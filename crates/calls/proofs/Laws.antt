@@ -33,16 +33,15 @@ use Rattle.rules.specs.declared.Turn.{Turn}
 use Rattle.rules.specs.declared.Turn.the-variants.{Went}
 use Rattle.rules.specs.declared.Ran.{Ran}
 use Rattle.rules.specs.declared.Ran.the-variants as Ran
-use Rattle.steps.specs.Made.{made}
-use Rattle.engine_laws.specs.Sound.{Sound}
-use Rattle.engine_laws.specs.Sound.Laws.{sound-settled}
-use Rattle.engine_laws.specs.Reasons.{last-turn}
-use Rattle.steps.specs.Made.Laws.{turn-ends}
-use Rattle.steps.specs.Counted.{Counted}
-use Rattle.steps.specs.Counted.Laws.{counted-start}
-use Rattle.branches.specs.Way.{wayOf, valueAlong}
-use Rattle.branches.specs.declared.Way.{Way}
-use Rattle.calls.specs.Course.{after, turnAt, courseBy, course-by, course-none, course-more}
+use Rattle.turns.specs.Made.{made}
+use Rattle.rules_laws.specs.Soundness.{Sound}
+use Rattle.rules_laws.specs.Soundness.Laws.{sound-settled}
+use Rattle.turns.specs.Made.Laws.{turn-ends}
+use Rattle.turns.specs.Counted.{Counted}
+use Rattle.turns.specs.Counted.Laws.{counted-start}
+use Rattle.acts.specs.Way.{wayOf, valueAlong}
+use Rattle.acts.specs.declared.Way.{Way}
+use Rattle.calls.specs.Course.{after, turnAt, courseBy, course-by, course-none, course-more, last-turn}
 use Rattle.calls.specs.States.{afterwards, stepAfter, stepOn, givenOn, giveOn, takenOn, takeOn, runOn}
 
 -- ---- ground 11

@@ -85,3 +85,9 @@ module _ (tb : Table) (n : ℕ) (s : State) (t : ℕ) where
       let q : n - n ≡ 0 = omega arith in
       let x : n + 0 ≡ n = omega arith in
       sym (f ∙ rw (e, q, x))
+
+-- a turn after which no more steps are asked for
+pub last-turn : (tb : Table) (w : Turn) (x : State) → onward w x (courseOf tb 0) .state ≡ x
+unfolding onward oneMore courseOf
+last-turn tb Went x = refl
+last-turn tb (Stopped r) x = refl

@@ -16,8 +16,8 @@ use Rattle.rules.specs.Calls.{bench}
 use Rattle.rules.specs.declared.Direction.{Direction}
 use Rattle.rules.specs.declared.Partner.{Partner}
 use Rattle.rules.specs.declared.Partner.the-variants.{Nobody}
-use Rattle.moves.specs.Partners.{none-answers}
-use Rattle.moves.specs.Tried.{tried, tried-waiting}
+use Rattle.decision.specs.Partners.{none-answers}
+use Rattle.decision.specs.Tried.{tried, tried-waiting}
 
 -- ---- a thread by itself, whose node was read
 

@@ -5,14 +5,14 @@ ghost use Prim.Native.Nat.{_<_};
 ghost use Rattle.table.specs.Table.{tableOf};
 ghost use Rattle.table.specs.Index.{Indexed};
 ghost use Rattle.state.specs.State.{stateOf, thread, isReady};
-ghost use Rattle.granted.specs.Granted.{Granted};
-ghost use Rattle.engine_laws.specs.Sound.{Sound};
+ghost use Rattle.rules_laws.specs.Granted.{Granted};
+ghost use Rattle.rules_laws.specs.Soundness.{Sound};
 ghost use Rattle.rules.specs.Holding.{settled};
 ghost use Rattle.rules.specs.Offers.{offersAt, partnerOf};
 ghost use Rattle.rules.specs.Moves.{move};
 ghost use Rattle.rules.specs.Calls.{canStep, Course};
-ghost use Rattle.moves.specs.Tried.{tried};
-ghost use Rattle.steps.specs.Counted.{Counted};
+ghost use Rattle.decision.specs.Tried.{tried};
+ghost use Rattle.turns.specs.Counted.{Counted};
 ghost use Rattle.calls.specs.Course.{courseBy};
 ghost use Rattle.calls.specs.States.{After, stepOn, giveOn, takeOn, runOn};
 use rules::Direction;
@@ -57,7 +57,7 @@ fn take_turns(table: &[u8], index: &[u32], state: &mut [u32; state::WORDS], t: u
     ensures { λ r. ⌜ (t < 64 → n ≡ 1 → r .last ≡ move (tableOf (now (table .entry))) (stateOf (now (state .entry))) t) ⌝ }
     ensures { λ _. ⌜ Counted (tableOf (now (table .entry))) (stateOf (now (state .exit))) ⌝ }
 {
-    let mut top = moves::rows_used(state);
+    let mut top = decision::rows_used(state);
     let mut next = t;
     let mut last = Move::Ends;
     for i in 0..n {
@@ -68,7 +68,7 @@ fn take_turns(table: &[u8], index: &[u32], state: &mut [u32; state::WORDS], t: u
                 last: last,
             };
         }
-        let round = steps::turn_of(table, index, state, next, top);
+        let round = turns::turn_of(table, index, state, next, top);
         top = round.top;
         last = round.by;
         let turn = round.turn;
@@ -82,7 +82,7 @@ fn take_turns(table: &[u8], index: &[u32], state: &mut [u32; state::WORDS], t: u
                 };
             }
         }
-        next = moves::next_ready(state, top);
+        next = decision::next_ready(state, top);
     }
     Turns {
         went: n as u32,
@@ -103,9 +103,9 @@ pub fn step(table: &[u8], index: &[u32], state: &mut [u32; state::WORDS], t: u32
         let turn = state::mark(state, 2);
         let turns = take_turns(table, index, state, t, 1);
         state::put_mark(state, 2, turn);
-        steps::settle_waiting(table, index, state);
+        turns::settle_waiting(table, index, state);
         let m = turns.last;
-        return steps::step_answer(node, m);
+        return turns::step_answer(node, m);
     }
     Stepped::Refused(Refusal::Thread)
 }
@@ -125,8 +125,8 @@ fn offers_at(
 {
     let node = state::thread_word(state, u as usize, 1);
     let row = program::branch_at(table, index, node, i);
-    if moves::is_meeting(table, index, row, d) {
-        return moves::is_offered(table, index, row, state, u, c);
+    if decision::is_meeting(table, index, row, d) {
+        return decision::is_offered(table, index, row, state, u, c);
     }
     false
 }
@@ -183,7 +183,7 @@ pub fn give(table: &[u8], index: &[u32], state: &mut [u32; state::WORDS], p: u32
     match find_at_port(table, index, state, Direction::In, p) {
         Partner::Nobody => Given::Nobody,
         Partner::At(u, j) => {
-            steps::make_met(table, index, state, u, j, v);
+            turns::make_met(table, index, state, u, j, v);
             Given::Met(u)
         }
     }
@@ -202,9 +202,9 @@ pub fn take(table: &[u8], index: &[u32], state: &mut [u32; state::WORDS], p: u32
     match find_at_port(table, index, state, Direction::Out, p) {
         Partner::Nobody => Taken::Nobody,
         Partner::At(u, j) => {
-            let way = branches::way_by(table, index, state, u, j);
-            let v = branches::value_by(table, index, state, u, way);
-            steps::make_met(table, index, state, u, j, 0);
+            let way = acts::way_by(table, index, state, u, j);
+            let v = acts::value_by(table, index, state, u, way);
+            turns::make_met(table, index, state, u, j, 0);
             Taken::Met(u, v)
         }
     }
@@ -217,9 +217,9 @@ pub fn run(table: &[u8], index: &[u32], state: &mut [u32; state::WORDS], n: u16)
     requires { ⌜ Sound (tableOf (now table)) (stateOf (now state)) ⌝ }
     ensures { λ r. ⌜ _≡_ {A = After Ran} (record { answer = r; state = stateOf (now (state .exit)) }) (runOn (tableOf (now (table .entry))) (stateOf (now (state .entry))) n) ⌝ }
 {
-    let t = moves::next_ready(state, MAX_THREADS);
+    let t = decision::next_ready(state, MAX_THREADS);
     let turns = take_turns(table, index, state, t, n);
-    steps::settle_waiting(table, index, state);
+    turns::settle_waiting(table, index, state);
     let reason = turns.reason;
     Ran::Done(turns.went, reason)
 }

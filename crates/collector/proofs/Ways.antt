@@ -13,7 +13,7 @@ use Rattle.numbers.specs.Search.{tabulate}
 use Rattle.numbers.specs.Search.Laws.{caseB, getD-tabulate, length-tabulate, is-tabulate}
 use Rattle.table.specs.Table.{Table}
 use Rattle.state.specs.State.{State, thread, status}
-use Rattle.engine.specs.Threads.{offersMarked, withHeld}
+use Rattle.engine.specs.ThreadsAsked.{offersMarked, withHeld}
 use Rattle.collector.specs.Marking.{portsTo, comes, marksAfter, knownAfter}
 
 -- mark_at, set_mark

@@ -12,7 +12,7 @@ use Rattle.numbers.specs.Search.{some, tabulate}
 use Rattle.table.specs.Table.{Table, ports}
 use Rattle.state.specs.State.{State, maxThreads, maxChannels, thread, isReady}
 use Rattle.rules.specs.Holding.{holds}
-use Rattle.engine.specs.Threads.{offersMarked, withHeld}
+use Rattle.engine.specs.ThreadsAsked.{offersMarked, withHeld}
 use Rattle.collector.specs.Rounds.{marked}
 use Rattle.collector.specs.Enabled.{Enabled}
 use Rattle.collector.specs.Collect.{nobody}

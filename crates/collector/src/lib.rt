@@ -9,7 +9,7 @@ ghost use Rattle.table.specs.Index.{Indexed};
 ghost use Rattle.state.specs.State.{stateOf, thread};
 ghost use Rattle.rules.specs.Holding.{settled};
 ghost use Rattle.rules.specs.Calls.{Outcome};
-ghost use Rattle.engine.specs.Threads.{withHeld};
+ghost use Rattle.engine.specs.ThreadsAsked.{withHeld};
 ghost use Rattle.collector.specs.Enabled.{enabledSet};
 ghost use Rattle.collector.specs.Collect.{nobody, collected, takenCount, collectCall};
 ghost use Rattle.collector.specs.Marking.{portsTo, comes, marksAfter, knownAfter, Marking, Still, unmarked};

@@ -1,6 +1,6 @@
-pub mod Kept
+pub mod CollectionKeeps
 pub mod Linked
 pub mod Out
-pub mod Refusals
+pub mod CollectionRefusals
 pub mod Computing
 pub mod PaperCollector

@@ -10,7 +10,7 @@ use Rattle.state.specs.State.{State, maxThreads, thread, inUse, isReady, isWait
 use Rattle.rules.specs.Holding.{holds}
 use Rattle.rules.specs.Offers.{offers}
 use Rattle.rules.specs.declared.Direction.{Direction}
-use Rattle.engine_laws.specs.Reading.Laws.{waiting-used}
+use Rattle.rules_laws.specs.Reading.Laws.{waiting-used}
 use Rattle.collector.specs.Enabled.{Enabled, from-start, is-ready, by-bench, by-thread}
 use Rattle.collector.specs.Collect.{nobody, taken, collected}
 use Rattle.collector.specs.Collect.Laws.{stays-enabled, taken-freed, left-same, enabled-same}

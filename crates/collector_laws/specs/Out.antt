@@ -16,10 +16,10 @@ use Rattle.state.specs.State.{State, maxThreads, thread, isWaiting}
 use Rattle.rules.specs.Holding.{holds}
 use Rattle.rules.specs.Offers.{offers}
 use Rattle.rules.specs.declared.Direction.{Direction}
-use Rattle.granted.specs.Granted.{Granted}
-use Rattle.engine_laws.specs.Reading.Laws.{holds-elim}
-use Rattle.engine_laws.specs.Sound.{Sound}
-use Rattle.engine_laws.specs.Frames.{elem}
+use Rattle.rules_laws.specs.Granted.{Granted}
+use Rattle.rules_laws.specs.Reading.Laws.{holds-elim}
+use Rattle.rules_laws.specs.Soundness.{Sound}
+use Rattle.rules_laws.specs.Frames.{elem}
 use Rattle.engine_laws.specs.Movers.{ranMovers}
 use Rattle.engine_laws.specs.Sealed.{Sealed, sealed-run}
 use Rattle.collector.specs.Enabled.{Enabled, is-ready, by-bench, by-thread}

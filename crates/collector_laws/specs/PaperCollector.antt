@@ -16,7 +16,7 @@ use Rattle.rules.specs.Start.{started}
 use Rattle.rules.specs.Offers.{meets?, offers}
 use Rattle.rules.specs.Calls.{courseOf}
 use Rattle.rules.specs.declared.Direction.the-variants.{Out, In}
-use Rattle.engine_laws.specs.Frames.{elem, movers}
+use Rattle.rules_laws.specs.Frames.{elem, movers}
 use Rattle.engine_laws.specs.Movers.{turnMovers, onwardMovers, ranMovers}
 use Rattle.collector.specs.Collect.{taken}
 use Rattle.collector_laws.specs.Computing.{running, collecting}

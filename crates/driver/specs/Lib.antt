@@ -1,3 +1,3 @@
 pub mod Encoding
 pub mod Guaranteed
-pub mod Examples
+pub mod DrivenExamples

@@ -34,12 +34,12 @@ use Rattle.rules.specs.declared.Taken.{Taken}
 use Rattle.rules.specs.declared.Taken.the-variants as Taken
 use Rattle.rules.specs.declared.Ran.{Ran}
 use Rattle.rules.specs.declared.Ran.the-variants as Ran
-use Rattle.granted.specs.Granted.{Granted}
-use Rattle.granted.specs.Accepted.{granted}
-use Rattle.engine_laws.specs.Shape.Laws.{view-shaped}
-use Rattle.engine_laws.specs.Sound.{Sound}
-use Rattle.engine_laws.specs.Sound.Laws.{sound-elim}
-use Rattle.engine_laws.specs.Refusals.{step-refused-keeps, give-refused-keeps, give-nobody-keeps, take-refused-keeps, take-nobody-keeps}
+use Rattle.rules_laws.specs.Granted.{Granted}
+use Rattle.rules_laws.specs.Accepted.{granted}
+use Rattle.rules_laws.specs.Shape.Laws.{view-shaped}
+use Rattle.rules_laws.specs.Soundness.{Sound}
+use Rattle.rules_laws.specs.Soundness.Laws.{sound-elim}
+use Rattle.rules_laws.specs.Refusals.{step-refused-keeps, give-refused-keeps, give-nobody-keeps, take-refused-keeps, take-nobody-keeps}
 use Rattle.calls.specs.States.{After, afterwards, stepOn, giveOn, takeOn, runOn}
 use Rattle.calls.specs.States.Laws.{bytesAfter, step-bytes, give-bytes, take-bytes, run-bytes}
 

@@ -9,8 +9,8 @@ use Rattle.state.specs.State.{State, stateLength}
 use Rattle.rules.specs.Holding.{settled}
 use Rattle.rules.specs.declared.Admission.{Admission}
 use Rattle.rules.specs.declared.Admission.the-variants.{Admitted}
-use Rattle.granted.specs.Granted.{Granted}
-use Rattle.engine_laws.specs.Sound.{Sound}
+use Rattle.rules_laws.specs.Granted.{Granted}
+use Rattle.rules_laws.specs.Soundness.{Sound}
 
 -- a: what an admission answered
 module _ (a : Admission) where

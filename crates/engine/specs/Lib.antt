@@ -1,3 +1,3 @@
 pub mod Numbers
 pub mod Admitted
-pub mod Threads
+pub mod ThreadsAsked

@@ -8,9 +8,9 @@ ghost use Rattle.table.specs.Index.{Indexed, indexLength};
 ghost use Rattle.state.specs.State.{stateLength, stateOf};
 ghost use Rattle.rules.specs.Calls.{Outcome, lengthsRight, startAdmission, admission, startCall, stepCall, giveCall, takeCall, runCall};
 ghost use Rattle.rules.specs.declared.Admission.the-variants.{Admitted};
-ghost use Rattle.granted.specs.Granted.{Granted};
-ghost use Rattle.engine_laws.specs.Sound.{Sound};
-pub use buffers::write;
+ghost use Rattle.rules_laws.specs.Granted.{Granted};
+ghost use Rattle.rules_laws.specs.Soundness.{Sound};
+pub use state::write;
 use rules::Admission;
 use rules::Given;
 use rules::Ran;
@@ -74,7 +74,7 @@ pub fn admit(
     match admit_start(table, state, index) {
         Admission::Refused(ground) => Admission::Refused(ground),
         Admission::Admitted => {
-            buffers::read(state, words);
+            state::read(state, words);
             if sound::is_sound(table, index, words) {
                 return Admission::Admitted;
             }
@@ -93,7 +93,7 @@ pub fn start(table: &[u8], state: &mut [u8]) -> Started
         Admission::Admitted => {
             let mut words = [0u32; state::WORDS];
             starts::write_started(table, &index, &mut words);
-            buffers::write(&words, state);
+            state::write(&words, state);
             Started::Done
         }
     }
@@ -111,7 +111,7 @@ pub fn step(table: &[u8], state: &mut [u8], t: u32) -> Stepped
             match calls::step(table, &index, &mut words, t) {
                 Stepped::Refused(ground) => Stepped::Refused(ground),
                 Stepped::Done(node, deed) => {
-                    buffers::write(&words, state);
+                    state::write(&words, state);
                     Stepped::Done(node, deed)
                 }
             }
@@ -132,7 +132,7 @@ pub fn give(table: &[u8], state: &mut [u8], p: u32, v: u32) -> Given
                 Given::Refused(ground) => Given::Refused(ground),
                 Given::Nobody => Given::Nobody,
                 Given::Met(u) => {
-                    buffers::write(&words, state);
+                    state::write(&words, state);
                     Given::Met(u)
                 }
             }
@@ -153,7 +153,7 @@ pub fn take(table: &[u8], state: &mut [u8], p: u32) -> Taken
                 Taken::Refused(ground) => Taken::Refused(ground),
                 Taken::Nobody => Taken::Nobody,
                 Taken::Met(u, v) => {
-                    buffers::write(&words, state);
+                    state::write(&words, state);
                     Taken::Met(u, v)
                 }
             }
@@ -171,7 +171,7 @@ pub fn run(table: &[u8], state: &mut [u8], n: u16) -> Ran
         Admission::Refused(ground) => Ran::Refused(ground),
         Admission::Admitted => {
             let answer = calls::run(table, &index, &mut words, n);
-            buffers::write(&words, state);
+            state::write(&words, state);
             answer
         }
     }

@@ -7,9 +7,9 @@ use lib.ListN.{length, getD}
 use Rattle.table.specs.Table.{tableOf}
 use Rattle.state.specs.State.{State, stateLength, view, stateBytes}
 use Rattle.rules.specs.Sound.{sound}
-use Rattle.engine_laws.specs.Shape.Laws.{view-shaped, bytes-long, bytes-small, view-bytes}
-use Rattle.engine_laws.specs.Sound.{Sound}
-use Rattle.engine_laws.specs.Sound.Laws.{sound-elim, sound-intro}
+use Rattle.rules_laws.specs.Shape.Laws.{view-shaped, bytes-long, bytes-small, view-bytes}
+use Rattle.rules_laws.specs.Soundness.{Sound}
+use Rattle.rules_laws.specs.Soundness.Laws.{sound-elim, sound-intro}
 
 -- a buffer of a state's length, of bytes, that holds a sound state for the table in another buffer
 pub record SoundBuffer (table state : List ℕ) : Type 0 where

@@ -16,12 +16,12 @@ use Rattle.rules.specs.Holding.{holds}
 use Rattle.rules.specs.Offers.{offers}
 use Rattle.rules.specs.declared.Direction.{Direction}
 use Rattle.rules.specs.declared.Act.the-variants.{Meeting}
-use Rattle.granted.specs.Granted.{Granted}
-use Rattle.engine_laws.specs.Reading.Laws.{waiting-used, holds-elim, holds-intro, offers-elim}
-use Rattle.engine_laws.specs.Sound.{SlotSound, spare, number, unfilled, filled, RowSound, Orderly}
-use Rattle.engine_laws.specs.Rows.{held-used}
-use Rattle.engine_laws.specs.Onward.{own-slot}
-use Rattle.engine_laws.specs.Meetings.{meets-by}
+use Rattle.rules_laws.specs.Granted.{Granted}
+use Rattle.rules_laws.specs.Reading.Laws.{waiting-used, holds-elim, holds-intro, offers-elim}
+use Rattle.rules_laws.specs.Soundness.{SlotSound, spare, number, unfilled, filled, RowSound, Orderly}
+use Rattle.rules_laws.specs.ThreadRow.{held-used}
+use Rattle.rules_laws.specs.Onward.{own-slot}
+use Rattle.rules_laws.specs.Meetings.{meets-by}
 
 -- a channel slot that is surely written has a channel
 filled-in : (tb : Table) (ty : ℕ → ℕ) (n k v : ℕ) → mayLack tb n k ≡ false → k < slotCount tb (definitionOf tb n) → slotType tb (definitionOf tb n) k ≢ 0

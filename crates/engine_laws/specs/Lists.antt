@@ -19,14 +19,14 @@ use Rattle.rules.specs.declared.Stepped.the-variants as Stepped
 use Rattle.rules.specs.declared.Given.the-variants as Given
 use Rattle.rules.specs.declared.Taken.the-variants as Taken
 use Rattle.rules.specs.declared.Ran.the-variants as Ran
-use Rattle.granted.specs.Codes.{clash}
-use Rattle.engine_laws.specs.Sound.{Sound}
-use Rattle.engine_laws.specs.Sound.Counted.{count-is, waiters-is, used-exactly}
-use Rattle.engine_laws.specs.Polarity.{no-receiver}
-use Rattle.engine_laws.specs.Entry.{atEntry}
-use Rattle.engine_laws.specs.Refusals.{step-entry-iff, give-entry-iff, take-entry-iff, run-refused-iff}
+use Rattle.rules_laws.specs.Codes.{clash}
+use Rattle.rules_laws.specs.Soundness.{Sound}
+use Rattle.rules_laws.specs.Soundness.Counted.{count-is, waiters-is, used-exactly}
+use Rattle.engine_laws.specs.OneSided.{no-receiver}
+use Rattle.rules_laws.specs.Entry.{atEntry}
+use Rattle.rules_laws.specs.Refusals.{step-entry-iff, give-entry-iff, take-entry-iff, run-refused-iff}
 use Rattle.engine_laws.specs.Buffers.{SoundBuffer, view-sound}
-use Rattle.engine_laws.specs.Calls.{start-done, admitted, start-sound, step-sound, give-sound, take-sound, run-sound}
+use Rattle.engine_laws.specs.SoundCalls.{start-done, admitted, start-sound, step-sound, give-sound, take-sound, run-sound}
 
 -- ---- lists of calls
 

@@ -21,14 +21,14 @@ use Rattle.rules.specs.declared.Turn.{Turn}
 use Rattle.rules.specs.declared.Turn.the-variants.{Went, Stopped}
 use Rattle.rules.specs.declared.Move.{Move}
 use Rattle.rules.specs.declared.Move.the-variants.{Ends, Calls, Waits, Goes, Creates, Spawns, Meets, LacksThread, LacksChannel}
-use Rattle.moves.specs.Around.{next-ready-in}
-use Rattle.granted.specs.Granted.{Granted}
-use Rattle.engine_laws.specs.Reading.Laws.{ready-used}
-use Rattle.engine_laws.specs.Sound.{Orderly, Sound}
-use Rattle.engine_laws.specs.Chosen.{Joining, Chosen, chosen, channelBy, partner-answers}
-use Rattle.engine_laws.specs.Frames.{elem, elem-cases, elem-nil, elem-not, movers, used-stays, bench-frame}
+use Rattle.decision.specs.Around.{next-ready-in}
+use Rattle.rules_laws.specs.Granted.{Granted}
+use Rattle.rules_laws.specs.Reading.Laws.{ready-used}
+use Rattle.rules_laws.specs.Soundness.{Orderly, Sound}
+use Rattle.rules_laws.specs.Chosen.{Joining, Chosen, chosen, channelBy, partner-answers}
+use Rattle.rules_laws.specs.Frames.{elem, elem-cases, elem-nil, elem-not, movers, used-stays, bench-frame}
 use Rattle.engine_laws.specs.Channels.{on-held}
-use Rattle.engine_laws.specs.Learnt.{Knew, learnt, bench-learns-nothing}
+use Rattle.rules_laws.specs.Learnt.{Knew, learnt, bench-learns-nothing}
 
 -- ---- what is said of a move
 

@@ -32,17 +32,18 @@ use Rattle.rules.specs.declared.Turn.{Turn}
 use Rattle.rules.specs.declared.Turn.the-variants.{Went, Stopped}
 use Rattle.rules.specs.declared.Ran.{Ran}
 use Rattle.rules.specs.declared.Ran.the-variants as Ran
-use Rattle.moves.specs.Around.{next-ready-in, around-none}
-use Rattle.granted.specs.Codes.{clash}
-use Rattle.granted.specs.Accepted.{granted}
-use Rattle.engine_laws.specs.Shape.Laws.{view-bytes}
-use Rattle.engine_laws.specs.Sound.{Sound}
-use Rattle.engine_laws.specs.Lasting.{move-kept, turn-kept}
-use Rattle.engine_laws.specs.Entry.{Admitted, admitted-iff}
-use Rattle.engine_laws.specs.Answers.{move-refused}
-use Rattle.engine_laws.specs.Refusals.{step-refused-keeps}
+use Rattle.decision.specs.Around.{next-ready-in, around-none}
+use Rattle.calls.specs.Course.{last-turn}
+use Rattle.rules_laws.specs.Codes.{clash}
+use Rattle.rules_laws.specs.Accepted.{granted}
+use Rattle.rules_laws.specs.Shape.Laws.{view-bytes}
+use Rattle.rules_laws.specs.Soundness.{Sound}
+use Rattle.rules_laws.specs.Lasting.{move-kept, turn-kept}
+use Rattle.rules_laws.specs.Entry.{Admitted, admitted-iff}
+use Rattle.rules_laws.specs.Answers.{move-refused}
+use Rattle.rules_laws.specs.Refusals.{step-refused-keeps}
 use Rattle.engine_laws.specs.Buffers.{SoundBuffer, view-sound, bytes-sound}
-use Rattle.engine_laws.specs.Calls.{admitted}
+use Rattle.engine_laws.specs.SoundCalls.{admitted}
 
 -- ---- turns over bytes
 
@@ -324,12 +325,6 @@ module _ (table : List ℕ) (ok : accepted table ≡ true) (fit : (i : ℕ) → 
   unfolding courseOf
   came zero state b = rw (bytes-view state (b .long) (b .small)) (none-asked table state 0)
   came (suc n) state b = came-by n state b (turns table ok fit state b) (came n)
-
--- a turn after which no more steps are asked for
-pub last-turn : (tb : Table) (w : Turn) (x : State) → onward w x (courseOf tb 0) .state ≡ x
-unfolding onward oneMore courseOf
-last-turn tb Went x = refl
-last-turn tb (Stopped r) x = refl
 
 -- ---- the theorems, of any table and any state in buffers of bytes
 

@@ -14,11 +14,11 @@ use Rattle.rules.specs.Calls.{oneMore, onward, takeTurn, courseOf}
 use Rattle.rules.specs.declared.Direction.{Direction}
 use Rattle.rules.specs.declared.Turn.{Turn}
 use Rattle.rules.specs.declared.Turn.the-variants.{Went, Stopped}
-use Rattle.granted.specs.Granted.{Granted}
-use Rattle.engine_laws.specs.Reading.Laws.{waiting-used, ready-not-waiting}
-use Rattle.engine_laws.specs.Sound.{Sound}
-use Rattle.engine_laws.specs.Lasting.{take-turn-kept}
-use Rattle.engine_laws.specs.Frames.{elem, elem-append}
+use Rattle.rules_laws.specs.Granted.{Granted}
+use Rattle.rules_laws.specs.Reading.Laws.{waiting-used, ready-not-waiting}
+use Rattle.rules_laws.specs.Soundness.{Sound}
+use Rattle.rules_laws.specs.Lasting.{take-turn-kept}
+use Rattle.rules_laws.specs.Frames.{elem, elem-append}
 use Rattle.engine_laws.specs.Channels.{offered-used}
 use Rattle.engine_laws.specs.Movers.{Could, steps, met-by-bench, met-by-thread, Moved, turnMovers, onwardMovers, ranMovers, turn-moved}
 

@@ -22,7 +22,7 @@ use Rattle.rules.specs.declared.Taken.{Taken}
 use Rattle.rules.specs.declared.Taken.the-variants as Taken
 use Rattle.rules.specs.declared.Ran.{Ran}
 use Rattle.rules.specs.declared.Ran.the-variants as Ran
-use Rattle.engine_laws.specs.Frames.{elem, movers}
+use Rattle.rules_laws.specs.Frames.{elem, movers}
 use Rattle.engine_laws.specs.Movers.{ranMovers}
 use Rattle.engine_laws.specs.Lists.{Call, step, give, take, run, after, afterAll, RefusedWith}
 use Rattle.collector.specs.Collect.{collectCall}

@@ -23,7 +23,7 @@ use Rattle.loader.specs.declared.Loaded.{Loaded}
 use Rattle.loader.specs.declared.Loaded.the-variants as Loaded
 use Rattle.loader.specs.declared.Verdict.{Verdict}
 use Rattle.loader.specs.declared.Verdict.the-variants.{Sound, Fault}
-use Rattle.loading.specs.Yields.{sound-loads}
+use Rattle.loader_laws.specs.Yields.{sound-loads}
 use Rattle.rules.specs.Calls.{startCall, stepCall, giveCall, takeCall, runCall}
 use Rattle.rules.specs.declared.Refusal.{Refusal}
 use Rattle.rules.specs.declared.Refusal.the-variants as Ground
@@ -35,7 +35,7 @@ use Rattle.rules.specs.declared.Taken.{Taken}
 use Rattle.rules.specs.declared.Taken.the-variants as Taken
 use Rattle.rules.specs.declared.Ran.{Ran}
 use Rattle.rules.specs.declared.Ran.the-variants as Ran
-use Rattle.granted.specs.Codes.{clash}
+use Rattle.rules_laws.specs.Codes.{clash}
 use Rattle.engine.specs.Numbers.{refusalNumber}
 use Rattle.engine_laws.specs.Lists.{step, give, take, run, after, RefusedWith}
 use Rattle.collector.specs.Collect.{collectCall}

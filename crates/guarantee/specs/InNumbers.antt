@@ -17,7 +17,7 @@ use Rattle.numbers.specs.Count.{bit}
 use Rattle.numbers.specs.Search.{sumTo}
 use Rattle.table.specs.Table.{tableOf}
 use Rattle.state.specs.State.{State, maxThreads, view, thread, inUse, isWaiting}
-use Rattle.engine_laws.specs.Frames.{elem}
+use Rattle.rules_laws.specs.Frames.{elem}
 use Rattle.engine_laws.specs.Movers.{ranMovers}
 use Rattle.engine_laws.specs.Lists.{Call, step, give, take, run}
 use Rattle.pithread.specs.Interface.{startResult, stepResult, giveResult, takeResult, runResult, collectResult}

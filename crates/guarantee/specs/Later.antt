@@ -19,18 +19,18 @@ use Rattle.rules.specs.declared.Partner.{Partner}
 use Rattle.rules.specs.declared.Partner.the-variants.{Nobody, At}
 use Rattle.rules.specs.declared.Stepped.{Stepped}
 use Rattle.rules.specs.declared.Stepped.the-variants as Stepped
-use Rattle.granted.specs.Granted.{Granted}
-use Rattle.engine_laws.specs.Shape.Laws.{view-bytes}
-use Rattle.engine_laws.specs.Sound.{Sound}
-use Rattle.engine_laws.specs.Lasting.{move-kept, give-kept, take-kept, course-kept}
-use Rattle.engine_laws.specs.Frames.{elem, elem-append, movers}
+use Rattle.rules_laws.specs.Granted.{Granted}
+use Rattle.rules_laws.specs.Shape.Laws.{view-bytes}
+use Rattle.rules_laws.specs.Soundness.{Sound}
+use Rattle.rules_laws.specs.Lasting.{move-kept, give-kept, take-kept, course-kept}
+use Rattle.rules_laws.specs.Frames.{elem, elem-append, movers}
 use Rattle.engine_laws.specs.Movers.{ranMovers, step-moved, bench-moved}
 use Rattle.engine_laws.specs.Sealed.{Sealed, sealed-kept, sealed-run}
 use Rattle.engine_laws.specs.Buffers.{SoundBuffer, view-sound}
-use Rattle.engine_laws.specs.Calls.{admitted}
+use Rattle.engine_laws.specs.SoundCalls.{admitted}
 use Rattle.engine_laws.specs.Lists.{Call, step, give, take, run, after, afterAll, after-sound}
 use Rattle.guarantee.specs.Claim.{unlessRefused, metByGive, metByTake, inTurns, moving, movingAll}
-use Rattle.guarantee.specs.Kept.{grants}
+use Rattle.guarantee.specs.ClaimKept.{grants}
 
 -- none of a set is in a list
 abbrev pub Still : (ℕ → Bool) → List ℕ → Type 0

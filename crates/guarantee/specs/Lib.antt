@@ -1,8 +1,8 @@
 pub mod Claim
-pub mod Kept
+pub mod ClaimKept
 pub mod Later
 pub mod Proof
-pub mod Instance
+pub mod ClaimInstance
 pub mod Exported
 pub mod InNumbers
-pub mod Reasons
+pub mod ReasonsInLists

@@ -9,18 +9,18 @@ use Rattle.loader.specs.Load.{loaded, accepted}
 use Rattle.loader.specs.declared.Loaded.the-variants.{Done}
 use Rattle.state.specs.State.{State, stateLength, view}
 use Rattle.rules.specs.Calls.{startCall}
-use Rattle.engine_laws.specs.Sound.{Sound}
-use Rattle.engine_laws.specs.Sound.Counted.{count-is, used-exactly}
+use Rattle.rules_laws.specs.Soundness.{Sound}
+use Rattle.rules_laws.specs.Soundness.Counted.{count-is, used-exactly}
 use Rattle.engine_laws.specs.Buffers.{SoundBuffer, view-sound}
-use Rattle.engine_laws.specs.Calls.{start-done, start-sound}
+use Rattle.engine_laws.specs.SoundCalls.{start-done, start-sound}
 use Rattle.engine_laws.specs.Lists.{Call}
-use Rattle.engine_laws.specs.Instance.{loaded-small, loaded-accepted}
+use Rattle.engine_laws.specs.ListInstance.{loaded-small, loaded-accepted}
 use Rattle.collector.specs.Collect.{takenCount, collectCall}
 use Rattle.collector_laws.specs.Linked.{waiting-linked}
 use Rattle.collector_laws.specs.Out.{takenThread, taken-sealed}
 use Rattle.collector.specs.declared.Collected.the-variants as Collected
 use Rattle.guarantee.specs.Claim.{Any, on, reachedBy, Counted, Untouched, Linked, Guarantee}
-use Rattle.guarantee.specs.Kept.{collect-done, collect-view, taken-is, list-sound, list-not-ten}
+use Rattle.guarantee.specs.ClaimKept.{collect-done, collect-view, taken-is, list-sound, list-not-ten}
 use Rattle.guarantee.specs.Later.{list-rests}
 
 -- ---- of a table that is accepted

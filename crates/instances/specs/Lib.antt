@@ -1,6 +1,6 @@
-pub mod Agents
-pub mod Files
-pub mod Moves
-pub mod Collection
-pub mod Buffers
-pub mod Refinement
+pub mod OfAgents
+pub mod OfFiles
+pub mod OfMoves
+pub mod OfCollection
+pub mod OfBuffers
+pub mod OfRefinement

@@ -1,6 +1,6 @@
 // Prints the listing of the procedure file on standard input.
 ghost use lib.ListN.{length};
-ghost use Rattle.listing.specs.Reading.{Within};
+ghost use Rattle.listing.specs.ReadInput.{Within};
 use libc::STDIN_FILENO;
 use libc::STDOUT_FILENO;
 
@@ -32,8 +32,8 @@ fn read_input(buffer: &mut [u8]) -> Input
 }
 
 fn print_listing(file: &[u8]) {
-    let mut out = [0u8; lines::LONGEST];
-    let n = lines::list(file, &mut out);
+    let mut out = [0u8; listing_text::LONGEST];
+    let n = listing_text::list(file, &mut out);
     if !io::write_all(STDOUT_FILENO, &out[..n]) {
         os::fail(b"standard output");
     }

@@ -18,7 +18,7 @@ use Rattle.published.specs.Syntax.{Process, end, waiting}
 use Rattle.published.specs.Agents.{_∈_, Commitment, channelOf, Thread, thread, Channels, Agent, agent, nth, knows, globalrc, Commits}
 use Rattle.published.specs.Rules.{Rearranged, none-left, same-first, twice, Sticks, stuck, Reduces, sticks, exchange}
 use Rattle.published.specs.Enabling.{Enabled, active, awoken, Disabled, enabled-in}
-use Rattle.published.specs.Lists.{in-nth, nth-in, same-order, to-front, turned-back, unknown, none-knows}
+use Rattle.published.specs.ProductLaws.{in-nth, nth-in, same-order, to-front, turned-back, unknown, none-knows}
 
 -- ---- the places of a product of two parts
 

@@ -8,7 +8,7 @@ use mathlib.Core.List.{List, [], _∷_}
 use Rattle.published.specs.Syntax.{Process}
 use Rattle.published.specs.Agents.{Commitment, gives, takes, Thread, thread, Channels, Agent, agent}
 use Rattle.published.specs.Rules.{Acts, step, new, spawn, next, call, inert, send, out, recv, inn, more, Nothing, Ours, skip, assigns, zeros, Run, last, pass, Turn, Stepped, Reduces, Reaches, stays}
-use Rattle.published.specs.Lists.{many-on, stepped-reaches}
+use Rattle.published.specs.ProductLaws.{many-on, stepped-reaches}
 
 -- ---- one reduction
 

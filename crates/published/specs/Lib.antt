@@ -5,7 +5,7 @@ pub mod Fired
 pub mod Stands
 pub mod Enabling
 pub mod Bindings
-pub mod Lists
+pub mod ProductLaws
 pub mod Orders
 pub mod Polarity
 pub mod Chain
@@ -13,4 +13,4 @@ pub mod Cliques
 pub mod Choices
 pub mod Whole
 pub mod Printed
-pub mod Examples
+pub mod AgentExamples

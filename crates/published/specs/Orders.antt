@@ -5,7 +5,7 @@ use mathlib.Core.List.{List, _∷_}
 use lib.ListN.{length}
 use Rattle.published.specs.Agents.{Thread}
 use Rattle.published.specs.Rules.{Rearranged, none-left, same-first, swapped, twice}
-use Rattle.published.specs.Lists.{same-order, turned-back}
+use Rattle.published.specs.ProductLaws.{same-order, turned-back}
 
 pub same-length : {A B : List Thread} → Rearranged A B → length A ≡ length B
 same-length none-left = refl

@@ -13,7 +13,7 @@ use Rattle.published.specs.Agents.{_∈_, channel, number, Env, bind, ho
 use Rattle.published.specs.Rules.{Acts, step, new, spawn, next, call, inert, send, out, recv, inn, more, Ours, skip, assigns, zeros, stays, Run, last, pass}
 use Rattle.published.specs.Fired.{Rule, by-inert, by-call, by-step, by-new, by-spawn, by-send, by-recv, by-passing, by-assigns, by-zeros, Fired, fired, behind, Labels, ours-fire, firing, Ends, SteppedBy, Had, Turns, none-had, had}
 use Rattle.published.specs.Bindings.{clash}
-use Rattle.published.specs.Lists.{same-order, in-rearranged}
+use Rattle.published.specs.ProductLaws.{same-order, in-rearranged}
 
 -- ---- which rules are of which prefix, with a true guard
 

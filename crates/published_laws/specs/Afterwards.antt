@@ -11,10 +11,10 @@ use Rattle.rules.specs.Program.{branchAt, nextOf, childOf, fieldA, fieldB, actO
 use Rattle.rules.specs.Moves.{resumed, stored, met, gone, sideOf, goneBy, createdBy, metBy}
 use Rattle.rules.specs.declared.Direction.the-variants.{Out, In}
 use Rattle.rules.specs.declared.Act.the-variants.{Tau, Meeting, New, Spawn, Assignment}
-use Rattle.granted.specs.Granted.{Granted}
-use Rattle.engine_laws.specs.Sound.{RowSound}
-use Rattle.engine_laws.specs.Rows.{resumed-ready, resumed-node, resumed-slot, resumed-long, stored-node, stored-same, stored-other}
-use Rattle.engine_laws.specs.Onward.{own-slot, branching, stored-ready}
+use Rattle.rules_laws.specs.Granted.{Granted}
+use Rattle.rules_laws.specs.Soundness.{RowSound}
+use Rattle.rules_laws.specs.ThreadRow.{resumed-ready, resumed-node, resumed-slot, resumed-long, stored-node, stored-same, stored-other}
+use Rattle.rules_laws.specs.Onward.{own-slot, branching, stored-ready}
 use Rattle.published.specs.Agents as Agents
 use Rattle.published.specs.Agents.{Value, Env, bind, valueOf}
 use Rattle.published_laws.specs.Readable.{Readable}

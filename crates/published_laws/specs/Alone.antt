@@ -17,20 +17,20 @@ use Rattle.rules.specs.Program.{typeAt, kindOf, callee, argument, branchAt, gua
 use Rattle.rules.specs.Moves.{waitingRow, typed, goneBy, createdBy, typeBy, written}
 use Rattle.rules.specs.declared.Act.the-variants.{Tau, Assignment}
 use Rattle.rules.specs.declared.Move.the-variants.{Ends, Waits, Goes, Creates}
-use Rattle.granted.specs.Granted.{Granted}
-use Rattle.engine_laws.specs.Reading.Laws.{ready-used, waiting-used}
-use Rattle.engine_laws.specs.Sound.{RowSound, Orderly}
-use Rattle.engine_laws.specs.Rows.{waiting-waits, waiting-node, waiting-slot, waiting-guard}
-use Rattle.engine_laws.specs.Onward.{branching, goneBy-ready, createdBy-ready}
-use Rattle.engine_laws.specs.Replaced.{typed-same, typed-other}
-use Rattle.engine_laws.specs.Chosen.{Open, Creating}
+use Rattle.rules_laws.specs.Granted.{Granted}
+use Rattle.rules_laws.specs.Reading.Laws.{ready-used, waiting-used}
+use Rattle.rules_laws.specs.Soundness.{RowSound, Orderly}
+use Rattle.rules_laws.specs.ThreadRow.{waiting-waits, waiting-node, waiting-slot, waiting-guard}
+use Rattle.rules_laws.specs.Onward.{branching, goneBy-ready, createdBy-ready}
+use Rattle.rules_laws.specs.Replaced.{typed-same, typed-other}
+use Rattle.rules_laws.specs.Chosen.{Open, Creating}
 use Rattle.published.specs.Syntax.{Process, end, invoke, Sum, nothing, waits}
 use Rattle.published.specs.Agents as Agents
 use Rattle.published.specs.Agents.{_∈_, Commitment, Thread, Channels, adding, Agent, agent}
 use Rattle.published.specs.Rules.{Rearranged, same-first, swapped, twice, step, new, inert, more, last, assigns}
 use Rattle.published.specs.Fired as Fired
 use Rattle.published.specs.Fired.{Rule, by-inert, by-step, by-new, by-passing, by-assigns, Fired, fired, Labels, ours-fire, firing, ActsBy, RunBy, TurnBy}
-use Rattle.published.specs.Lists.{same-order, turned-back}
+use Rattle.published.specs.ProductLaws.{same-order, turned-back}
 use Rattle.published_laws.specs.Readable.{Readable}
 use Rattle.published_laws.specs.Standing.{guardOf, prefixOf, sumBefore, nodeProcess, processAt, bodyOf, forNumbers, envOf, commitmentsFrom, waitingThread, readyThread, threadOf, threadsOf, channelsOf, agentOf, OurRules, OurLabels}
 use Rattle.published_laws.specs.Unrolled.{process-at}

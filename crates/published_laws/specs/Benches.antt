@@ -12,7 +12,7 @@ use borrow.Author.Tests.{ltb-true, ltb-false}
 use Rattle.numbers.specs.Search.{tabulate}
 use Rattle.numbers.specs.Search.Laws.{caseB, same-truth, getD-tabulate, length-tabulate}
 use Rattle.table.specs.Table.{Table, ports}
-use Rattle.granted.specs.Codes.{clash}
+use Rattle.rules_laws.specs.Codes.{clash}
 use Rattle.published.specs.Syntax.{Process, waiting}
 use Rattle.published.specs.Agents.{Value, channel, Env, look, bind, refers, mentions, thread, knows}
 use Rattle.published.specs.Bindings.{knows-iff}

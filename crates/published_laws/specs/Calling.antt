@@ -20,15 +20,15 @@ use Rattle.rules.specs.Program.{channelSlot, blank, kindOf, callee, argument}
 use Rattle.rules.specs.Start.{entered}
 use Rattle.rules.specs.Moves.{written}
 use Rattle.rules.specs.declared.Move.the-variants.{Calls}
-use Rattle.granted.specs.Granted.{Granted, Calling, Definition}
-use Rattle.engine_laws.specs.Reading.Laws.{head-slot, ready-used}
-use Rattle.engine_laws.specs.Sound.{RowSound, Orderly}
+use Rattle.rules_laws.specs.Granted.{Granted, Calling, Definition}
+use Rattle.rules_laws.specs.Reading.Laws.{head-slot, ready-used}
+use Rattle.rules_laws.specs.Soundness.{RowSound, Orderly}
 use Rattle.published.specs.Syntax.{invoke}
 use Rattle.published.specs.Agents as Agents
 use Rattle.published.specs.Agents.{Value, Env, look, Thread, Agent, agent}
 use Rattle.published.specs.Rules.{Rearranged, call, more, last, pass, zeroed, zeros}
 use Rattle.published.specs.Fired.{by-call, fired, Labels, ours-fire, firing, Ends, RunBy, TurnBy}
-use Rattle.published.specs.Lists.{turned-back}
+use Rattle.published.specs.ProductLaws.{turned-back}
 use Rattle.published_laws.specs.Readable.{Readable}
 use Rattle.published_laws.specs.Standing.{bodyOf, forNumbers, valueAs, slotValue, envOf, readyThread, threadOf, threadsOf, channelsOf, agentOf, OurRules, OurLabels}
 use Rattle.published_laws.specs.Trimmed.{look-trimmed, trimmed-same, trimmed-given}

@@ -14,8 +14,8 @@ use Rattle.rules.specs.Program.{branchAt, nextOf, fieldB}
 use Rattle.rules.specs.Offers.{offersAt, offeringBranch, answers, answering, partnerOf}
 use Rattle.rules.specs.declared.Direction.{Direction}
 use Rattle.rules.specs.declared.Partner.the-variants.{Nobody, At}
-use Rattle.granted.specs.Codes.{clash}
-use Rattle.engine_laws.specs.Chosen.{partner-answers, nobody-answers}
+use Rattle.rules_laws.specs.Codes.{clash}
+use Rattle.rules_laws.specs.Chosen.{partner-answers, nobody-answers}
 use Rattle.published.specs.Syntax.{Process}
 use Rattle.published.specs.Agents.{_∈_}
 use Rattle.published_laws.specs.Standing.{processAt, waitingThread, threadOf}

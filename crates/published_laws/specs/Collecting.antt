@@ -16,9 +16,9 @@ use Rattle.rules.specs.Holding.{holds}
 use Rattle.rules.specs.Start.{freeRow}
 use Rattle.rules.specs.Offers.{offers}
 use Rattle.rules.specs.declared.Direction.{Direction}
-use Rattle.granted.specs.Granted.{Granted}
-use Rattle.engine_laws.specs.Reading.Laws.{holds-elim}
-use Rattle.engine_laws.specs.Sound.{Sound}
+use Rattle.rules_laws.specs.Granted.{Granted}
+use Rattle.rules_laws.specs.Reading.Laws.{holds-elim}
+use Rattle.rules_laws.specs.Soundness.{Sound}
 use Rattle.collector.specs.Enabled as Collector
 use Rattle.collector.specs.Enabled.{is-ready, by-bench, by-thread}
 use Rattle.collector.specs.Collect.{nobody, taken, remaining, collected}
@@ -27,14 +27,14 @@ use Rattle.published.specs.Syntax.{Process, waiting}
 use Rattle.published.specs.Agents.{_∈_, channelOf, Thread, Agent, agent, knows, globalrc, Commits}
 use Rattle.published.specs.Rules.{Rearranged, none-left, same-first, twice, Reclaims, Sticks, stuck, sticks, exchange, Many, goes, Reaches}
 use Rattle.published.specs.Enabling.{Enabled, Disabled}
-use Rattle.published.specs.Lists.{same-order, to-front, turned-back, none-knows, reclaims-reach}
+use Rattle.published.specs.ProductLaws.{same-order, to-front, turned-back, none-knows, reclaims-reach}
 use Rattle.published_laws.specs.Readable.{Readable}
 use Rattle.published_laws.specs.Standing.{threadOf, threadsOf, channelsOf, agentOf}
 use Rattle.published_laws.specs.Environments.{knows-held}
 use Rattle.published_laws.specs.Products.{Bench, thread-env, row-of}
 use Rattle.published_laws.specs.Reclaims.{counted-anew}
 use Rattle.published_laws.specs.Commitments.{pledge-channel, commits-offers}
-use Rattle.published_laws.specs.Enabling.{placeOf, waiting-waits, enabled-iff}
+use Rattle.published_laws.specs.EnabledAlike.{placeOf, waiting-waits, enabled-iff}
 
 -- ---- the threads of the rows that a test takes
 

@@ -17,11 +17,11 @@ use Rattle.rules.specs.declared.Direction.{Direction}
 use Rattle.rules.specs.declared.Direction.the-variants.{Out, In}
 use Rattle.rules.specs.declared.Act.{Act}
 use Rattle.rules.specs.declared.Act.the-variants.{Tau, Meeting, New, Spawn, Assignment}
-use Rattle.granted.specs.Codes.{clash}
-use Rattle.engine_laws.specs.Reading.Laws.{offers-intro}
+use Rattle.rules_laws.specs.Codes.{clash}
+use Rattle.rules_laws.specs.Reading.Laws.{offers-intro}
 use Rattle.published.specs.Syntax.{Process}
 use Rattle.published.specs.Agents.{_∈_, Commitment, gives, takes, channelOf}
-use Rattle.published.specs.Lists.{in-left, in-right, in-either}
+use Rattle.published.specs.ProductLaws.{in-left, in-right, in-either}
 use Rattle.published_laws.specs.Standing.{processAt, committed, commitmentsFrom, waitingThread, readyThread, threadOf}
 
 -- a commitment of direction d: an output or an input

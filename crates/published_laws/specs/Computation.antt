@@ -23,24 +23,24 @@ use Rattle.rules.specs.declared.Given.{Given}
 use Rattle.rules.specs.declared.Given.the-variants as Given
 use Rattle.rules.specs.declared.Taken.{Taken}
 use Rattle.rules.specs.declared.Taken.the-variants as Taken
-use Rattle.granted.specs.Accepted.{granted}
-use Rattle.granted.specs.Codes.{clash}
-use Rattle.engine_laws.specs.Shape.Laws.{view-bytes}
-use Rattle.engine_laws.specs.Started.{started-sound}
-use Rattle.engine_laws.specs.Entry.{RightLengths, start-admitted-iff}
+use Rattle.rules_laws.specs.Accepted.{granted}
+use Rattle.rules_laws.specs.Codes.{clash}
+use Rattle.rules_laws.specs.Shape.Laws.{view-bytes}
+use Rattle.rules_laws.specs.Started.{started-sound}
+use Rattle.rules_laws.specs.Entry.{RightLengths, start-admitted-iff}
 use Rattle.engine_laws.specs.Buffers.{SoundBuffer}
-use Rattle.engine_laws.specs.Calls.{admitted, start-done, start-sound}
+use Rattle.engine_laws.specs.SoundCalls.{admitted, start-done, start-sound}
 use Rattle.engine_laws.specs.Lists.{step, give, take, run, after}
-use Rattle.engine_laws.specs.Refusals.{step-refused-keeps, give-refused-keeps, take-refused-keeps, give-nobody-keeps, take-nobody-keeps}
+use Rattle.rules_laws.specs.Refusals.{step-refused-keeps, give-refused-keeps, take-refused-keeps, give-nobody-keeps, take-nobody-keeps}
 use Rattle.collector.specs.Collect.{collectCall}
 use Rattle.guarantee.specs.Claim.{Any, on, collect, afterAny, afterList, reachedBy}
-use Rattle.guarantee.specs.Kept.{list-sound}
+use Rattle.guarantee.specs.ClaimKept.{list-sound}
 use Rattle.published.specs.Syntax.{Process, end, choice, nothing, branch, always, output, input, assign, constant, waiting, someWait}
 use Rattle.published.specs.Agents as Agents
 use Rattle.published.specs.Agents.{_∈_, Value, refers, valueOf, Thread}
 use Rattle.published.specs.Rules.{Reduces, acts, more, stays, goes, Reaches, assigns}
 use Rattle.published.specs.Fired.{turns-reach}
-use Rattle.published.specs.Lists.{many-on, stepped-reaches}
+use Rattle.published.specs.ProductLaws.{many-on, stepped-reaches}
 use Rattle.published.specs.Polarity.{OnePolarity, Bare, our-proposition-2}
 use Rattle.published_laws.specs.Standing.{bodyOf, forNumbers, envOf, threadOf, threadsOf, agentOf, OurRules, OurLabels}
 use Rattle.published_laws.specs.Benches.{portsAnd, bench-is, look-port, look-own, bind-own}

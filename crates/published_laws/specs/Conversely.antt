@@ -26,19 +26,19 @@ use Rattle.rules.specs.declared.Partner.{Partner}
 use Rattle.rules.specs.declared.Partner.the-variants.{Nobody, At}
 use Rattle.rules.specs.declared.Move.{Move}
 use Rattle.rules.specs.declared.Move.the-variants.{Ends, Calls, Waits, Goes, Creates, Spawns, Meets, LacksThread, LacksChannel}
-use Rattle.granted.specs.Granted.{Granted}
-use Rattle.engine_laws.specs.Reading.Laws.{ready-used, waiting-used}
-use Rattle.engine_laws.specs.Sound.{RowSound, Orderly, Sound}
-use Rattle.engine_laws.specs.Rows.{waiting-waits}
-use Rattle.engine_laws.specs.Onward.{goneBy-ready, createdBy-ready}
-use Rattle.engine_laws.specs.Chosen.{channelBy, Open, Answering, Blocked, Creating, Spawning, Chosen, chosen}
-use Rattle.engine_laws.specs.Kept.{written-orderly}
+use Rattle.rules_laws.specs.Granted.{Granted}
+use Rattle.rules_laws.specs.Reading.Laws.{ready-used, waiting-used}
+use Rattle.rules_laws.specs.Soundness.{RowSound, Orderly, Sound}
+use Rattle.rules_laws.specs.ThreadRow.{waiting-waits}
+use Rattle.rules_laws.specs.Onward.{goneBy-ready, createdBy-ready}
+use Rattle.rules_laws.specs.Chosen.{channelBy, Open, Answering, Blocked, Creating, Spawning, Chosen, chosen}
+use Rattle.rules_laws.specs.Kept.{written-orderly}
 use Rattle.published.specs.Syntax as Syntax
 use Rattle.published.specs.Syntax.{Process, Sum, waits}
 use Rattle.published.specs.Agents as Agents
 use Rattle.published.specs.Agents.{_∈_, Value, look, Commitment, Thread, Channels, Agent, agent}
 use Rattle.published.specs.Rules.{Rearranged, same-first, twice, Many, Reclaims, Nothing}
-use Rattle.published.specs.Lists.{same-order, in-rearranged, turned-back}
+use Rattle.published.specs.ProductLaws.{same-order, in-rearranged, turned-back}
 use Rattle.published.specs.Fired.{nothing-fires}
 use Rattle.published.specs.Orders.{cancelled}
 use Rattle.published.specs.Choices.{Sends, Receives, ByAction, ByCommitment, ByProcess, Of, same-channel, same-value}

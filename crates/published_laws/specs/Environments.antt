@@ -20,11 +20,11 @@ use Rattle.state.specs.State.{maxChannels, rowSlots, standsAt, slotOf, inUse}
 use Rattle.rules.specs.Program.{wrappedSum, wrappedDifference, branchAt, fieldB, fieldC, actOf, guardHolds, assigned}
 use Rattle.rules.specs.Holding.{holds}
 use Rattle.rules.specs.declared.Act.the-variants.{Assignment}
-use Rattle.granted.specs.Granted.{Granted}
-use Rattle.granted.specs.Codes.{clash}
-use Rattle.engine_laws.specs.Reading.Laws.{holds-elim, holds-intro}
-use Rattle.engine_laws.specs.Sound.{SlotSound, spare, number, unfilled, filled, RowSound}
-use Rattle.engine_laws.specs.Onward.{own-slot}
+use Rattle.rules_laws.specs.Granted.{Granted}
+use Rattle.rules_laws.specs.Codes.{clash}
+use Rattle.rules_laws.specs.Reading.Laws.{holds-elim, holds-intro}
+use Rattle.rules_laws.specs.Soundness.{SlotSound, spare, number, unfilled, filled, RowSound}
+use Rattle.rules_laws.specs.Onward.{own-slot}
 use Rattle.published.specs.Agents as Agents
 use Rattle.published.specs.Agents.{Value, look, bind, numeric, numberOf, valueOf, Thread, knows}
 use Rattle.published.specs.Bindings.{look-bound, look-other, length-bound, knows-iff}

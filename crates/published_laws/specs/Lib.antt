@@ -17,7 +17,7 @@ pub mod Telling
 pub mod Turning
 pub mod Outside
 pub mod Places
-pub mod Enabling
+pub mod EnabledAlike
 pub mod Collecting
 pub mod Taking
 pub mod Running
@@ -29,4 +29,4 @@ pub mod StepConversely
 pub mod Benches
 pub mod Starting
 pub mod Computation
-pub mod Instance
+pub mod ReductionInstance

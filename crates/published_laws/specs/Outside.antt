@@ -18,18 +18,18 @@ use Rattle.rules.specs.Calls.{bench}
 use Rattle.rules.specs.declared.Direction.{Direction}
 use Rattle.rules.specs.declared.Direction.the-variants.{Out, In}
 use Rattle.rules.specs.declared.Partner.the-variants.{At}
-use Rattle.granted.specs.Granted.{Granted}
-use Rattle.engine_laws.specs.Reading.Laws.{ready-used, waiting-used}
-use Rattle.engine_laws.specs.Sound.{RowSound, Sound}
-use Rattle.engine_laws.specs.Onward.{metBy-ready}
-use Rattle.engine_laws.specs.Meetings.{meets-by, value-type}
-use Rattle.engine_laws.specs.Chosen.{Answering, partner-answers}
+use Rattle.rules_laws.specs.Granted.{Granted}
+use Rattle.rules_laws.specs.Reading.Laws.{ready-used, waiting-used}
+use Rattle.rules_laws.specs.Soundness.{RowSound, Sound}
+use Rattle.rules_laws.specs.Onward.{metBy-ready}
+use Rattle.rules_laws.specs.Meetings.{meets-by, value-type}
+use Rattle.rules_laws.specs.Chosen.{Answering, partner-answers}
 use Rattle.published.specs.Syntax.{Process, choice, Sum, branch, always, output, input}
 use Rattle.published.specs.Agents as Agents
 use Rattle.published.specs.Agents.{Env, look, bind, Commitment, Thread, Agent}
 use Rattle.published.specs.Rules.{Rearranged, same-first, send, recv, last}
 use Rattle.published.specs.Fired.{by-send, by-recv, fired, Labels, firing, Ends, TurnBy, SteppedBy}
-use Rattle.published.specs.Lists.{turned-back}
+use Rattle.published.specs.ProductLaws.{turned-back}
 use Rattle.published_laws.specs.Readable.{Readable}
 use Rattle.published_laws.specs.Standing.{processAt, waitingThread, threadOf, threadsOf, envOf, channelsOf, agentOf}
 use Rattle.published_laws.specs.Environments.{number-value, look-filled}

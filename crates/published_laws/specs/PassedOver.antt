@@ -14,9 +14,9 @@ use Rattle.rules.specs.Program.{branchAt, nextOf, childOf, fieldA, actOf, guard
 use Rattle.rules.specs.declared.Direction.{Direction}
 use Rattle.rules.specs.declared.Direction.the-variants.{Out, In}
 use Rattle.rules.specs.declared.Act.the-variants.{Meeting}
-use Rattle.granted.specs.Granted.{Granted}
-use Rattle.engine_laws.specs.Sound.{Orderly}
-use Rattle.engine_laws.specs.Chosen.{channelBy}
+use Rattle.rules_laws.specs.Granted.{Granted}
+use Rattle.rules_laws.specs.Soundness.{Orderly}
+use Rattle.rules_laws.specs.Chosen.{channelBy}
 use Rattle.published.specs.Syntax.{Process, Sum, nothing, Prefix, andWait, waits, waiting, someWait}
 use Rattle.published.specs.Agents.{_∈_, Env, Commitment, Thread, Channels, Agent, agent}
 use Rattle.published.specs.Choices.{Sends, Receives, ByAction, ByCommitment, ByPrefix, BySum, ByProcess, Of, same-channel}

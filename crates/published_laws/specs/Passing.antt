@@ -25,11 +25,11 @@ use Rattle.rules.specs.declared.Act.{Act}
 use Rattle.rules.specs.declared.Act.the-variants.{Tau, Meeting, New, Spawn, Assignment}
 use Rattle.rules.specs.declared.Partner.{Partner}
 use Rattle.rules.specs.declared.Partner.the-variants.{Nobody, At}
-use Rattle.granted.specs.Granted.{Granted}
-use Rattle.engine_laws.specs.Reading.Laws.{ready-used, holds-elim}
-use Rattle.engine_laws.specs.Sound.{RowSound, Orderly}
-use Rattle.engine_laws.specs.Chosen.{channelBy, nobody-answers}
-use Rattle.engine_laws.specs.Meetings.{meets-by}
+use Rattle.rules_laws.specs.Granted.{Granted}
+use Rattle.rules_laws.specs.Reading.Laws.{ready-used, holds-elim}
+use Rattle.rules_laws.specs.Soundness.{RowSound, Orderly}
+use Rattle.rules_laws.specs.Chosen.{channelBy, nobody-answers}
+use Rattle.rules_laws.specs.Meetings.{meets-by}
 use Rattle.engine_laws.specs.Channels.{on-held}
 use Rattle.published.specs.Syntax.{Process, choice, Sum, branch, andWait, waits}
 use Rattle.published.specs.Agents as Agents

@@ -15,11 +15,11 @@ use Rattle.table.specs.Table.{Table, ports}
 use Rattle.state.specs.State.{inUse, isReady, isWaiting}
 use Rattle.rules.specs.Holding.{holds, holders, countOf}
 use Rattle.rules.specs.Start.{freeRow}
-use Rattle.engine_laws.specs.Reading.Laws.{holds-elim, ready-not-waiting}
+use Rattle.rules_laws.specs.Reading.Laws.{holds-elim, ready-not-waiting}
 use Rattle.published.specs.Syntax.{waiting}
 use Rattle.published.specs.Agents.{_∈_, Thread, knows, globalrc}
 use Rattle.published.specs.Rules.{Rearranged, same-first, swapped, twice}
-use Rattle.published.specs.Lists.{same-order}
+use Rattle.published.specs.ProductLaws.{same-order}
 use Rattle.published_laws.specs.Standing.{envOf, waitingThread, readyThread, threadOf, threadsOf}
 use Rattle.published_laws.specs.Environments.{knows-held}
 

@@ -1,4 +1,4 @@
--- What an accepted table has besides what `granted/specs/Granted.antt` says: branches lead to later nodes, a choice has a branch, and guards and sums read
+-- What an accepted table has besides what `rules_laws/specs/Granted.antt` says: branches lead to later nodes, a choice has a branch, and guards and sums read
 -- slots for numbers. Assumes nothing.
 use Prim.Native.Nat.{ℕ, _+_, _-_, _<_, _≤_}
 use native.Mathlib.Omega.{arith}
@@ -21,12 +21,12 @@ use Rattle.table.specs.declared.Role.the-variants.{ReadNumber}
 use Rattle.checks.specs.Ranges.{nodeInRange, operandInRange, branchInRange}
 use Rattle.checks.specs.Types.{roleTyped, operandTyped, branchTyped, rowTyped, typesDisagree}
 use Rattle.loader.specs.Load.{accepted}
-use Rattle.loading.specs.Grounds.{named, named-below, branch-kind, node-in-range, node-of, branch-below, own-branch-in-range, edges}
-use Rattle.loading.specs.Paths.{rowOf}
+use Rattle.loader_laws.specs.Grounds.{named, named-below, branch-kind, node-in-range, node-of, branch-below, own-branch-in-range, edges}
+use Rattle.loader_laws.specs.Paths.{rowOf}
 use Rattle.rules.specs.Program.{kindOf, branchAt, nextOf, childOf, fieldB, fieldC, actOf}
 use Rattle.rules.specs.declared.Act.the-variants.{Spawn}
-use Rattle.granted.specs.Passed.{Passed, accepted-passed}
-use Rattle.granted.specs.Codes.{spawns-by}
+use Rattle.rules_laws.specs.Passed.{Passed, accepted-passed}
+use Rattle.rules_laws.specs.Codes.{spawns-by}
 
 module _ (tb : Table) where
   -- slot k at node n is one for numbers

@@ -12,11 +12,11 @@ use Rattle.numbers.specs.Search.Laws.{caseB}
 use Rattle.table.specs.Table.{Table}
 use Rattle.state.specs.State.{State, maxChannels, typeIn, withChannels}
 use Rattle.rules.specs.Holding.{waiters, countOf, channelRow, settled}
-use Rattle.counts.specs.Upkeep.{settled-length}
-use Rattle.engine_laws.specs.Settle.{settled-row}
+use Rattle.upkeep.specs.Upkeep.{settled-length}
+use Rattle.rules_laws.specs.Settle.{settled-row}
 use Rattle.published.specs.Agents.{Thread, Channels, adding, agent, globalrc}
 use Rattle.published.specs.Rules.{Reclaims, reclaim, Many, stays, goes}
-use Rattle.published.specs.Lists.{many-on}
+use Rattle.published.specs.ProductLaws.{many-on}
 use Rattle.published_laws.specs.Standing.{threadsOf, channelsOf, agentOf}
 use Rattle.published_laws.specs.Products.{Bench, globalrc-count}
 

@@ -28,16 +28,16 @@ use Rattle.rules.specs.declared.Stepped.the-variants as Stepped
 use Rattle.rules.specs.declared.Deed.{Deed}
 use Rattle.rules.specs.declared.Reason.{Reason}
 use Rattle.rules.specs.declared.Ran.the-variants as Ran
-use Rattle.granted.specs.Granted.{Granted}
-use Rattle.granted.specs.Codes.{clash}
-use Rattle.granted.specs.Accepted.{granted}
-use Rattle.engine_laws.specs.Sound.{Sound}
-use Rattle.engine_laws.specs.Lasting.{move-kept, give-kept, take-kept, course-kept}
+use Rattle.rules_laws.specs.Granted.{Granted}
+use Rattle.rules_laws.specs.Codes.{clash}
+use Rattle.rules_laws.specs.Accepted.{granted}
+use Rattle.rules_laws.specs.Soundness.{Sound}
+use Rattle.rules_laws.specs.Lasting.{move-kept, give-kept, take-kept, course-kept}
 use Rattle.engine_laws.specs.Buffers.{SoundBuffer, view-sound}
-use Rattle.engine_laws.specs.Shape.Laws.{view-bytes}
-use Rattle.engine_laws.specs.Calls.{admitted}
+use Rattle.rules_laws.specs.Shape.Laws.{view-bytes}
+use Rattle.engine_laws.specs.SoundCalls.{admitted}
 use Rattle.collector.specs.Collect.{collected, collectBy, collectCall}
-use Rattle.collector_laws.specs.Kept.{collected-sound}
+use Rattle.collector_laws.specs.CollectionKeeps.{collected-sound}
 use Rattle.published.specs.Syntax.{Process, choice, Sum, branch, always, output, input}
 use Rattle.published.specs.Agents as Agents
 use Rattle.published.specs.Agents.{Env, look, bind, Commitment, Thread, Agent}

@@ -12,8 +12,8 @@ use Rattle.loader.specs.Verdict.{verdict}
 use Rattle.loader.specs.Load.{tableLength, loaded}
 use Rattle.loader.specs.declared.Loaded.the-variants.{Done}
 use Rattle.loader.specs.declared.Verdict.the-variants.{Sound}
-use Rattle.loading.specs.Yields.{sound-loads}
-use Rattle.loading.specs.Examples.{listing-sound}
+use Rattle.loader_laws.specs.Yields.{sound-loads}
+use Rattle.loader_laws.specs.FileExamples.{listing-sound}
 use Rattle.state.specs.State.{stateLength, view, withChannels}
 use Rattle.rules.specs.Holding.{settled}
 use Rattle.rules.specs.Start.{entered, started}
@@ -22,7 +22,7 @@ use Rattle.rules.specs.declared.Reason.{Reason}
 use Rattle.rules.specs.declared.Ran.the-variants as Ran
 use Rattle.engine_laws.specs.Buffers.{SoundBuffer}
 use Rattle.engine_laws.specs.Lists.{reached}
-use Rattle.engine_laws.specs.Instance.{loaded-small, loaded-accepted, loaded-sound}
+use Rattle.engine_laws.specs.ListInstance.{loaded-small, loaded-accepted, loaded-sound}
 use Rattle.collector.specs.Collect.{collectCall}
 use Rattle.published.specs.Syntax.{end, waiting}
 use Rattle.published.specs.Agents as Agents

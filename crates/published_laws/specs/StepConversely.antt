@@ -15,14 +15,14 @@ use Rattle.rules.specs.Moves.{move, perform}
 use Rattle.rules.specs.Calls.{stepAnswer, canStep, stepBy, stepCall}
 use Rattle.rules.specs.declared.Stepped.the-variants as Stepped
 use Rattle.rules.specs.declared.Deed.{Deed}
-use Rattle.granted.specs.Granted.{Granted}
-use Rattle.granted.specs.Codes.{clash}
-use Rattle.granted.specs.Accepted.{granted}
-use Rattle.engine_laws.specs.Sound.{Sound}
-use Rattle.engine_laws.specs.Lasting.{move-kept}
+use Rattle.rules_laws.specs.Granted.{Granted}
+use Rattle.rules_laws.specs.Codes.{clash}
+use Rattle.rules_laws.specs.Accepted.{granted}
+use Rattle.rules_laws.specs.Soundness.{Sound}
+use Rattle.rules_laws.specs.Lasting.{move-kept}
 use Rattle.engine_laws.specs.Buffers.{SoundBuffer, view-sound}
-use Rattle.engine_laws.specs.Shape.Laws.{view-bytes}
-use Rattle.engine_laws.specs.Calls.{admitted}
+use Rattle.rules_laws.specs.Shape.Laws.{view-bytes}
+use Rattle.engine_laws.specs.SoundCalls.{admitted}
 use Rattle.published.specs.Agents.{Thread, Agent}
 use Rattle.published.specs.Rules.{Reclaims, Many}
 use Rattle.published.specs.Whole.{WholeTurn, UpTo}

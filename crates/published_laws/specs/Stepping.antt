@@ -23,11 +23,11 @@ use Rattle.rules.specs.declared.Partner.{Partner}
 use Rattle.rules.specs.declared.Partner.the-variants.{Nobody, At}
 use Rattle.rules.specs.declared.Move.{Move}
 use Rattle.rules.specs.declared.Move.the-variants.{Ends, Calls, Waits, Goes, Creates, Spawns, Meets, LacksThread, LacksChannel}
-use Rattle.moves.specs.Around.{around-in}
-use Rattle.granted.specs.Granted.{Granted}
-use Rattle.engine_laws.specs.Sound.{Sound}
-use Rattle.engine_laws.specs.Chosen.{channelBy, Open, Answering, partner-answers, chosen}
-use Rattle.engine_laws.specs.Kept.{written-orderly}
+use Rattle.decision.specs.Around.{around-in}
+use Rattle.rules_laws.specs.Granted.{Granted}
+use Rattle.rules_laws.specs.Soundness.{Sound}
+use Rattle.rules_laws.specs.Chosen.{channelBy, Open, Answering, partner-answers, chosen}
+use Rattle.rules_laws.specs.Kept.{written-orderly}
 use Rattle.published.specs.Agents.{Thread, Agent}
 use Rattle.published.specs.Rules.{Nothing}
 use Rattle.published.specs.Fired.{fired, Labels, nothing-fires, TurnBy, SteppedBy}

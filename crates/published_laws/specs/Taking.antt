@@ -15,16 +15,16 @@ use Rattle.numbers.specs.Search.Laws.{caseB, contra}
 use Rattle.table.specs.Table.{Table, tableOf}
 use Rattle.loader.specs.Load.{accepted}
 use Rattle.state.specs.State.{State, maxThreads, view, thread, inUse}
-use Rattle.granted.specs.Granted.{Granted}
-use Rattle.granted.specs.Accepted.{granted}
-use Rattle.engine_laws.specs.Sound.{Sound}
+use Rattle.rules_laws.specs.Granted.{Granted}
+use Rattle.rules_laws.specs.Accepted.{granted}
+use Rattle.rules_laws.specs.Soundness.{Sound}
 use Rattle.engine_laws.specs.Buffers.{SoundBuffer, view-sound}
 use Rattle.collector.specs.Collect.{taken, takenCount, collectCall}
 use Rattle.collector.specs.Collect.Laws.{count-says}
 use Rattle.collector.specs.declared.Collected.the-variants as Collected
 use Rattle.collector_laws.specs.Out.{takenThread}
 use Rattle.guarantee.specs.Claim.{takenBy}
-use Rattle.guarantee.specs.Kept.{collect-done, collect-view, taken-is}
+use Rattle.guarantee.specs.ClaimKept.{collect-done, collect-view, taken-is}
 use Rattle.published.specs.Agents.{Thread, nth}
 use Rattle.published.specs.Enabling.{Disabled}
 use Rattle.published_laws.specs.Readable.{Readable, readable}

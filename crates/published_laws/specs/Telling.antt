@@ -22,10 +22,10 @@ use Rattle.rules.specs.declared.Move.{Move}
 use Rattle.rules.specs.declared.Move.the-variants.{Ends, Calls, Waits, Goes, Creates, Spawns, Meets, LacksThread, LacksChannel}
 use Rattle.rules.specs.declared.Stepped.the-variants as Stepped
 use Rattle.rules.specs.declared.Deed.{Deed}
-use Rattle.granted.specs.Codes.{clash}
-use Rattle.engine_laws.specs.Reading.Laws.{ready-used}
-use Rattle.engine_laws.specs.Sound.{Orderly}
-use Rattle.engine_laws.specs.Chosen.{Chosen, chosen}
+use Rattle.rules_laws.specs.Codes.{clash}
+use Rattle.rules_laws.specs.Reading.Laws.{ready-used}
+use Rattle.rules_laws.specs.Soundness.{Orderly}
+use Rattle.rules_laws.specs.Chosen.{Chosen, chosen}
 use Rattle.published.specs.Agents.{Commitment, Thread}
 use Rattle.published.specs.Fired.{by-step, by-new, by-spawn, by-send, by-recv, by-assigns}
 use Rattle.published_laws.specs.Readable.{Readable}

@@ -19,19 +19,19 @@ use Rattle.rules.specs.declared.Direction.{Direction}
 use Rattle.rules.specs.declared.Direction.the-variants.{Out, In}
 use Rattle.rules.specs.declared.Act.the-variants.{Meeting}
 use Rattle.rules.specs.declared.Move.the-variants.{Spawns, Meets}
-use Rattle.granted.specs.Granted.{Granted}
-use Rattle.engine_laws.specs.Reading.Laws.{ready-used, waiting-used}
-use Rattle.engine_laws.specs.Sound.{RowSound, Orderly}
-use Rattle.engine_laws.specs.Rows.{resumed-ready}
-use Rattle.engine_laws.specs.Onward.{metBy-ready}
-use Rattle.engine_laws.specs.Meetings.{meets-by, value-type}
-use Rattle.engine_laws.specs.Chosen.{channelBy, Open, Spawning, Answering}
+use Rattle.rules_laws.specs.Granted.{Granted}
+use Rattle.rules_laws.specs.Reading.Laws.{ready-used, waiting-used}
+use Rattle.rules_laws.specs.Soundness.{RowSound, Orderly}
+use Rattle.rules_laws.specs.ThreadRow.{resumed-ready}
+use Rattle.rules_laws.specs.Onward.{metBy-ready}
+use Rattle.rules_laws.specs.Meetings.{meets-by, value-type}
+use Rattle.rules_laws.specs.Chosen.{channelBy, Open, Spawning, Answering}
 use Rattle.published.specs.Syntax.{Sum, waits}
 use Rattle.published.specs.Agents as Agents
 use Rattle.published.specs.Agents.{_∈_, Value, look, Commitment, Thread, Agent, agent}
 use Rattle.published.specs.Rules.{Rearranged, same-first, swapped, twice, spawn, send, recv}
 use Rattle.published.specs.Fired.{Rule, by-spawn, fired, Labels, firing, ActsBy, TurnBy}
-use Rattle.published.specs.Lists.{same-order, in-rearranged, turned-back}
+use Rattle.published.specs.ProductLaws.{same-order, in-rearranged, turned-back}
 use Rattle.published_laws.specs.Readable.{Readable}
 use Rattle.published_laws.specs.Standing.{guardOf, prefixOf, processAt, bodyOf, valueAs, envOf, commitmentsFrom, waitingThread, readyThread, threadOf, threadsOf, channelsOf, agentOf}
 use Rattle.published_laws.specs.Environments.{guard-same, filled-value, look-filled}

@@ -19,11 +19,11 @@ use Rattle.rules.specs.declared.Move.the-variants.{Ends, Calls, Waits, Goes, Cr
 use Rattle.rules.specs.declared.Reason.{Reason}
 use Rattle.rules.specs.declared.Turn.{Turn}
 use Rattle.rules.specs.declared.Turn.the-variants.{Went, Stopped}
-use Rattle.moves.specs.Around.{next-ready-in}
-use Rattle.granted.specs.Granted.{Granted}
-use Rattle.granted.specs.Codes.{clash}
-use Rattle.engine_laws.specs.Sound.{Sound}
-use Rattle.engine_laws.specs.Lasting.{take-turn-kept}
+use Rattle.decision.specs.Around.{next-ready-in}
+use Rattle.rules_laws.specs.Granted.{Granted}
+use Rattle.rules_laws.specs.Codes.{clash}
+use Rattle.rules_laws.specs.Soundness.{Sound}
+use Rattle.rules_laws.specs.Lasting.{take-turn-kept}
 use Rattle.published.specs.Agents.{Thread, Agent}
 use Rattle.published.specs.Fired.{SteppedBy, Had, Turns, none-had, had}
 use Rattle.published_laws.specs.Readable.{Readable}

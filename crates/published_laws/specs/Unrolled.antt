@@ -10,7 +10,7 @@ use Rattle.rules.specs.Program.{kindOf, branchAt, nextOf, childOf, actOf}
 use Rattle.rules.specs.declared.Direction.the-variants.{Out, In}
 use Rattle.rules.specs.declared.Act.{Act}
 use Rattle.rules.specs.declared.Act.the-variants.{Tau, Meeting, New, Spawn, Assignment}
-use Rattle.granted.specs.Granted.{Granted}
+use Rattle.rules_laws.specs.Granted.{Granted}
 use Rattle.published.specs.Syntax.{Process, Sum, nothing, wait, branch, andWait, waits}
 use Rattle.published_laws.specs.Readable.{Readable}
 use Rattle.published_laws.specs.Standing.{prefixOf, sumBefore, nodeProcess, unrolled, processAt}

@@ -17,15 +17,15 @@ use Rattle.rules.specs.declared.Act.{Act}
 use Rattle.rules.specs.declared.Act.the-variants.{Tau, Meeting, New, Spawn, Assignment}
 use Rattle.rules.specs.declared.Move.{Move}
 use Rattle.rules.specs.declared.Move.the-variants.{Ends, Calls, Waits, Goes, Creates, Spawns, Meets, LacksThread, LacksChannel}
-use Rattle.granted.specs.Granted.{Granted}
-use Rattle.engine_laws.specs.Reading.Laws.{ready-used, waiting-used}
-use Rattle.engine_laws.specs.Sound.{Orderly, Sound}
-use Rattle.engine_laws.specs.Rows.{waiting-waits}
-use Rattle.engine_laws.specs.Chosen.{Chosen, chosen}
+use Rattle.rules_laws.specs.Granted.{Granted}
+use Rattle.rules_laws.specs.Reading.Laws.{ready-used, waiting-used}
+use Rattle.rules_laws.specs.Soundness.{Orderly, Sound}
+use Rattle.rules_laws.specs.ThreadRow.{waiting-waits}
+use Rattle.rules_laws.specs.Chosen.{Chosen, chosen}
 use Rattle.published.specs.Syntax.{Sum, nothing, andWait, waits, waiting}
 use Rattle.published.specs.Agents.{Commitment, Thread, agent}
 use Rattle.published.specs.Rules.{Rearranged, Nothing}
-use Rattle.published.specs.Lists.{turned-back}
+use Rattle.published.specs.ProductLaws.{turned-back}
 use Rattle.published.specs.Fired.{by-passing, fired, nothing-fires, ActsBy, TurnBy}
 use Rattle.published.specs.Whole.{Whole, WholeTurn, firstWaits, passing, action-whole, passed-so, rested-so}
 use Rattle.published_laws.specs.Readable.{Readable}
@@ -35,7 +35,7 @@ use Rattle.published_laws.specs.Products.{Bench, ready-thread}
 use Rattle.published_laws.specs.Firing.{goingRule, meetingRule, firedBy}
 use Rattle.published_laws.specs.Passing.{Passed, others, tip, midway, left-by, pass-one}
 use Rattle.published_laws.specs.Alone.{own-first, new-first, at-choice, wait-thread}
-use Rattle.published_laws.specs.Enabling.{some-waits}
+use Rattle.published_laws.specs.EnabledAlike.{some-waits}
 use Rattle.published_laws.specs.Stepping.{Plain, turn-published}
 use Rattle.published_laws.specs.Conversely.{all-passed}
 

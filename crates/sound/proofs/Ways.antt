@@ -18,8 +18,8 @@ use Rattle.state.specs.State.{State, maxThreads, maxChannels, threadWords, rowS
 use Rattle.rules.specs.Program.{channelSlot}
 use Rattle.rules.specs.Holding.{countOf, holders, waiters}
 use Rattle.rules.specs.Sound.{marksInRange, freeZero, rowInRange, spareZero, slotTyped, slotsTyped, slotFilled, slotsFilled, countTrue, portTyped, waitsRightly, sound}
-use Rattle.sound.specs.Rows.{wordZero, spareAt, slotSound, rowSound}
-use Rattle.sound.specs.Rows.Laws.{slots-sound, sound-rows}
+use Rattle.sound.specs.SoundRows.{wordZero, spareAt, slotSound, rowSound}
+use Rattle.sound.specs.SoundRows.Laws.{slots-sound, sound-rows}
 
 and-true : (b : Bool) → b ≡ (b && true)
 and-true true = refl

@@ -11,7 +11,7 @@ ghost use Rattle.flow.specs.Marks.{marksOf};
 ghost use Rattle.state.specs.State.{stateOf, maxThreads, maxChannels, threadWords, rowSlots, thread, standsAt};
 ghost use Rattle.rules.specs.Holding.{countOf, holders, waiters};
 ghost use Rattle.rules.specs.Sound.{marksInRange, countTrue, portTyped, sound};
-ghost use Rattle.sound.specs.Rows.{wordZero, slotSound, rowSound};
+ghost use Rattle.sound.specs.SoundRows.{wordZero, slotSound, rowSound};
 
 const THREADS: u32 = 64;
 
@@ -184,7 +184,7 @@ fn count_due(table: &[u8], state: &[u32; state::WORDS], held: &[u8], c: u32) -> 
     requires { ⌜ c < maxChannels ⌝ }
     ensures { λ r. ⌜ r ≡ countOf (tableOf (now (table .entry))) (stateOf (now (state .entry)) .threads) c ⌝ }
 {
-    let n = tally::byte_at(held, c) as u32;
+    let n = recount::byte_at(held, c) as u32;
     if c < table::cell(table, 0, 6) {
         return 1 + n;
     }
@@ -208,7 +208,7 @@ fn channel_sound(
     if count != count_due(table, state, held, c) {
         return false;
     }
-    if state::channel_word(state, c as usize, 2) != tally::byte_at(waiting, c) as u32 {
+    if state::channel_word(state, c as usize, 2) != recount::byte_at(waiting, c) as u32 {
         return false;
     }
     if state::channel_word(state, c as usize, 0) == 0 {
@@ -237,7 +237,7 @@ fn counts_sound(table: &[u8], index: &[u32], state: &[u32; state::WORDS]) -> boo
 {
     let mut held = [0u8; 128];
     let mut waiting = [0u8; 128];
-    tally::tally(table, index, state, &mut held, &mut waiting);
+    recount::tally(table, index, state, &mut held, &mut waiting);
     channels_sound(table, state, &held, &waiting)
 }
 

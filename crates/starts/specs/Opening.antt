@@ -9,7 +9,7 @@ use Rattle.numbers.specs.Search.{tabulate}
 use Rattle.table.specs.Table.{Table, ports}
 use Rattle.state.specs.State.{State, maxThreads, maxChannels, withChannels}
 use Rattle.rules.specs.Start.{freeRow, freeChannelRow}
-use Rattle.starts.specs.Filled.{filledTo}
+use Rattle.starts.specs.FilledRows.{filledTo}
 
 -- the row of channel c where the first p channels are ports: the bench holds a port, and nobody else does
 unfoldable pub portHeld : ℕ → ℕ → List ℕ

@@ -19,7 +19,7 @@ fn free_threads(state: &mut [u32; state::WORDS])
     ensures { λ _. ⌜ stateOf (now (state .exit)) ≡ freed (stateOf (now (state .entry))) ⌝ }
 {
     for t in 0..THREADS {
-        writes::write_free(state, t);
+        thread_rows::write_free(state, t);
     }
 }
 
@@ -84,7 +84,7 @@ pub fn write_started(table: &[u8], index: &[u32], state: &mut [u32; state::WORDS
 {
     let mut old = [0u8; ROW_SLOTS];
     write_unstarted(table, state);
-    let waits = counts::take_down(table, index, state, 0, &mut old);
-    writes::write_start(table, index, state);
-    counts::settle_one(table, index, state, 0, &old, waits);
+    let waits = upkeep::take_down(table, index, state, 0, &mut old);
+    thread_rows::write_start(table, index, state);
+    upkeep::settle_one(table, index, state, 0, &old, waits);
 }

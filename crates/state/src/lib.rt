@@ -1,8 +1,9 @@
-// The words of a state. Each function answers for every place: a read outside gives 0, a write outside does nothing.
+// The words of a state, and the buffers that hold them. Each look-up answers for every place: a read outside gives 0, a write outside does nothing.
 ghost use mathlib.Core.Path.{_≡_};
-ghost use lib.ListN.{getD, set};
+ghost use lib.ListN.{length, getD, set};
+ghost use Rattle.numbers.specs.Bytes.{words};
 ghost use Rattle.numbers.specs.Rows.{at};
-ghost use Rattle.state.specs.State.{stateOf, thread, channel, withMark, withThread, withChannel};
+ghost use Rattle.state.specs.State.{stateOf, stateBytes, stateWords, stateLength, thread, channel, withMark, withThread, withChannel};
 
 // All its words.
 pub const WORDS: usize = 1539;
@@ -79,5 +80,28 @@ pub fn put_channel(state: &mut [u32; WORDS], c: usize, k: usize, v: u32)
         if k < CHANNEL_WORDS {
             numbers::put_cell(state, CHANNELS_FROM + c * CHANNEL_WORDS + k, v);
         }
+    }
+}
+
+// The words of a buffer.
+pub fn read(buffer: &[u8], state: &mut [u32])
+    requires { ⌜ length (now buffer) ≡ stateLength ⌝ }
+    requires { ⌜ length (now state) ≡ stateWords ⌝ }
+    ensures { λ _. ⌜ now (state .exit) ≡ words (now (buffer .entry)) ⌝ }
+{
+    for i in 0..WORDS {
+        state[i] = numbers::word_at(buffer, i);
+    }
+}
+
+// A buffer gets these words.
+pub fn write(state: &[u32; WORDS], buffer: &mut [u8])
+    requires { ⌜ length (now buffer) ≡ stateLength ⌝ }
+    ensures { λ _. ⌜ now (buffer .exit) ≡ stateBytes (stateOf (now (state .entry))) ⌝ }
+{
+    // as a slice the state tells its length
+    let words: &[u32] = state;
+    for i in 0..WORDS {
+        numbers::put_word(buffer, i, words[i]);
     }
 }

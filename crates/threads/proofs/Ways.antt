@@ -24,9 +24,9 @@ use Rattle.rules.specs.declared.Direction.{Direction}
 use Rattle.rules.specs.declared.Direction.the-variants.{Out, In}
 use Rattle.rules.specs.declared.Act.{Act}
 use Rattle.rules.specs.declared.Act.the-variants.{Tau, Meeting, New, Spawn, Assignment}
-use Rattle.counts.specs.Own.{ownList}
-use Rattle.counts.specs.Shift.{settledOne}
-use Rattle.counts.specs.Upkeep.{one-settled, settled-again}
+use Rattle.upkeep.specs.Own.{ownList}
+use Rattle.upkeep.specs.Shift.{settledOne}
+use Rattle.upkeep.specs.Upkeep.{one-settled, settled-again}
 use Rattle.threads.specs.Threads.{offersMarked, withHeld}
 use Rattle.threads.specs.Looking.{raisedTo, isMarked, reachesBy, reachesAt}
 use Rattle.threads.specs.Looking.Laws.{raised-held, reaches-is, offers-nothing}

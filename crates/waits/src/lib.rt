@@ -222,7 +222,7 @@ fn all_apart(senders: &[u8], receivers: &[u8]) -> bool
     ensures { λ r. ⌜ r ≡ allApart (now (senders .entry)) (now (receivers .entry)) ⌝ }
 {
     for c in 0..CHANNELS {
-        if !is_apart(tally::byte_at(senders, c), tally::byte_at(receivers, c)) {
+        if !is_apart(recount::byte_at(senders, c), recount::byte_at(receivers, c)) {
             return false;
         }
     }

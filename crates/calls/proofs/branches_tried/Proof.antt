@@ -1,4 +1,4 @@
-use Rattle.moves.specs.Tried.{tried-idle}
+use Rattle.decision.specs.Tried.{tried-idle}
 use Rattle.calls.specs.Ports.{tried-for-bench}
 use borrow.Author.Needs.{needs}
 use Rattle.calls.proofs.branches_tried.Statement.{statement}

@@ -8,7 +8,7 @@ use Rattle.table.specs.Table.{tableOf}
 use Rattle.state.specs.State.{stateOf, thread}
 use Rattle.rules.specs.Offers.{offersAt, answers}
 use Rattle.rules.specs.declared.Partner.the-variants.{Nobody}
-use Rattle.moves.specs.Tried.{no-channel, thread-passed, found-at}
+use Rattle.decision.specs.Tried.{no-channel, thread-passed, found-at}
 use Rattle.calls.specs.Ports.{port-nobody}
 use Rattle.calls.proofs.find_at_port.Statement.{statement}
 use Rattle.calls.proofs.find_at_port.Tie as tie

@@ -1,6 +1,6 @@
 use Rattle.calls.proofs.Laws.{give-refused, give-nobody, give-met}
-use Rattle.moves.specs.Partners.{partner-below}
-use Rattle.steps.specs.Keeping.Laws.{at-port}
+use Rattle.decision.specs.Partners.{partner-below}
+use Rattle.turns.specs.Keeping.Laws.{at-port}
 use borrow.Author.Needs.{needs}
 use Rattle.calls.proofs.give.Statement.{statement}
 use Rattle.calls.proofs.give.Tie as tie

@@ -1,5 +1,5 @@
-use Rattle.moves.specs.Top.{used-all}
-use Rattle.steps.specs.Made.Laws.{next-is-ready}
+use Rattle.decision.specs.Top.{used-all}
+use Rattle.turns.specs.Made.Laws.{next-is-ready}
 use Rattle.calls.proofs.Laws.{run-done}
 use borrow.Author.Needs.{needs}
 use Rattle.calls.proofs.run.Statement.{statement}

@@ -1,5 +1,5 @@
 use Rattle.calls.proofs.Laws.{step-done, step-refused, step-is-ready}
-use Rattle.steps.specs.Counted.Laws.{counted-mark}
+use Rattle.turns.specs.Counted.Laws.{counted-mark}
 use borrow.Author.Needs.{needs}
 use Rattle.calls.proofs.step.Statement.{statement}
 use Rattle.calls.proofs.step.Tie as tie

@@ -1,6 +1,6 @@
 use Rattle.calls.proofs.Laws.{take-refused, take-nobody, take-met}
-use Rattle.moves.specs.Partners.{partner-below}
-use Rattle.steps.specs.Keeping.Laws.{at-port}
+use Rattle.decision.specs.Partners.{partner-below}
+use Rattle.turns.specs.Keeping.Laws.{at-port}
 use borrow.Author.Needs.{needs}
 use Rattle.calls.proofs.take.Statement.{statement}
 use Rattle.calls.proofs.take.Tie as tie

@@ -5,11 +5,11 @@ use mathlib.Core.Path.{_≡_}
 use mathlib.Core.Bool.{true}
 use Rattle.table.specs.Table.{tableOf}
 use Rattle.state.specs.State.{stateOf, thread, isReady}
-use Rattle.moves.specs.Top.{UsedBelow}
-use Rattle.engine_laws.specs.Sound.{Sound}
+use Rattle.decision.specs.Top.{UsedBelow}
+use Rattle.rules_laws.specs.Soundness.{Sound}
 use Rattle.rules.specs.Holding.{settled}
-use Rattle.steps.specs.Counted.{Counted}
-use Rattle.steps.specs.Made.Laws.{next-is-ready}
+use Rattle.turns.specs.Counted.{Counted}
+use Rattle.turns.specs.Made.Laws.{next-is-ready}
 use Rattle.calls.specs.Course.{after, courseBy, course-nobody, course-stopped, course-all}
 use Rattle.calls.proofs.Laws.{Followed, sound-begins, counted-begins, course-begins, course-goes-on, followed-none, followed-more, nobody-last, stopped-last, all-last}
 use borrow.Author.Needs.{needs}

@@ -20,8 +20,8 @@ use Rattle.rules.specs.declared.Direction.{Direction}
 use Rattle.rules.specs.declared.Direction.the-variants.{Out, In}
 use Rattle.rules.specs.declared.Act.{Act}
 use Rattle.rules.specs.declared.Act.the-variants.{Tau, Meeting, New, Spawn, Assignment}
-use Rattle.engine_laws.specs.Reading.{Offering}
-use Rattle.engine_laws.specs.Reading.Laws.{offers-elim, offers-intro}
+use Rattle.rules_laws.specs.Reading.{Offering}
+use Rattle.rules_laws.specs.Reading.Laws.{offers-elim, offers-intro}
 use Rattle.collector.specs.Rounds.{marked, round-all, round-root, round-closed}
 use Rattle.collector.specs.Enabled.{Enabled, from-start, is-ready, by-bench, by-thread, known, reaches, joins, begins, rounds, enabledSet}
 

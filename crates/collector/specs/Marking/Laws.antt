@@ -17,8 +17,8 @@ use Rattle.numbers.specs.Tests.{and-left, and-right}
 use Rattle.table.specs.Table.{Table, ports}
 use Rattle.state.specs.State.{State, maxThreads, maxChannels, thread, inUse, isReady}
 use Rattle.rules.specs.Holding.{holds}
-use Rattle.engine_laws.specs.Reading.Laws.{offers-elim}
-use Rattle.engine.specs.Threads.{offersMarked, withHeld, marked-offer, offer-marked}
+use Rattle.rules_laws.specs.Reading.Laws.{offers-elim}
+use Rattle.engine.specs.ThreadsAsked.{offersMarked, withHeld, marked-offer, offer-marked}
 use Rattle.collector.specs.Rounds.{marked}
 use Rattle.collector.specs.Enabled.{Enabled, is-ready, joins, begins, rounds, enabledSet}
 use Rattle.collector.specs.Enabled.Laws.{or-elim, or-second, Known, Joins, joins-elim, joins-intro, joins-enabled, enabled-closed, enabled-iff}

@@ -40,17 +40,17 @@ use Rattle.rules.specs.declared.Taken.{Taken}
 use Rattle.rules.specs.declared.Taken.the-variants as Taken
 use Rattle.rules.specs.declared.Ran.{Ran}
 use Rattle.rules.specs.declared.Ran.the-variants as Ran
-use Rattle.granted.specs.Codes.{clash}
+use Rattle.rules_laws.specs.Codes.{clash}
 use Rattle.engine.specs.Numbers.{refusalNumber, partnerNumber}
-use Rattle.engine_laws.specs.Reading.Laws.{waiting-used}
-use Rattle.engine_laws.specs.Entry.{RightLengths, length-iff, start-length-iff, start-admitted-iff}
-use Rattle.engine_laws.specs.Chosen.{Chosen, chosen, partner-answers}
-use Rattle.engine_laws.specs.Frames.{elem, movers}
+use Rattle.rules_laws.specs.Reading.Laws.{waiting-used}
+use Rattle.rules_laws.specs.Entry.{RightLengths, length-iff, start-length-iff, start-admitted-iff}
+use Rattle.rules_laws.specs.Chosen.{Chosen, chosen, partner-answers}
+use Rattle.rules_laws.specs.Frames.{elem, movers}
 use Rattle.engine_laws.specs.Movers.{ranMovers}
 use Rattle.engine_laws.specs.Buffers.{SoundBuffer}
-use Rattle.engine_laws.specs.Calls.{start-done, admitted}
+use Rattle.engine_laws.specs.SoundCalls.{start-done, admitted}
 use Rattle.engine_laws.specs.Lists.{Call, step, give, take, run, after, afterAll, after-sound}
-use Rattle.engine_laws.specs.Instance.{loaded-small, loaded-accepted}
+use Rattle.engine_laws.specs.ListInstance.{loaded-small, loaded-accepted}
 use Rattle.collector.specs.Collect.{taken, takenCount, collectBy, collectCall}
 use Rattle.collector.specs.Collect.Laws.{count-says}
 use Rattle.collector.specs.declared.Collected.{Collected}
@@ -59,7 +59,7 @@ use Rattle.pithread.specs.Interface.{loadResult, inNumbers, startFields, startN
 use Rattle.guarantee.specs.Claim.{Any, on, collect, afterAny, afterList, reachedBy, unlessRefused, metByGive, metByTake, inTurns, moving, movingAll, takenBy, Untouched, Linked, NeverTen}
 use Rattle.guarantee.specs.Exported.{left, refusal, given-so, started-so, left-so, refused-so, load-so, table-so}
 use Rattle.guarantee.specs.InNumbers.{leftAll, leftFrom, isZero, ifDone, named, waitingIn, moved, movedAll, takes, NoTen, InNumbers}
-use Rattle.guarantee.specs.Kept.{collect-done, collect-view}
+use Rattle.guarantee.specs.ClaimKept.{collect-done, collect-view}
 use Rattle.guarantee.specs.Proof.{accepted-guarantee, reached-sound, collection-made}
 
 -- ---- the numbers of an answer

@@ -1,4 +1,4 @@
-use Rattle.listing.specs.Reading.{came-within, came-counts}
+use Rattle.listing.specs.ReadInput.{came-within, came-counts}
 use borrow.Author.Needs.{needs}
 use Rattle.listing.proofs.main.Statement.{statement}
 use Rattle.listing.proofs.main.Tie as tie

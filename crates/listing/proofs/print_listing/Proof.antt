@@ -1,4 +1,4 @@
-use Rattle.listing.specs.Reading.{front-within, front-counts}
+use Rattle.listing.specs.ReadInput.{front-within, front-counts}
 use borrow.Author.Needs.{needs}
 use Rattle.listing.proofs.print_listing.Statement.{statement}
 use Rattle.listing.proofs.print_listing.Tie as tie

@@ -2,7 +2,7 @@
 use Prim.Native.Nat.{_≤_, _-_}
 use mathlib.Core.Path.{_≡_}
 use lib.ListN.{length}
-use Rattle.listing.specs.Reading.{Within}
+use Rattle.listing.specs.ReadInput.{Within}
 use borrow.Author.Needs.{needs}
 use Rattle.listing.proofs.read_input.Statement.{statement}
 use Rattle.listing.proofs.read_input.Tie as tie

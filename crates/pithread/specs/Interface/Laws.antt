@@ -16,7 +16,7 @@ use Rattle.loader.specs.declared.Verdict.{Verdict}
 use Rattle.loader.specs.declared.Verdict.the-variants.{Sound, Fault}
 use Rattle.loader.specs.declared.Loaded.{Loaded}
 use Rattle.loader.specs.declared.Loaded.the-variants.{Done, WrongLength}
-use Rattle.loading.specs.Lowest.{fault-line}
+use Rattle.loader_laws.specs.Lowest.{fault-line}
 use Rattle.pithread.specs.Interface.{LoadResult, numbered, loadResult}
 
 line-few : (file t : List ℕ) (v : Verdict) → verdict file ≡ v → lineNumber (afterVerdict v file t .answer) ≤ 865

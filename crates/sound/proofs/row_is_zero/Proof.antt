@@ -6,7 +6,7 @@ use borrow.Author.Needs.{needs}
 use Rattle.numbers.specs.Search.{every}
 use Rattle.numbers.specs.Search.Laws.{every-laws}
 use Rattle.state.specs.State.{stateOf, thread}
-use Rattle.sound.specs.Rows.{wordZero}
+use Rattle.sound.specs.SoundRows.{wordZero}
 use Rattle.sound.proofs.Ways.{word-zero, word-other}
 use Rattle.sound.proofs.row_is_zero.Statement.{statement}
 use Rattle.sound.proofs.row_is_zero.Tie as tie

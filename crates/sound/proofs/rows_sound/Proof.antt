@@ -8,7 +8,7 @@ use Rattle.numbers.specs.Search.{every}
 use Rattle.numbers.specs.Search.Laws.{every-laws}
 use Rattle.table.specs.Table.{tableOf}
 use Rattle.state.specs.State.{stateOf, thread}
-use Rattle.sound.specs.Rows.{rowSound}
+use Rattle.sound.specs.SoundRows.{rowSound}
 use Rattle.sound.proofs.rows_sound.Statement.{statement}
 use Rattle.sound.proofs.rows_sound.Tie as tie
 

@@ -18,11 +18,11 @@ use Rattle.state.specs.State.{State, stateOf, stateWords, thread, channel, isWa
 use Rattle.state.specs.State.Laws.{length-marks, length-threads, length-channels, length-channel, three-stored}
 use Rattle.rules.specs.Holding.{holds, holders, waiters, countOf, channelRow, recount, settled}
 use Rattle.rules.specs.Start.{freeRow, entered, portRow, started}
-use Rattle.counts.specs.Own.{ownList}
-use Rattle.counts.specs.Shift.{settledOne}
-use Rattle.counts.specs.Upkeep.{one-settled, settled-again}
-use Rattle.starts.specs.Filled.{filledTo}
-use Rattle.starts.specs.Filled.Laws.{filled-all, tabulate-same, none-pass}
+use Rattle.upkeep.specs.Own.{ownList}
+use Rattle.upkeep.specs.Shift.{settledOne}
+use Rattle.upkeep.specs.Upkeep.{one-settled, settled-again}
+use Rattle.starts.specs.FilledRows.{filledTo}
+use Rattle.starts.specs.FilledRows.Laws.{filled-all, tabulate-same, none-pass}
 use Rattle.starts.specs.Opening.{portHeld, freedTo, freed, openedTo, opened, marked, unstarted}
 
 -- ---- free_threads

@@ -20,9 +20,9 @@ use Rattle.rules.specs.Holding.{holds}
 use Rattle.rules.specs.Offers.{meets?, offersIn, offersAt, offers}
 use Rattle.rules.specs.declared.Direction.{Direction}
 use Rattle.rules.specs.declared.Direction.the-variants.{Out, In}
-use Rattle.counts.specs.Own.{ownOf, ownList}
-use Rattle.counts.specs.Own.Listing.{holdsTo}
-use Rattle.counts.specs.Own.Laws.{holds-none, own-suc, holds-all}
+use Rattle.upkeep.specs.Own.{ownOf, ownList}
+use Rattle.upkeep.specs.Own.Listing.{holdsTo}
+use Rattle.upkeep.specs.Own.Laws.{holds-none, own-suc, holds-all}
 use Rattle.threads.specs.Threads.{offersMarked, withHeld}
 use Rattle.threads.specs.Threads.Laws.{one-way, this-way, marked-offer, offer-marked}
 use Rattle.threads.specs.Looking.{raisedTo, isMarked, reachesBy, reachesAt}

@@ -1,0 +1,15 @@
+use Rattle.acts.proofs.Laws.{act-passes, act-stores}
+use borrow.Author.Tests.{not-true, not-false}
+use borrow.Author.Needs.{needs}
+use Rattle.acts.proofs.go_alone.Statement.{statement}
+use Rattle.acts.proofs.go_alone.Tie as tie
+
+pub go-alone-spec : {M : Type 1} → statement M
+go-alone-spec =
+    tie.close
+    (tie.spec
+    (λ c κs. search needs)
+    (λ c κs. search needs)
+    (λ c. search (act-passes, not-true))
+    (λ c κs. search needs)
+    (λ c. search (act-stores, not-false)))

@@ -1,0 +1,2 @@
+pub mod PassedOn
+pub mod Way

@@ -1,0 +1,4 @@
+pub mod WorkedListing
+pub mod Shown
+pub mod Cut
+pub mod WorkedReasons

@@ -1,0 +1,241 @@
+-- Why a run ends, in the numbers that C sees: what `pithread_run` answers and leaves, said by what `pithread_step` answers and leaves. Of buffers of
+-- bytes, whatever their length. Assumes nothing.
+use Prim.Native.Nat.{ℕ, _<_, _≤_}
+use native.Mathlib.Omega.{arith}
+use mathlib.Core.Path.{_≡_, refl, sym, ap, _∙_}
+use mathlib.Core.Bool.{true}
+use mathlib.Core.Logic.{_⊎_, ⊎-elim, _↔_}
+use mathlib.Core.List.{List}
+use lib.IntN.{ℤ, pos, negsuc}
+use lib.ListN.{getD}
+use mir.Syntax.{w32}
+use mir.Val.{toZ}
+use mir.Facts.{toZ-pos}
+use borrow.Author.Tests.{ltb-true}
+use Rattle.numbers.specs.Tests.{parts}
+use Rattle.state.specs.State.{maxThreads, view}
+use Rattle.rules.specs.Calls.{canStep, runCall}
+use Rattle.rules.specs.declared.Refusal.{Refusal}
+use Rattle.rules.specs.declared.Refusal.the-variants as Ground
+use Rattle.rules.specs.declared.Deed.{Deed}
+use Rattle.rules.specs.declared.Stepped.{Stepped}
+use Rattle.rules.specs.declared.Stepped.the-variants as Stepped
+use Rattle.rules.specs.declared.Reason.{Reason}
+use Rattle.rules.specs.declared.Reason.the-variants.{AllDone, NoneReady, LackedThread, LackedChannel}
+use Rattle.rules.specs.declared.Ran.{Ran}
+use Rattle.rules.specs.declared.Ran.the-variants as Ran
+use Rattle.rules_laws.specs.Codes.{clash}
+use Rattle.engine.specs.Numbers.{refusalNumber, reasonNumber, heldUpNumber}
+use Rattle.rules_laws.specs.Refusals.{step-thread-row-iff, step-channel-row-iff}
+use Rattle.engine_laws.specs.Reasons.{turnPast, due, Idle, dueAnswer, afterTurns, leftBy, RunEnds, run-ends}
+use Rattle.pithread.specs.Interface.{inNumbers, stepFields, stepNumbers, stepResult, runFields, runNumbers, runResult}
+use Rattle.pithread.specs.declared.RunAnswer.{RunAnswer}
+
+-- the first number of the answer to a step of the first ready thread from the turn on
+unfoldable pub dueRefusal : List ℕ → List ℕ → ℤ
+dueRefusal table state = stepResult table state (due state) .answer .refusal
+
+-- a run of at most n steps made k of them, was answered with a and left the bytes `left`. After its steps the buffer has `afterTurns table k state`
+pub record RunAnswers (table state : List ℕ) (n k : ℕ) (a : RunAnswer) (left : List ℕ) : Type 0 where
+  pub steps : a .steps ≡ pos k
+  pub at-most : k ≤ n
+  pub each : (i : ℕ) → i < k → dueRefusal table (afterTurns table i state) ≡ pos 0
+  pub reason-0 : (a .reason ≡ pos 0) ↔ (k ≡ n)
+  pub reason-1 : (a .reason ≡ pos 1) ↔ ((k < n) × Idle (afterTurns table k state))
+  pub reason-2 : (a .reason ≡ pos 2) ↔ ((k < n) × (dueRefusal table (afterTurns table k state) ≡ pos 13))
+  pub reason-3 : (a .reason ≡ pos 3) ↔ ((k < n) × (dueRefusal table (afterTurns table k state) ≡ pos 14))
+  -- nobody is held up, and nothing changes after the steps
+  pub ends : (a .reason ≡ pos 0) ⊎ (a .reason ≡ pos 1) → (a .thread ≡ negsuc 0) × (left ≡ afterTurns table k state)
+  -- the thread whose step would be refused is held up, and the turn moves past it
+  pub held-up : (a .reason ≡ pos 2) ⊎ (a .reason ≡ pos 3)
+      → (a .thread ≡ pos (due (afterTurns table k state))) × (left ≡ turnPast (afterTurns table k state) (due (afterTurns table k state)))
+
+-- ---- numbers
+
+number : Reason → ℤ
+number r = toZ w32 (reasonNumber r)
+
+zero-is : (r : Reason) → number r ≡ pos 0 → r ≡ AllDone
+unfolding number reasonNumber
+zero-is AllDone e = refl
+zero-is NoneReady e = clash cc
+zero-is (LackedThread t) e = clash cc
+zero-is (LackedChannel t) e = clash cc
+
+one-is : (r : Reason) → number r ≡ pos 1 → r ≡ NoneReady
+unfolding number reasonNumber
+one-is AllDone e = clash cc
+one-is NoneReady e = refl
+one-is (LackedThread t) e = clash cc
+one-is (LackedChannel t) e = clash cc
+
+two-is : (r : Reason) → number r ≡ pos 2 → (t : ℕ) × (r ≡ LackedThread t)
+unfolding number reasonNumber
+two-is AllDone e = clash cc
+two-is NoneReady e = clash cc
+two-is (LackedThread t) e = (t, refl)
+two-is (LackedChannel t) e = clash cc
+
+three-is : (r : Reason) → number r ≡ pos 3 → (t : ℕ) × (r ≡ LackedChannel t)
+unfolding number reasonNumber
+three-is AllDone e = clash cc
+three-is NoneReady e = clash cc
+three-is (LackedThread t) e = clash cc
+three-is (LackedChannel t) e = (t, refl)
+
+thirteen-is : (g : Refusal) → toZ w32 (refusalNumber g) ≡ pos 13 → g ≡ Ground.ThreadRow
+unfolding refusalNumber
+thirteen-is Ground.Length e = clash cc
+thirteen-is Ground.Table e = clash cc
+thirteen-is Ground.State e = clash cc
+thirteen-is Ground.Thread e = clash cc
+thirteen-is Ground.Port e = clash cc
+thirteen-is Ground.ThreadRow e = refl
+thirteen-is Ground.ChannelRow e = clash cc
+
+fourteen-is : (g : Refusal) → toZ w32 (refusalNumber g) ≡ pos 14 → g ≡ Ground.ChannelRow
+unfolding refusalNumber
+fourteen-is Ground.Length e = clash cc
+fourteen-is Ground.Table e = clash cc
+fourteen-is Ground.State e = clash cc
+fourteen-is Ground.Thread e = clash cc
+fourteen-is Ground.Port e = clash cc
+fourteen-is Ground.ThreadRow e = clash cc
+fourteen-is Ground.ChannelRow e = refl
+
+-- a refusal's number is not 0
+not-zero : (g : Refusal) → toZ w32 (refusalNumber g) ≡ pos 0 → ⊥
+unfolding refusalNumber
+not-zero Ground.Length e = clash cc
+not-zero Ground.Table e = clash cc
+not-zero Ground.State e = clash cc
+not-zero Ground.Thread e = clash cc
+not-zero Ground.Port e = clash cc
+not-zero Ground.ThreadRow e = clash cc
+not-zero Ground.ChannelRow e = clash cc
+
+step-thirteen : (x : Stepped) → stepNumbers x .refusal ≡ pos 13 → x ≡ Stepped.Refused Ground.ThreadRow
+unfolding stepNumbers stepFields
+step-thirteen (Stepped.Done n d) e = clash cc
+step-thirteen (Stepped.Refused g) e = ap (λ x. Stepped.Refused x) (thirteen-is g e)
+
+step-fourteen : (x : Stepped) → stepNumbers x .refusal ≡ pos 14 → x ≡ Stepped.Refused Ground.ChannelRow
+unfolding stepNumbers stepFields
+step-fourteen (Stepped.Done n d) e = clash cc
+step-fourteen (Stepped.Refused g) e = ap (λ x. Stepped.Refused x) (fourteen-is g e)
+
+run-done : (x : Ran) → runNumbers x .refusal ≡ pos 0 → (k : ℕ) × (r : Reason) × (x ≡ Ran.Done k r)
+unfolding runNumbers runFields
+run-done (Ran.Done k r) e = (k, r, refl)
+run-done (Ran.Refused g) e = absurd (not-zero g e)
+
+-- ---- a run as the rules have it
+
+module _ (table b : List ℕ) where
+  -- the number is that of the step's answer
+  done-number : (a : ℕ) (d : Deed) → dueAnswer table b ≡ Stepped.Done a d → dueRefusal table b ≡ pos 0
+  unfolding dueRefusal stepResult inNumbers stepNumbers stepFields
+  done-number a d e = ap (λ x. stepNumbers x .refusal) e
+
+  thread-row-number : (dueAnswer table b ≡ Stepped.Refused Ground.ThreadRow) ↔ (dueRefusal table b ≡ pos 13)
+  unfolding dueRefusal stepResult inNumbers stepNumbers stepFields refusalNumber
+  thread-row-number = (λ e. ap (λ x. stepNumbers x .refusal) e, λ e. step-thirteen (dueAnswer table b) e)
+
+  channel-row-number : (dueAnswer table b ≡ Stepped.Refused Ground.ChannelRow) ↔ (dueRefusal table b ≡ pos 14)
+  unfolding dueRefusal stepResult inNumbers stepNumbers stepFields refusalNumber
+  channel-row-number = (λ e. ap (λ x. stepNumbers x .refusal) e, λ e. step-fourteen (dueAnswer table b) e)
+
+  -- a thread whose step lacks a row is one of the 64
+  can-low : canStep (view b) (due b) ≡ true → due b < maxThreads
+  unfolding canStep
+  can-low e = ltb-true (due b) maxThreads (search parts)
+
+  thread-row-low : dueAnswer table b ≡ Stepped.Refused Ground.ThreadRow → due b < maxThreads
+  thread-row-low e = can-low (step-thread-row-iff table b (due b) .0 e .1)
+
+  channel-row-low : dueAnswer table b ≡ Stepped.Refused Ground.ChannelRow → due b < maxThreads
+  channel-row-low e = can-low (step-channel-row-iff table b (due b) .0 e .1)
+
+module _ (table state : List ℕ) (n k : ℕ) (r : Reason) (left : List ℕ) (run : RunEnds table state n k r left) (l : n < 65536) where
+  abbrev b : List ℕ
+  b = afterTurns table k state
+
+  abbrev a : RunAnswer
+  a = runNumbers (Ran.Done k r)
+
+  reason-is : a .reason ≡ number r
+  unfolding runNumbers runFields number
+  reason-is = refl
+
+  thread-is : a .thread ≡ toZ w32 (heldUpNumber r)
+  unfolding runNumbers runFields
+  thread-is = refl
+
+  steps-are : a .steps ≡ pos k
+  unfolding runNumbers runFields
+  steps-are = toZ-pos w32 {n = k} (omega (arith, run .at-most))
+
+  -- why it ended, by the number
+  told : (x : Reason) → r ≡ x → a .reason ≡ number x
+  told x q = reason-is ∙ ap number q
+
+  all-ends : r ≡ AllDone → (a .thread ≡ negsuc 0) × (left ≡ b)
+  unfolding heldUpNumber leftBy
+  all-ends q = (thread-is ∙ ap (λ x. toZ w32 (heldUpNumber x)) q, run .leaves ∙ ap (λ x. leftBy x b) q)
+
+  none-ends : r ≡ NoneReady → (a .thread ≡ negsuc 0) × (left ≡ b)
+  unfolding heldUpNumber leftBy
+  none-ends q = (thread-is ∙ ap (λ x. toZ w32 (heldUpNumber x)) q, run .leaves ∙ ap (λ x. leftBy x b) q)
+
+  thread-held : (t : ℕ) → r ≡ LackedThread t → (a .thread ≡ pos (due b)) × (left ≡ turnPast b (due b))
+  unfolding heldUpNumber leftBy
+  thread-held t q =
+      let h = run .lacked-thread t .0 q in
+      let low : due b < maxThreads = thread-row-low table b (h .2) in
+      let z : r ≡ LackedThread (due b) = q ∙ ap (λ x. LackedThread x) (h .1) in
+      (thread-is ∙ ap (λ x. toZ w32 (heldUpNumber x)) z ∙ toZ-pos w32 {n = due b} (omega (arith, low)), run .leaves ∙ ap (λ x. leftBy x b) z)
+
+  channel-held : (t : ℕ) → r ≡ LackedChannel t → (a .thread ≡ pos (due b)) × (left ≡ turnPast b (due b))
+  unfolding heldUpNumber leftBy
+  channel-held t q =
+      let h = run .lacked-channel t .0 q in
+      let low : due b < maxThreads = channel-row-low table b (h .2) in
+      let z : r ≡ LackedChannel (due b) = q ∙ ap (λ x. LackedChannel x) (h .1) in
+      (thread-is ∙ ap (λ x. toZ w32 (heldUpNumber x)) z ∙ toZ-pos w32 {n = due b} (omega (arith, low)), run .leaves ∙ ap (λ x. leftBy x b) z)
+
+  answers : RunAnswers table state n k a left
+  unfolding number reasonNumber
+  answers = record {
+    steps = steps-are;
+    at-most = run .at-most;
+    each = λ i h. let e = run .steps i h in done-number table (afterTurns table i state) (e .0) (e .1) (e .2);
+    reason-0 = (λ e. run .all-done .0 (zero-is r (sym reason-is ∙ e)), λ q. told AllDone (run .all-done .1 q));
+    reason-1 = (λ e. run .none-ready .0 (one-is r (sym reason-is ∙ e)), λ q. told NoneReady (run .none-ready .1 q));
+    reason-2 = (
+      λ e. let t = two-is r (sym reason-is ∙ e) in let h = run .lacked-thread (t .0) .0 (t .1) in (h .0, thread-row-number table b .0 (h .2)),
+      λ q. told (LackedThread (due b)) (run .lacked-thread (due b) .1 (q .0, refl, thread-row-number table b .1 (q .1))),
+    );
+    reason-3 = (
+      λ e. let t = three-is r (sym reason-is ∙ e) in let h = run .lacked-channel (t .0) .0 (t .1) in (h .0, channel-row-number table b .0 (h .2)),
+      λ q. told (LackedChannel (due b)) (run .lacked-channel (due b) .1 (q .0, refl, channel-row-number table b .1 (q .1))),
+    );
+    ends = λ x. ⊎-elim (λ e. all-ends (zero-is r (sym reason-is ∙ e))) (λ e. none-ends (one-is r (sym reason-is ∙ e))) x;
+    held-up = λ x. ⊎-elim
+        (λ e. let t = two-is r (sym reason-is ∙ e) in thread-held (t .0) (t .1))
+        (λ e. let t = three-is r (sym reason-is ∙ e) in channel-held (t .0) (t .1)) x;
+  }
+
+  answered : (x : Ran) → x ≡ Ran.Done k r → RunAnswers table state n k (runNumbers x) left
+  answered x q = rw q answers
+
+-- ---- the theorem
+
+-- a run that C sees not refused: each reason exactly when it is due, the thread held up, and the bytes that are left
+pub run-answers : (table state : List ℕ) → ((i : ℕ) → getD table i 0 < 256) → ((i : ℕ) → getD state i 0 < 256) → (n : ℕ) → n < 65536
+    → runResult table state n .answer .refusal ≡ pos 0
+    → (k : ℕ) × RunAnswers table state n k (runResult table state n .answer) (runResult table state n .state)
+unfolding runResult inNumbers
+run-answers table state fit small n l e =
+    let z = run-done (runCall table state n .answer) e in
+    let ends = run-ends table state fit small n (z .0) (z .1) (z .2) in
+    (z .0, answered table state n (z .0) (z .1) (runCall table state n .state) ends l (runCall table state n .answer) (z .2))

@@ -1,0 +1,189 @@
+-- Instances of the theorems that tie states to 002's agents (`crates/published_laws`): threads that are a bench and that are not, an agent that no series of
+-- reductions reaches from the start of a file, whatever the bench does, and a turn that ends otherwise than the engine's step. Assumes nothing.
+use Prim.Native.Nat.{ℕ, suc, _<_}
+use native.Mathlib.Omega.{arith}
+use mathlib.Core.Path.{_≡_, refl, _∙_}
+use mathlib.Core.Logic.{inl, inr}
+use mathlib.Core.Bool.{true, false}
+use mathlib.Core.List.{List, [], _∷_}
+use mathlib.Core.Option.{Option, none, some}
+use lib.ListN.{getD}
+use Rattle.numbers.specs.Search.Laws.{contra}
+use Rattle.table.specs.Table.{Table, tableOf}
+use Rattle.loader.specs.Load.{tableBytes, accepted}
+use Rattle.loader_laws.specs.PrintedFile.{filledUp}
+use Rattle.state.specs.State.{view, stateBytes, thread, inUse, isReady}
+use Rattle.rules.specs.Start.{entered, started}
+use Rattle.rules.specs.Moves.{move, written}
+use Rattle.rules_laws.specs.Started.{started-sound}
+use Rattle.rules_laws.specs.Shape.Laws.{view-bytes}
+use Rattle.engine_laws.specs.Buffers.{SoundBuffer, bytes-sound}
+use Rattle.engine_laws.specs.Lists.{give}
+use Rattle.collector_laws.specs.Out.{takenThread}
+use Rattle.collector_laws.specs.Computing.{running, collecting}
+use Rattle.examples.specs.Tables.{portReceiver}
+use Rattle.guarantee.specs.Claim.{on, takenBy}
+use Rattle.guarantee.specs.ClaimKept.{taken-is}
+use Rattle.guarantee.specs.ClaimInstance.{parting}
+use Rattle.published.specs.Syntax.{Process, end, choice, nothing, branch, always, output, assign, constant, waiting}
+use Rattle.published.specs.Agents as Agents
+use Rattle.published.specs.Agents.{_∈_, Value, channel, bind, adding, refers, mentions, knows, Thread, Agent}
+use Rattle.published.specs.Rules.{swapped, new, Reaches}
+use Rattle.published.specs.ProductLaws.{same-order}
+use Rattle.published.specs.Choices.{commits}
+use Rattle.published.specs.Whole.{acted, WholeTurn, UpTo}
+use Rattle.published.specs.Enabling.{Disabled}
+use Rattle.published.specs.Polarity.{Bare, our-proposition-2}
+use Rattle.published_laws.specs.Standing.{channelsOf, guardOf, prefixOf, sumBefore, nodeProcess, unrolled, processAt, bodyOf, forNumbers, OurRules, envOf, readyThread, committed, commitmentsFrom, waitingThread, threadOf, threadsOf, agentOf}
+use Rattle.published_laws.specs.Places.{rank}
+use Rattle.published_laws.specs.Products.{Bench}
+use Rattle.published_laws.specs.Benches.{portsAnd, bench-is}
+use Rattle.published_laws.specs.Starting.{started-agent}
+use Rattle.published_laws.specs.Stepping.{Allowed}
+use Rattle.published_laws.specs.Conversely.{turn-conversely}
+use Rattle.published_laws.specs.Taking.{taken-iff-disabled}
+use Rattle.published_laws.specs.Computation.{giving, benchCall}
+use Rattle.instances.specs.OfFiles.{bytes-small, bytes-are, bytes-accepted, rows-granted, rows-readable}
+use Rattle.instances.specs.OfCollection.{parted, parting-in-order, parted-sound, listed, listed-in-order, facing}
+use Rattle.instances.specs.OfBuffers.{receives, receives-in-order, begun, nobody-there, somebody-there}
+
+-- ---- the bench of a file with one port: a thread that knows the port; one that knows another channel is none
+
+pub a-bench : Bench (filledUp portReceiver) (Agents.thread [] (portsAnd (filledUp portReceiver) none) end)
+unfolding refers waiting
+a-bench = bench-is (filledUp portReceiver) none (λ c. refl) end refl
+
+pub no-bench : ¬ Bench (filledUp portReceiver) (Agents.thread [] (some (channel 0) ∷ some (channel 9) ∷ []) end)
+unfolding knows mentions refers
+no-bench b = contra {b = knows 9 (Agents.thread [] (some (channel 0) ∷ some (channel 9) ∷ []) end)} refl (b .ports-only 9)
+
+-- ---- whole computations: two threads that wait for each other, one to send and one to receive on channel 0, are not reached from the start of document 01's
+-- listing, by 002's rules and document 01's own, from whatever process of the bench to whatever
+
+abbrev tb : Table
+tb = filledUp listed
+
+abbrev benchAt : Option Value → Process → Thread
+benchAt o E = Agents.thread [] (portsAnd (filledUp listed) o) E
+
+start-bare : (o : Option Value) (E : Process) → Bare (agentOf tb (benchAt o E) (started tb) .threads)
+unfolding agentOf
+start-bare o E x (inl e) = rw e
+start-bare o E x (inr i) = last-bare x (rw (started-agent tb) at i)
+  where
+    last-bare : (x : Thread) → x ∈ (Agents.thread [] (envOf tb (entered tb 0 (λ k. k))) (bodyOf tb 0) ∷ []) → x .commitments ≡ []
+    last-bare x (inl e) = rw e
+    last-bare x (inr z) = absurd z
+
+pub facing-unreached : (o o′ : Option Value) (E E′ : Process)
+    → ¬ Reaches (bodyOf (filledUp listed)) (OurRules (filledUp listed)) (agentOf (filledUp listed) (benchAt o E) (started (filledUp listed)))
+    (agentOf (filledUp listed) (benchAt o′ E′) (facing 2 2))
+unfolding running agentOf threadsOf threadOf waitingThread commitmentsFrom committed
+facing-unreached o o′ E E′ p =
+    our-proposition-2 (bodyOf tb) (forNumbers tb) (agentOf tb (benchAt o E) (started tb)) (agentOf tb (benchAt o′ E′) (facing 2 2)) (start-bare o E) p
+    1 2 (omega arith) (omega arith) (λ q. omega arith) 0 1 1 _ _ (inl refl) (inl refl)
+
+-- ... and what the bench does is told by the calls: where a give of 7 on port 0 meets a thread it sends 7 there, and where it meets nobody it does nothing
+
+pub bench-sends : benchCall receives (stateBytes (begun 1)) (on (give 0 7 (omega arith))) end
+    ≡ choice (branch always (assign 1 (constant 7)) (choice (branch always (output 0 1) end nothing)) nothing)
+unfolding benchCall giving
+bench-sends = rw (somebody-there, bytes-are portReceiver receives-in-order)
+
+pub bench-rests : benchCall receives (stateBytes (begun 0)) (on (give 0 7 (omega arith))) end ≡ end
+unfolding benchCall giving
+bench-rests = rw nobody-there
+
+-- ---- the other direction: at the start of document 01's listing thread 0 makes a channel. By 002's rules its turn may end with channel 5, where the engine
+-- takes channel 0, and the law says that this is the engine's step but for the name
+
+abbrev first : Thread
+first = threadOf tb (thread (started tb) 0)
+
+abbrev idle : Thread
+idle = benchAt none end
+
+abbrev pub named : ℕ → Agent
+named ĉ =
+    Agents.agent (adding (channelsOf (started (filledUp listed))) ĉ)
+    (Agents.thread [] (bind (threadOf (filledUp listed) (thread (started (filledUp listed)) 0) .env) 0 (channel ĉ)) (processAt (filledUp listed) 1) ∷ benchAt none end ∷ [])
+
+named-whole : WholeTurn (bodyOf tb) (agentOf tb idle (started tb)) first (named 5)
+unfolding running agentOf threadsOf channelsOf threadOf readyThread processAt unrolled nodeProcess sumBefore guardOf prefixOf Agents.holds commits
+named-whole = record {
+  others = idle ∷ [];
+  brought = swapped;
+  product = named 5 .threads;
+  whole = acted (new 5 refl refl) refl;
+  put-back = same-order (named 5 .threads);
+}
+
+idle-bench : Bench tb idle
+unfolding refers waiting
+idle-bench = bench-is tb none (λ c. refl) end refl
+
+first-ready : isReady (thread (started tb) 0) ≡ true
+unfolding running
+first-ready = refl
+
+first-allowed : Allowed (move tb (started tb) 0)
+unfolding running Allowed
+first-allowed = tt
+
+pub any-name : UpTo (bodyOf (filledUp listed)) (forNumbers (filledUp listed)) (agentOf (filledUp listed) (benchAt none end) (started (filledUp listed)))
+    (threadOf (filledUp listed) (thread (started (filledUp listed)) 0)) (named 5)
+    (agentOf (filledUp listed) (benchAt none end) (written (filledUp listed) (started (filledUp listed)) 0 (move (filledUp listed) (started (filledUp listed)) 0)))
+any-name =
+    turn-conversely tb (rows-granted listed listed-in-order) (rows-readable listed listed-in-order) (started tb)
+    (started-sound tb (rows-granted listed listed-in-order)) 0 (omega arith) first-ready idle idle-bench first-allowed (named 5) named-whole
+
+-- ---- Definition 1, read off the bytes: of the two threads of `parted` 002 calls the one disabled that a collection takes, and not the other
+
+abbrev pub partingTable : List ℕ
+partingTable = tableBytes (filledUp parting)
+
+abbrev partingBench : Thread
+partingBench = Agents.thread [] (portsAnd (tableOf partingTable) none) end
+
+bench-there : Bench (tableOf partingTable) partingBench
+unfolding refers waiting
+bench-there = bench-is (tableOf partingTable) none (λ c. refl) end refl
+
+ok : accepted partingTable ≡ true
+ok = bytes-accepted parting parting-in-order
+
+fit : (i : ℕ) → getD partingTable i 0 < 256
+fit = bytes-small parting parting-in-order
+
+held : SoundBuffer partingTable (stateBytes parted)
+held = bytes-sound partingTable parted (rw (bytes-are parting parting-in-order) parted-sound)
+
+parted-view : view (stateBytes parted) ≡ parted
+parted-view = view-bytes parted (parted-sound .orderly .shaped)
+
+-- both threads are in use, and the collection takes thread 1 and not thread 0
+uses : (inUse (thread parted 0) ≡ true)
+    × (inUse (thread parted 1) ≡ true)
+    × (takenThread (filledUp parting) parted 0 ≡ false)
+    × (takenThread (filledUp parting) parted 1 ≡ true)
+unfolding collecting parted takenThread
+uses = (refl, refl, refl, refl)
+
+taken-as : (t : ℕ) → takenBy partingTable (stateBytes parted) t ≡ takenThread (filledUp parting) parted t
+taken-as t = taken-is partingTable ok fit (stateBytes parted) held t ∙ rw (bytes-are parting parting-in-order, parted-view)
+
+-- the agent that the bytes stand for, and the places in it
+abbrev partingThreads : List Thread
+partingThreads = agentOf (tableOf partingTable) partingBench (view (stateBytes parted)) .threads
+
+abbrev placeOf : ℕ → ℕ
+placeOf t = suc (rank (view (stateBytes parted) .threads) t)
+
+pub child-disabled : Disabled partingThreads (placeOf 1)
+child-disabled =
+    taken-iff-disabled partingTable ok fit (stateBytes parted) held partingBench bench-there 1 (rw parted-view (uses .1)) .0 (taken-as 1 ∙ uses .3)
+
+pub parent-not-disabled : ¬ Disabled partingThreads (placeOf 0)
+parent-not-disabled d =
+    let y = taken-iff-disabled partingTable ok fit (stateBytes parted) held partingBench bench-there 0 (rw parted-view (uses .0)) .1 d in
+    contra y (taken-as 0 ∙ uses .2)

@@ -1,0 +1,95 @@
+-- The listing of a procedure file: from the bytes of the file to the bytes that are printed.
+use Prim.Native.Nat.{ℕ, suc, _%_}
+use Prim.Native.Char.{code}
+use Prim.Native.String.{String, [] as ends, _∷_ as _then_}
+use mathlib.Core.Bool.{not, cond}
+use mathlib.Core.List.{List, [], _∷_, _++_, map}
+use Rattle.numbers.specs.Bytes.{joined}
+use Rattle.numbers.specs.Count.{bit}
+use Rattle.numbers.specs.Search.{sumTo, tabulate}
+use Rattle.text.specs.Text.{text}
+use Rattle.table.specs.Table.{Table}
+use Rattle.loader.specs.File.{fileTable}
+use Rattle.loader.specs.Verdict.{groundNumber, verdict}
+use Rattle.loader.specs.declared.Verdict.{Verdict}
+use Rattle.loader.specs.declared.Verdict.the-variants.{Sound, Fault}
+use Rattle.state.specs.State.{State, maxThreads, maxChannels, thread, standsAt}
+use Rattle.rules.specs.Start.{started}
+use Rattle.rules.specs.Moves.{isFreeChannel, move}
+use Rattle.rules.specs.Calls.{stepAnswer, nextReady, Course, courseOf}
+use Rattle.rules.specs.declared.Stepped.{Stepped}
+use Rattle.rules.specs.declared.Stepped.the-variants.{Done, Refused}
+use Rattle.engine.specs.Numbers.{actNumber, branchNumber, partnerNumber, reasonNumber, heldUpNumber}
+use Rattle.collector.specs.Collect.{taken, collected, takenCount}
+
+-- ---- characters, columns and lines
+
+-- the characters of a quoted text, each as its number
+unfoldable pub characters : String → List ℕ
+characters ends = []
+characters (c then s) = code c ∷ characters s
+
+-- the column of a number that is given by its 32-bit pattern: the six characters of the same number's 16-bit pattern. Every number of a listing is within
+-- 16 bits (`examples_laws/specs/Shown.antt`)
+unfoldable pub column : ℕ → List ℕ
+column v = text (v % 65536)
+
+-- a line: columns and a newline
+unfoldable pub line : List ℕ → List ℕ
+line vs = joined (map column vs) ++ (10 ∷ [])
+
+unfoldable pub heading : List ℕ
+heading = characters "  STEPTHREAD  NODE   ACTBRANCH  WITH\n"
+
+-- ---- a run, and a collection after it
+
+-- the line of step k, by thread t and what the step answers; a step that is refused has none
+unfoldable pub stepLine : ℕ → ℕ → Stepped → List ℕ
+stepLine k t (Done n d) = line (k ∷ t ∷ n ∷ actNumber d ∷ branchNumber d ∷ partnerNumber d ∷ [])
+stepLine k t (Refused r) = []
+
+-- how many channels are in use, the ports among them
+unfoldable pub channelsInUse : State → ℕ
+channelsInUse s = sumTo (λ c. bit (not (isFreeChannel s c))) maxChannels
+
+abbrev pub maxSteps : ℕ
+maxSteps = 1000
+
+module _ (tb : Table) where
+  -- the line of step k, which the next ready thread of state s makes
+  unfoldable pub turnLine : ℕ → State → List ℕ
+  turnLine k s = stepLine k (nextReady s) (stepAnswer (standsAt (thread s (nextReady s))) (move tb s (nextReady s)))
+
+  -- the lines of the steps of the run from state s: i of them lead to the state in which a run of i steps ends, and there the next one is made
+  unfoldable pub stepLines : State → List ℕ
+  stepLines s = joined (tabulate (courseOf tb maxSteps s .steps) (λ i. turnLine (suc i) (courseOf tb i s .state)))
+
+  -- the closing line: how the run ended, and what a collection then takes and leaves
+  unfoldable pub closingLine : Course → List ℕ
+  closingLine k =
+      line (k .steps ∷ reasonNumber (k .reason) ∷ heldUpNumber (k .reason) ∷ takenCount tb (k .state) ∷ channelsInUse (collected tb (k .state)) ∷ [])
+
+  -- the lines of the threads that a collection in state s takes, lowest first: the thread and the node at which it waited
+  unfoldable pub takenLine : State → ℕ → List ℕ
+  takenLine s t = cond (taken tb s t) (line (t ∷ standsAt (thread s t) ∷ [])) []
+
+  unfoldable pub takenLines : State → List ℕ
+  takenLines s = joined (tabulate maxThreads (takenLine s))
+
+  -- all of it, from the start of a table
+  unfoldable pub runLines : List ℕ
+  runLines =
+      heading
+      ++ (stepLines (started tb)
+      ++ (closingLine (courseOf tb maxSteps (started tb))
+      ++ takenLines (courseOf tb maxSteps (started tb) .state)))
+
+-- ---- a file
+
+-- a refused one has one line alone: the ground and the line at fault
+unfoldable pub listingBy : Verdict → List ℕ → List ℕ
+listingBy (Fault g l) file = line (groundNumber g ∷ l ∷ [])
+listingBy Sound file = runLines (fileTable file)
+
+unfoldable pub listing : List ℕ → List ℕ
+listing file = listingBy (verdict file) file

@@ -1,0 +1,11 @@
+pub mod Blocks
+pub mod Sums
+pub mod FormedRows
+pub mod Paths
+pub mod Grounds
+pub mod Written
+pub mod PrintedFile
+pub mod Yields
+pub mod Refused
+pub mod Lowest
+pub mod FileExamples

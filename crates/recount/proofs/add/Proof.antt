@@ -1,0 +1,15 @@
+use borrow.Author.Needs.{needs}
+use Rattle.recount.proofs.Ways.{add-in, add-out}
+use Rattle.recount.proofs.add.Statement.{statement}
+use Rattle.recount.proofs.add.Tie as tie
+
+pub add-spec : {M : Type 1} → statement M
+add-spec =
+    tie.close
+    (tie.spec
+    (λ c. search needs)
+    (λ c κs. search needs)
+    (λ c. search needs)
+    (λ c. search needs)
+    (λ c. search (add-in, add-out))
+    (λ c. search (add-in, add-out)))

@@ -1,0 +1,2 @@
+pub mod CalledRow
+pub mod WrittenRows

@@ -1,0 +1,401 @@
+-- The upkeep moves types and counts of holders without a look at the counts of waiting holders, so that it does the same to a counted state and to
+-- what it stands for. Assumes nothing.
+use Prim.Native.Nat.{ℕ, zero, suc, _+_, _<_, _≤_}
+use native.Mathlib.Omega.{arith}
+use native.Mathlib.Numerals.{add-one}
+use mathlib.Core.Path.{_≡_, refl, sym, _∙_, ap}
+use mathlib.Core.Bool.{true, _&&_, cond}
+use mathlib.Core.List.{List, [], _∷_}
+use lib.Dec.{eqb, leb}
+use lib.ListN.{length, getD, set, take, length-set}
+use lib.Seq.{getD-set-same, getD-set-other}
+use borrow.Author.Tests.{eqb-true, eqb-false}
+use Rattle.numbers.specs.Count.{bit}
+use Rattle.numbers.specs.Rows.{at, put}
+use Rattle.numbers.specs.Search.{first, tabulate}
+use Rattle.numbers.specs.Search.Laws.{caseB, getD-tabulate, length-tabulate, tabulate-cong, is-tabulate, first-cong}
+use Rattle.numbers.specs.Signed.{sum}
+use Rattle.table.specs.Table.{Table}
+use Rattle.state.specs.State.Laws.{length-threads, length-channel}
+use Rattle.state.specs.State.{State, stateOf, stateWords, maxThreads, thread, channel, isReady, standsAt, typeIn, channelMark, isWaiting, withMark, withThread, withChannel, withChannels}
+use Rattle.rules.specs.Holding.{holds, waiters, countOf, channelRow, recount, settled}
+use Rattle.table.specs.Layout.{branchCount}
+use Rattle.rules.specs.Program.{branchAt, guardHolds, actOf}
+use Rattle.rules.specs.declared.Act.{Act}
+use Rattle.rules.specs.declared.Act.the-variants.{Tau, Meeting, New, Spawn, Assignment}
+use Rattle.rules.specs.Offers.{answers, answering, partnerOf}
+use Rattle.rules.specs.Moves.{firstFrom, around, isFreeThread, isFreeChannel, freeThread, freeChannel, creation, goesAhead, actMove, branchMove, ahead, choice, move, typed, oneUp, spawnedBy, written, perform}
+use Rattle.rules.specs.declared.Move.{Move}
+use Rattle.rules.specs.declared.Move.the-variants.{Ends, Calls, Waits, Goes, Creates, Spawns, Meets, LacksThread, LacksChannel}
+use Rattle.upkeep.specs.Own.{ownList}
+use Rattle.upkeep.specs.Shift.{shiftRow, shiftTo, shiftedTo, shifted, channelShifted, rowEntered, rowLeft, settledOne, settledTwo, settledNew}
+use Rattle.upkeep.specs.Upkeep.{waiters-le, counts-move, settled-again, settled-length, settled-mark}
+use Rattle.rules_laws.specs.Granted.{Granted}
+use Rattle.rules_laws.specs.Soundness.{Sound}
+use Rattle.rules_laws.specs.Soundness.Laws.{sound-apart}
+use Rattle.decision.specs.Top.{UsedBelow}
+use Rattle.decision.specs.Apart.{Apart}
+use Rattle.rules.specs.Calls.{turnBy, turned, turnEnd}
+use Rattle.rules.specs.declared.Turn.{Turn}
+use Rattle.turns.specs.TopRaised.{raisedBy, turn-used}
+use Rattle.turns.specs.Made.{Alone, Paired, Creation, made}
+use Rattle.turns.specs.Made.Laws.{alone-settled, creation-settled, paired-settled, turn-ends, turn-sound}
+use Rattle.turns.specs.Counted.{Alike, Counted, weighedTo}
+
+-- ---- one row
+
+head-row : (ty n w w′ : ℕ) → take 2 (channelRow ty n w) ≡ take 2 (channelRow ty n w′)
+unfolding channelRow
+head-row ty zero w w′ = refl
+head-row ty (suc n) w w′ = refl
+
+first-word : (r : List ℕ) → getD (take 2 r) 0 0 ≡ getD r 0 0
+first-word [] = refl
+first-word (x ∷ []) = refl
+first-word (x ∷ y ∷ r) = refl
+
+second-word : (r : List ℕ) → getD (take 2 r) 1 0 ≡ getD r 1 0
+second-word [] = refl
+second-word (x ∷ []) = refl
+second-word (x ∷ y ∷ r) = refl
+
+put-type : (r : List ℕ) (v : ℕ) → take 2 (set r 0 v) ≡ set (take 2 r) 0 v
+put-type [] v = refl
+put-type (x ∷ []) v = refl
+put-type (x ∷ y ∷ r) v = refl
+
+-- ---- all rows
+
+module _ (a b : List (List ℕ)) (e : Alike a b) where
+  type-alike : (c : ℕ) → c < 128 → at a c 0 ≡ at b c 0
+  unfolding Alike
+  type-alike c h = sym (first-word (getD a c [])) ∙ rw (e .2 c h) (first-word (getD b c []))
+
+  count-alike : (c : ℕ) → c < 128 → at a c 1 ≡ at b c 1
+  unfolding Alike
+  count-alike c h = sym (second-word (getD a c [])) ∙ rw (e .2 c h) (second-word (getD b c []))
+
+  -- a row is replaced by one with the same type and count
+  set-alike : (v : ℕ) (r r′ : List ℕ) → (v < 128 → take 2 r ≡ take 2 r′) → Alike (set a v r) (set b v r′)
+  unfolding Alike
+  set-alike v r r′ f = (
+    length-set a v r ∙ e .0,
+    length-set b v r′ ∙ e .1,
+    λ c h. caseB (eqb c v)
+        (λ y. let q : c ≡ v = eqb-true c v y in
+        rw (← q, getD-set-same a c r [] (omega (arith, e .0)), getD-set-same b c r′ [] (omega (arith, e .1))) (f (rw (← q) h)))
+        (λ n. rw (getD-set-other a v c r [] (eqb-false c v n), getD-set-other b v c r′ [] (eqb-false c v n)) (e .2 c h)),
+  )
+
+  put-alike : (v y : ℕ) → Alike (put a v 0 y) (put b v 0 y)
+  unfolding Alike
+  put-alike v y = set-alike v (set (getD a v []) 0 y) (set (getD b v []) 0 y) (λ h. put-type (getD a v []) y ∙ rw (e .2 v h) (sym (put-type (getD b v []) y)))
+
+  row-alike : (v dn dw : ℕ) → Alike (shiftRow a v dn dw) (shiftRow b v dn dw)
+  unfolding shiftRow
+  row-alike v dn dw =
+      set-alike v (channelRow (at a v 0) (sum (at a v 1) dn) (sum (at a v 2) dw)) (channelRow (at b v 0) (sum (at b v 1) dn) (sum (at b v 2) dw))
+      (λ h. rw (type-alike v h, count-alike v h) (head-row (at b v 0) (sum (at b v 1) dn) (sum (at a v 2) dw) (sum (at b v 2) dw)))
+
+shift-alike : (l : List ℕ) (dn dw : ℕ) (a b : List (List ℕ)) → Alike a b → (k : ℕ) → Alike (shiftTo l dn dw a k) (shiftTo l dn dw b k)
+unfolding shiftTo
+shift-alike l dn dw a b e zero = e
+shift-alike l dn dw a b e (suc k) =
+    row-alike (shiftTo l dn dw a k) (shiftTo l dn dw b k) (shift-alike l dn dw a b e k) (getD l k 0) dn dw
+
+-- ---- the upkeep of one row, of two, and of a row and a new channel: the same is done to other channel rows
+
+module _ (tb : Table) (x : State) (chs : List (List ℕ)) (e : Alike (x .channels) chs) where
+  one-alike : (t : ℕ) (l : List ℕ) (w : ℕ)
+      → (withChannels (settledOne tb x t l w) (settledOne tb (withChannels x chs) t l w .channels) ≡ settledOne tb (withChannels x chs) t l w)
+      × Alike (settledOne tb x t l w .channels) (settledOne tb (withChannels x chs) t l w .channels)
+  unfolding settledOne rowEntered rowLeft shifted shiftedTo withChannels
+  one-alike t l w = (refl, shift-alike l _ _ _ _ (shift-alike _ _ _ _ _ e _) _)
+
+  two-alike : (t u : ℕ) (l : List ℕ) (w : ℕ) (l′ : List ℕ) (w′ : ℕ)
+      → (withChannels (settledTwo tb x t u l w l′ w′) (settledTwo tb (withChannels x chs) t u l w l′ w′ .channels) ≡ settledTwo tb (withChannels x chs) t u l w l′ w′)
+      × Alike (settledTwo tb x t u l w l′ w′ .channels) (settledTwo tb (withChannels x chs) t u l w l′ w′ .channels)
+  unfolding settledTwo rowEntered rowLeft shifted shiftedTo withChannels
+  two-alike t u l w l′ w′ = (refl, shift-alike l′ _ _ _ _ (shift-alike l _ _ _ _ (shift-alike _ _ _ _ _ (shift-alike _ _ _ _ _ e _) _) _) _)
+
+  new-alike : (t c : ℕ) (l : List ℕ) (w : ℕ)
+      → (withChannels (settledNew tb x t c l w) (settledNew tb (withChannels x chs) t c l w .channels) ≡ settledNew tb (withChannels x chs) t c l w)
+      × Alike (settledNew tb x t c l w .channels) (settledNew tb (withChannels x chs) t c l w .channels)
+  unfolding settledNew channelShifted rowEntered rowLeft shifted shiftedTo withChannels
+  new-alike t c l w = (refl, shift-alike l _ _ _ _ (row-alike _ _ (shift-alike _ _ _ _ _ e _) c 0 0) _)
+
+  -- ---- what both stand for
+
+  pub same-settled : settled tb x ≡ settled tb (withChannels x chs)
+  unfolding settled withChannels recount
+  same-settled =
+      ap {B = State} (λ (y : List (List ℕ)). record { marks = x .marks; threads = x .threads; channels = y })
+      (tabulate-cong 128 (λ c. channelRow (at (x .channels) c 0) (countOf tb (x .threads) c) (waiters tb (x .threads) c)) (λ c. channelRow (at chs c 0) (countOf tb (x .threads) c) (waiters tb (x .threads) c))
+      (λ c h. rw (type-alike (x .channels) chs e c h)))
+
+  -- where the other channel rows are settled
+  pub stands-for : (z : State) → withChannels x chs ≡ settled tb z → (settled tb x ≡ settled tb z) × Counted tb x
+  unfolding Counted withChannels
+  stands-for z f =
+      let s : settled tb x ≡ settled tb z = same-settled ∙ rw f (settled-again tb z) in
+      let k : chs ≡ settled tb x .channels = ap (λ (y : State). y .channels) (f ∙ sym s) in
+      (s, rw (← k) e)
+
+-- ---- the move is the same
+
+module _ (tb : Table) (s : State) (e : Counted tb s) where
+  free-alike : freeChannel s ≡ freeChannel (settled tb s)
+  unfolding freeChannel around firstFrom isFreeChannel Counted settled withChannels
+  free-alike =
+      let f : (c : ℕ) → c < 128 → eqb (typeIn s c) 0 ≡ eqb (typeIn (settled tb s) c) 0 = λ c h. rw (type-alike (s .channels) (settled tb s .channels) e c h) in
+      let g = first-cong (λ c. leb (channelMark s) c && eqb (typeIn s c) 0) (λ c. leb (channelMark s) c && eqb (typeIn (settled tb s) c) 0) 128 (λ c h. rw (f c h)) in
+      let k = first-cong (λ c. eqb (typeIn s c) 0) (λ c. eqb (typeIn (settled tb s) c) 0) 128 f in
+      rw (g, k)
+
+  act-alike : (t i : ℕ) (a : Act) → actMove tb s t i a ≡ actMove tb (settled tb s) t i a
+  unfolding actMove freeThread isFreeThread partnerOf answering answers settled withChannels
+  act-alike t i Tau = refl
+  act-alike t i (Meeting d) = refl
+  act-alike t i New = ap (creation i) free-alike
+  act-alike t i Spawn = refl
+  act-alike t i Assignment = refl
+
+  branch-alike : (t i : ℕ) → branchMove tb s t i ≡ branchMove tb (settled tb s) t i
+  unfolding branchMove settled withChannels
+  branch-alike t i =
+      ap (λ (x : Move). cond (guardHolds tb (branchAt tb (standsAt (thread s t)) i) (thread s t)) x Waits) (act-alike t i (actOf tb (branchAt tb (standsAt (thread s t)) i)))
+
+  ahead-alike : (t i : ℕ) → ahead tb s t i ≡ ahead tb (settled tb s) t i
+  unfolding ahead
+  ahead-alike t i = ap goesAhead (branch-alike t i)
+
+  pub move-alike : (t : ℕ) → move tb s t ≡ move tb (settled tb s) t
+  unfolding move choice settled withChannels
+  move-alike t =
+      let n = branchCount tb (standsAt (thread s t)) in
+      let f : first (ahead tb s t) n ≡ first (ahead tb (settled tb s) t) n = first-cong (ahead tb s t) (ahead tb (settled tb s) t) n (λ i h. ahead-alike t i) in
+      rw (f, branch-alike t (first (ahead tb (settled tb s) t) n))
+
+-- ---- what a move writes, in a counted state and in what it stands for
+
+module _ (tb : Table) (s : State) (chs : List (List ℕ)) (e : Alike (s .channels) chs) (t : ℕ) where
+  both-written : (m : Move) → (withChannels (written tb s t m) (written tb (withChannels s chs) t m .channels) ≡ written tb (withChannels s chs) t m)
+      × Alike (written tb s t m .channels) (written tb (withChannels s chs) t m .channels)
+  unfolding written spawnedBy typed withMark withThread withChannel withChannels
+  both-written Ends = (refl, e)
+  both-written Calls = (refl, e)
+  both-written Waits = (refl, e)
+  both-written (Goes i) = (refl, e)
+  both-written (Creates i c) = (refl, put-alike (s .channels) chs e c _)
+  both-written (Spawns i u) = (refl, e)
+  both-written (Meets i u j) = (refl, e)
+  both-written LacksThread = (refl, e)
+  both-written LacksChannel = (refl, e)
+
+module _ (tb : Table) (s : State) (e : Counted tb s) where
+  whole : withChannels s (settled tb s .channels) ≡ settled tb s
+  unfolding settled withChannels
+  whole = refl
+
+  -- m is written: the rows of what the state stands for
+  abbrev rowsAfter : ℕ → Move → List (List ℕ)
+  rowsAfter t m = written tb (withChannels s (settled tb s .channels)) t m .channels
+
+  module _ (t : ℕ) (m : Move) where
+    both-after : (withChannels (written tb s t m) (rowsAfter t m) ≡ written tb (settled tb s) t m) × Alike (written tb s t m .channels) (rowsAfter t m)
+    unfolding Counted
+    both-after =
+        let (p, q) = both-written tb s (settled tb s .channels) e t m in
+        (p ∙ rw whole, q)
+
+    -- a move after which nothing is to be done
+    pub written-settled : settled tb (written tb s t m) ≡ perform tb (settled tb s) t m
+    unfolding perform
+    written-settled =
+        let (p, q) = both-after in
+        same-settled tb (written tb s t m) (rowsAfter t m) q ∙ rw p
+
+  -- a row that holds what the row before it held
+  pub kept-counted : length (s .threads) ≡ 64 → (t : ℕ) → t < 64 → (row : List ℕ) → ((c : ℕ) → holds tb row c ≡ holds tb (thread s t) c) → Counted tb (withThread s t row)
+  unfolding Counted Alike settled withChannels withThread recount
+  kept-counted long t h row same =
+      let f : ℕ → List ℕ = λ c. channelRow (typeIn s c) (countOf tb (s .threads) c) (waiters tb (s .threads) c) in
+      let g : ℕ → List ℕ = λ c. channelRow (typeIn s c) (countOf tb (set (s .threads) t row) c) (waiters tb (set (s .threads) t row) c) in (
+        e .0,
+        length-tabulate 128 g,
+        λ c l.
+            let m = counts-move tb (s .threads) t (omega arith) row c in
+            let n : countOf tb (set (s .threads) t row) c + bit (holds tb (thread s t) c) ≡ countOf tb (s .threads) c + bit (holds tb (thread s t) c) = rw (same c) at m in
+            let k : countOf tb (set (s .threads) t row) c ≡ countOf tb (s .threads) c = omega arith in
+            e .2 c l ∙ rw (getD-tabulate 128 c f [] l, getD-tabulate 128 c g [] l, k)
+            (head-row (typeIn s c) (countOf tb (s .threads) c) (waiters tb (s .threads) c) (waiters tb (set (s .threads) t row) c)),
+      )
+
+  -- ---- moves with upkeep: the channels of the rows before, and what they added to the counts of waiting holders
+  module _ (long : length (s .threads) ≡ 64) (t : ℕ) (h : t < 64) (m : Move) where
+    abbrev own : ℕ → List ℕ
+    own u = ownList tb (thread s u)
+
+    abbrev weight : ℕ → ℕ
+    weight u = bit (isWaiting (thread s u))
+
+    alone-kept : Alone m → (settled tb (settledOne tb (written tb s t m) t (own t) (weight t)) ≡ perform tb (settled tb s) t m) × Counted tb (settledOne tb (written tb s t m) t (own t) (weight t))
+    unfolding perform settled withChannels
+    alone-kept a =
+        let (p, q) = both-after t m in
+        let (p₁, q₁) = one-alike tb (written tb s t m) (rowsAfter t m) q t (own t) (weight t) in
+        stands-for tb (settledOne tb (written tb s t m) t (own t) (weight t)) _ q₁ (written tb (settled tb s) t m)
+        (p₁ ∙ rw p (alone-settled tb (settled tb s) long (settled-again tb s) t h m a))
+
+    creation-kept : (x : ℕ) → Creation x m
+        → (settled tb (settledNew tb (written tb s t m) t x (own t) (weight t)) ≡ perform tb (settled tb s) t m) × Counted tb (settledNew tb (written tb s t m) t x (own t) (weight t))
+    unfolding perform settled withChannels
+    creation-kept x a =
+        let (p, q) = both-after t m in
+        let (p₁, q₁) = new-alike tb (written tb s t m) (rowsAfter t m) q t x (own t) (weight t) in
+        stands-for tb (settledNew tb (written tb s t m) t x (own t) (weight t)) _ q₁ (written tb (settled tb s) t m)
+        (p₁ ∙ rw p (creation-settled tb (settled tb s) long (settled-again tb s) t h x m a))
+
+    paired-kept : (x : ℕ) → Paired t x m
+        → (settled tb (settledTwo tb (written tb s t m) t x (own t) (weight t) (own x) (weight x)) ≡ perform tb (settled tb s) t m)
+        × Counted tb (settledTwo tb (written tb s t m) t x (own t) (weight t) (own x) (weight x))
+    unfolding perform settled withChannels
+    paired-kept x a =
+        let (p, q) = both-after t m in
+        let (p₁, q₁) = two-alike tb (written tb s t m) (rowsAfter t m) q t x (own t) (weight t) (own x) (weight x) in
+        stands-for tb (settledTwo tb (written tb s t m) t x (own t) (weight t) (own x) (weight x)) _ q₁ (written tb (settled tb s) t m)
+        (p₁ ∙ rw p (paired-settled tb (settled tb s) long (settled-again tb s) t h x m a))
+
+-- ---- the code's ways out: s₁ after the writes, s₂ after the upkeep
+
+module _ (tb : Table) (b : List ℕ) (e : Counted tb (stateOf b)) (t : ℕ) (h : t < 64) (m : Move) (s₁ s₂ : State) where
+  module _ (l : List ℕ) (w : ℕ) (g : s₁ ≡ written tb (stateOf b) t m) (i : l ≡ ownList tb (thread (stateOf b) t)) (j : w ≡ bit (isWaiting (thread (stateOf b) t))) where
+    pub alone-made : s₂ ≡ settledOne tb s₁ t l w → Alone m → settled tb s₂ ≡ perform tb (settled tb (stateOf b)) t m
+    alone-made f a = rw (f, g, i, j) (alone-kept tb (stateOf b) e (length-threads b) t h m a .0)
+
+    pub alone-counted : s₂ ≡ settledOne tb s₁ t l w → Alone m → Counted tb s₂
+    alone-counted f a = rw (f, g, i, j) (alone-kept tb (stateOf b) e (length-threads b) t h m a .1)
+
+    pub creation-made : (x : ℕ) → s₂ ≡ settledNew tb s₁ t x l w → Creation x m → settled tb s₂ ≡ perform tb (settled tb (stateOf b)) t m
+    creation-made x f a = rw (f, g, i, j) (creation-kept tb (stateOf b) e (length-threads b) t h m x a .0)
+
+    pub creation-counted : (x : ℕ) → s₂ ≡ settledNew tb s₁ t x l w → Creation x m → Counted tb s₂
+    creation-counted x f a = rw (f, g, i, j) (creation-kept tb (stateOf b) e (length-threads b) t h m x a .1)
+
+module _ (tb : Table) (b : List ℕ) (e : Counted tb (stateOf b)) (t : ℕ) (h : t < 64) (m : Move) (s₁ s₂ : State) (x : ℕ) (l : List ℕ) (w : ℕ) (l′ : List ℕ) (w′ : ℕ)
+    (g : s₁ ≡ written tb (stateOf b) t m) (f : s₂ ≡ settledTwo tb s₁ t x l w l′ w′) (i : l ≡ ownList tb (thread (stateOf b) t)) (j : w ≡ bit (isWaiting (thread (stateOf b) t)))
+    (k : l′ ≡ ownList tb (thread (stateOf b) x)) (n : w′ ≡ bit (isWaiting (thread (stateOf b) x))) (a : Paired t x m) where
+  pub paired-made : settled tb s₂ ≡ perform tb (settled tb (stateOf b)) t m
+  paired-made = rw (f, g, i, j, k, n) (paired-kept tb (stateOf b) e (length-threads b) t h m x a .0)
+
+  pub paired-counted : Counted tb s₂
+  paired-counted = rw (f, g, i, j, k, n) (paired-kept tb (stateOf b) e (length-threads b) t h m x a .1)
+
+-- ---- a step and a turn
+
+module _ (tb : Table) (s : State) (t : ℕ) where
+  pub apart-alike : Sound tb (settled tb s) → Apart tb (s .threads)
+  unfolding settled withChannels
+  apart-alike ok = sound-apart tb (settled tb s) ok
+
+  module _ (m : Move) (f : m ≡ move tb s t) (e : Counted tb s) where
+    pub move-read : m ≡ move tb (settled tb s) t
+    move-read = f ∙ move-alike tb s e t
+
+    pub step-made : (s₁ : State) → settled tb s₁ ≡ made tb (settled tb s) t m → settled tb s₁ ≡ made tb (settled tb s) t (move tb (settled tb s) t)
+    step-made s₁ g = g ∙ rw move-read
+
+  module _ (r : isReady (thread s t) ≡ true) where
+    -- s₁ after the move, s₂ with the turn moved on
+    module _ (s₁ s₂ : State) (v : ℕ) (f : s₂ ≡ withMark s₁ 2 v) (g : settled tb s₁ ≡ made tb (settled tb s) t (move tb (settled tb s) t)) where
+      marked : settled tb s₂ ≡ withMark (settled tb s₁) 2 v
+      marked = rw f (settled-mark tb s₁ 2 v)
+
+      pub turn-made : (m : Move) (w : Turn) → m ≡ move tb (settled tb s) t → v ≡ oneUp maxThreads t → w ≡ turnBy t m
+          → turned w (settled tb s₂) ≡ turnEnd tb (settled tb s) t (turnBy t (move tb (settled tb s) t))
+      turn-made m w h i j = turn-ends tb (settled tb s) t m (settled tb s₁) (settled tb s₂) w v marked g h i j
+
+      pub turn-lasts : Granted tb → Sound tb (settled tb s) → t < 64 → v ≡ oneUp maxThreads t → Sound tb (settled tb s₂)
+      unfolding settled withChannels
+      turn-lasts gr ok l i = turn-sound tb gr (settled tb s) ok t l r (settled tb s₁) (settled tb s₂) v marked g i
+
+      pub turn-below : (top : ℕ) (m : Move) (k : ℕ) → UsedBelow s top → m ≡ move tb (settled tb s) t → k ≡ raisedBy top m → UsedBelow s₂ k
+      unfolding settled withChannels UsedBelow
+      turn-below top m k used h i = turn-used tb (settled tb s) t top used r m (settled tb s₁) (settled tb s₂) v k marked g h i
+
+  pub counted-mark : (s₁ : State) (i v : ℕ) → Counted tb s → s₁ ≡ withMark s i v → Counted tb s₁
+  unfolding Counted settled withMark withChannels
+  counted-mark s₁ i v e f = rw f e
+
+-- ---- a settled state is counted
+
+pub counted-start : (tb : Table) (s : State) → settled tb s ≡ s → Counted tb s
+unfolding Counted Alike
+counted-start tb s e = rw (ap (λ (x : State). x .channels) e) (let l : length (s .channels) ≡ 128 = rw (ap (λ (x : State). length (x .channels)) e) at (settled-length tb s) in (l, l, λ c h. refl))
+
+-- ---- the counts of waiting holders, settled at last
+
+module _ (l : List ℕ) (b : List ℕ) where
+  pub weighed-none : stateOf b ≡ withChannels (stateOf b) (weighedTo l (stateOf b .channels) 0)
+  unfolding weighedTo withChannels stateOf
+  weighed-none = refl
+
+  pub weighed-more : (s₁ s₂ : State) (k v : ℕ) → s₂ ≡ withChannel s₁ k (set (channel s₁ k) 2 v) → s₁ ≡ withChannels (stateOf b) (weighedTo l (stateOf b .channels) k) → v ≡ getD l k 0
+      → s₂ ≡ withChannels (stateOf b) (weighedTo l (stateOf b .channels) (k + 1))
+  unfolding weighedTo withChannels withChannel
+  weighed-more s₁ s₂ k v e f g = e ∙ rw (f, g, add-one k)
+
+  pub weighed-all : (s₁ : State) (k : ℕ) → s₁ ≡ withChannels (stateOf b) (weighedTo l (stateOf b .channels) k) → k ≤ 128 → 128 ≤ k
+      → s₁ ≡ withChannels (stateOf b) (weighedTo l (stateOf b .channels) 128)
+  weighed-all s₁ k e h i = let q : k ≡ 128 = omega arith in rw (← q) e
+
+module _ (l : List ℕ) (chs : List (List ℕ)) where
+  length-weighed : (k : ℕ) → length (weighedTo l chs k) ≡ length chs
+  unfolding weighedTo
+  length-weighed zero = refl
+  length-weighed (suc k) = length-set (weighedTo l chs k) k (set (getD (weighedTo l chs k) k []) 2 (getD l k 0)) ∙ length-weighed k
+
+  weighed-later : (k c : ℕ) → k ≤ c → getD (weighedTo l chs k) c [] ≡ getD chs c []
+  unfolding weighedTo
+  weighed-later zero c h = refl
+  weighed-later (suc k) c h =
+      getD-set-other (weighedTo l chs k) k c (set (getD (weighedTo l chs k) k []) 2 (getD l k 0)) [] (λ q. absurd (omega arith)) ∙ weighed-later k c (omega arith)
+
+  weighed-row : (k c : ℕ) → c < k → c < length chs → getD (weighedTo l chs k) c [] ≡ set (getD chs c []) 2 (getD l c 0)
+  unfolding weighedTo
+  weighed-row zero c h i = absurd (omega arith)
+  weighed-row (suc k) c h i =
+      caseB (eqb c k)
+      (λ y. let q : c ≡ k = eqb-true c k y in
+      rw (← q, getD-set-same (weighedTo l chs c) c (set (getD (weighedTo l chs c) c []) 2 (getD l c 0)) [] (omega (arith, length-weighed c)), weighed-later c c (omega arith)))
+      (λ n. getD-set-other (weighedTo l chs k) k c (set (getD (weighedTo l chs k) k []) 2 (getD l k 0)) [] (eqb-false c k n)
+      ∙ weighed-row k c (omega (arith, eqb-false c k n)) i)
+
+last-word : (r : List ℕ) (ty n w : ℕ) → length r ≡ 3 → take 2 r ≡ take 2 (channelRow ty n w) → w ≤ n → set r 2 w ≡ channelRow ty n w
+unfolding channelRow
+last-word [] ty n w h e i = absurd (omega arith)
+last-word (x ∷ []) ty n w h e i = absurd (omega arith)
+last-word (x ∷ y ∷ []) ty n w h e i = absurd (omega arith)
+last-word (x ∷ y ∷ z ∷ u ∷ r) ty n w h e i = absurd (omega arith)
+last-word (x ∷ y ∷ z ∷ []) ty zero w h e i =
+    let q : w ≡ 0 = omega arith in
+    let a : x ≡ 0 = ap (λ (l : List ℕ). getD l 0 0) e in
+    let b : y ≡ 0 = ap (λ (l : List ℕ). getD l 1 0) e in
+    rw (q, a, b)
+last-word (x ∷ y ∷ z ∷ []) ty (suc n) w h e i =
+    let a : x ≡ ty = ap (λ (l : List ℕ). getD l 0 0) e in
+    let b : y ≡ suc n = ap (λ (l : List ℕ). getD l 1 0) e in
+    rw (a, b)
+
+pub settled-last : (tb : Table) (b : List ℕ) → length b ≡ stateWords → Counted tb (stateOf b) → (l : List ℕ) (s₁ : State) → s₁ ≡ withChannels (stateOf b) (weighedTo l (stateOf b .channels) 128)
+    → l ≡ tabulate 128 (waiters tb (stateOf b .threads)) → s₁ ≡ settled tb (stateOf b)
+unfolding Counted Alike settled withChannels recount
+settled-last tb b long e l s₁ f g =
+    let s = stateOf b in
+    let row : ℕ → List ℕ = λ c. channelRow (typeIn s c) (countOf tb (s .threads) c) (waiters tb (s .threads) c) in
+    f ∙ ap {B = State} (λ (y : List (List ℕ)). record { marks = s .marks; threads = s .threads; channels = y })
+    (is-tabulate (weighedTo l (s .channels) 128) 128 row [] (length-weighed l (s .channels) 128 ∙ e .0)
+    (λ c h. weighed-row l (s .channels) 128 c h (omega (arith, e .0))
+    ∙ rw (g, getD-tabulate 128 c (waiters tb (s .threads)) 0 h)
+    (last-word (getD (s .channels) c []) (typeIn s c) (countOf tb (s .threads) c) (waiters tb (s .threads) c) (length-channel b long c h)
+    (e .2 c h ∙ rw (getD-tabulate 128 c row [] h)) (waiters-le tb (s .threads) c))))

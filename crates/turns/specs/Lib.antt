@@ -1,0 +1,5 @@
+pub mod Counted
+pub mod HeldStill
+pub mod Keeping
+pub mod Made
+pub mod TopRaised

@@ -1,0 +1,118 @@
+-- One law for each way out of the functions that move the counts. Assumes nothing.
+use Prim.Native.Nat.{ℕ, zero, suc, _+_, _<_, _≤_}
+use native.Mathlib.Omega.{arith}
+use native.Mathlib.Numerals.{add-one}
+use mathlib.Core.Path.{_≡_, refl, _∙_}
+use mathlib.Core.List.{List, [], _∷_}
+use lib.Dec.{eqb}
+use lib.ListN.{length, getD, set}
+use lib.Seq.{set-out, set-set, getD-set-same}
+use Rattle.numbers.specs.Count.{bit}
+use Rattle.numbers.specs.Rows.{at}
+use Rattle.numbers.specs.Signed.{sum, difference}
+use Rattle.table.specs.Table.{Table}
+use Rattle.state.specs.State.{State, stateOf, stateWords, thread, channel, withChannel, withChannels}
+use Rattle.state.specs.State.Laws.{length-channels, length-channel, three-stored}
+use Rattle.rules.specs.Holding.{channelRow}
+use Rattle.upkeep.specs.Own.{ownList}
+use Rattle.upkeep.specs.Own.Listing.{ownRoom}
+use Rattle.upkeep.specs.Own.Rest.{rest-shifted}
+use Rattle.upkeep.specs.Shift.{rowCounted, shiftRow, shiftTo, channelShifted, shiftedTo, shifted, rowEntered, rowLeft, settledOne, settledTwo, settledNew}
+
+-- put_counts: two stores make a row of one that has its type
+two : (r : List ℕ) (n w : ℕ) → length r ≡ 3 → set (set r 1 n) 2 w ≡ getD r 0 0 ∷ n ∷ w ∷ []
+two [] n w e = absurd (omega arith)
+two (x ∷ r) n w e = three-stored (x ∷ r) x n w e
+
+held-row : (ty n w : ℕ) → (n ≡ 0 → ⊥) → ty ∷ n ∷ w ∷ [] ≡ channelRow ty n w
+unfolding channelRow
+held-row ty zero w h = absurd (h refl)
+held-row ty (suc n) w h = refl
+
+-- a store in a row that was stored in
+put-put : (chs : List (List ℕ)) (c k v : ℕ) (r : List ℕ) → c < length chs → set (set chs c r) c (set (getD (set chs c r) c []) k v) ≡ set chs c (set r k v)
+put-put chs c k v r h = rw (getD-set-same chs c r [] h, set-set chs c r (set r k v))
+
+module _ (b : List ℕ) (c n w : ℕ) (s₁ s₂ : State) (e : length b ≡ stateWords) (h : c < 128) where
+  pub counts-put : (n ≡ 0 → ⊥) → s₁ ≡ withChannel (stateOf b) c (set (channel (stateOf b) c) 1 n) → s₂ ≡ withChannel s₁ c (set (channel s₁ c) 2 w) → s₂ ≡ rowCounted (stateOf b) c n w
+  unfolding withChannel rowCounted withChannels
+  counts-put z f g =
+      let i : c < length (stateOf b .channels) = omega (arith, length-channels b) in
+      rw (g, f, put-put (stateOf b .channels) c 2 w (set (channel (stateOf b) c) 1 n) i, two (channel (stateOf b) c) n w (length-channel b e c h), held-row (at (stateOf b .channels) c 0) n w z)
+
+  pub counts-free : (s₃ : State) → n ≡ 0 → s₁ ≡ withChannel (stateOf b) c (set (channel (stateOf b) c) 0 0) → s₂ ≡ withChannel s₁ c (set (channel s₁ c) 1 0) → s₃ ≡ withChannel s₂ c (set (channel s₂ c) 2 0)
+      → s₃ ≡ rowCounted (stateOf b) c n w
+  unfolding withChannel rowCounted withChannels channelRow
+  counts-free s₃ z f g k =
+      let i : c < length (stateOf b .channels) = omega (arith, length-channels b) in
+      let r = channel (stateOf b) c in
+      rw (k, g, f, z, put-put (stateOf b .channels) c 1 0 (set r 0 0) i, put-put (stateOf b .channels) c 2 0 (set (set r 0 0) 1 0) i, three-stored r 0 0 0 (length-channel b e c h))
+
+pub ruleset puts = (counts-put, counts-free)
+
+-- shift: n and w are the counts that the row has, a and b those that it gets
+pub shift-in : (s s₂ : State) (c dn dw n w a b : ℕ) → s₂ ≡ rowCounted s c a b → a ≡ sum n dn → b ≡ sum w dw → n ≡ at (s .channels) c 1 → w ≡ at (s .channels) c 2 → s₂ ≡ channelShifted s c dn dw
+unfolding rowCounted channelShifted shiftRow
+shift-in s s₂ c dn dw n w a b k g h e f = rw (k, g, h, e, f)
+
+pub shift-out : (b : List ℕ) (c dn dw : ℕ) → 128 ≤ c → stateOf b ≡ channelShifted (stateOf b) c dn dw
+unfolding channelShifted shiftRow withChannels
+shift-out b c dn dw h =
+    rw (set-out (stateOf b .channels) c (channelRow (at (stateOf b .channels) c 0) (sum (at (stateOf b .channels) c 1) dn) (sum (at (stateOf b .channels) c 2) dw)) (omega (arith, length-channels b)))
+
+-- shift_all
+module _ (s : State) (l : List ℕ) (dn dw : ℕ) where
+  pub shifts-none : s ≡ shiftedTo s l dn dw 0
+  unfolding shiftedTo shiftTo withChannels
+  shifts-none = refl
+
+  pub shifts-more : (s₁ s₂ : State) (k c : ℕ) → s₁ ≡ shiftedTo s l dn dw k → s₂ ≡ channelShifted s₁ c dn dw → c ≡ getD l k 0 → s₂ ≡ shiftedTo s l dn dw (k + 1)
+  unfolding shiftedTo shiftTo channelShifted withChannels
+  shifts-more s₁ s₂ k c e f g = rw (f, g, e, add-one k)
+
+  pub shifts-all : (s₁ : State) (k : ℕ) → s₁ ≡ shiftedTo s l dn dw k → k ≤ length l → length l ≤ k → s₁ ≡ shifted s l dn dw
+  unfolding shifted
+  shifts-all s₁ k e h i = let q : k ≡ length l = omega arith in rw q at e
+
+  -- shift_first
+  pub first-shifted : (s₁ : State) (k n : ℕ) → s₁ ≡ shiftedTo s l dn dw k → k ≤ n → n ≤ k → s₁ ≡ shiftedTo s l dn dw n
+  first-shifted s₁ k n e h i = let q : k ≡ n = omega arith in rw q at e
+
+pub ruleset shifts = (shifts-none, shifts-more, shifts-all)
+
+-- shift_own
+pub own-shifted : (tb : Table) (b : List ℕ) (s₂ : State) (t dn dw n : ℕ) (l : List ℕ) → s₂ ≡ shiftedTo (stateOf b) l dn dw n → l ≡ ownList tb (thread (stateOf b) t) → n ≡ ownRoom tb (thread (stateOf b) t)
+    → s₂ ≡ shifted (stateOf b) (ownList tb (thread (stateOf b) t)) dn dw
+unfolding shifted shiftedTo withChannels
+own-shifted tb b s₂ t dn dw n l f e g =
+    f ∙ rw (e, g, rest-shifted tb (thread (stateOf b) t) dn dw (stateOf b .channels) (length-channels b))
+
+-- enter, leave
+pub enter-is : (tb : Table) (s s₂ : State) (t w x : ℕ) → s₂ ≡ shifted s (ownList tb (thread s t)) 1 w → w ≡ bit (eqb x 2) → x ≡ at (s .threads) t 0 → s₂ ≡ rowEntered tb s t
+unfolding rowEntered
+enter-is tb s s₂ t w x g f e = rw (g, f, e)
+
+pub leave-is : (s s₂ : State) (w d : ℕ) (l : List ℕ) → s₂ ≡ shifted s l 4294967295 d → d ≡ difference 0 w → s₂ ≡ rowLeft s l w
+unfolding rowLeft
+leave-is s s₂ w d l f e = rw (f, e)
+
+-- enter_both, leave_both
+pub entered-both : (tb : Table) (s s₁ s₂ : State) (t u : ℕ) → s₁ ≡ rowEntered tb s t → s₂ ≡ rowEntered tb s₁ u → s₂ ≡ rowEntered tb (rowEntered tb s t) u
+entered-both tb s s₁ s₂ t u e f = rw (f, e)
+
+pub left-both : (s s₁ s₂ : State) (l : List ℕ) (w : ℕ) (l′ : List ℕ) (w′ : ℕ) → s₁ ≡ rowLeft s l w → s₂ ≡ rowLeft s₁ l′ w′ → s₂ ≡ rowLeft (rowLeft s l w) l′ w′
+left-both s s₁ s₂ l w l′ w′ e f = rw (f, e)
+
+-- settle_one, settle_new, settle_two
+module _ (tb : Table) (s s₁ s₂ : State) (t : ℕ) (l : List ℕ) (w : ℕ) where
+  pub settle-one-is : s₁ ≡ rowEntered tb s t → s₂ ≡ rowLeft s₁ l w → s₂ ≡ settledOne tb s t l w
+  unfolding settledOne
+  settle-one-is e f = rw (f, e)
+
+  pub settle-new-is : (s₃ : State) (c : ℕ) → s₁ ≡ rowEntered tb s t → s₂ ≡ channelShifted s₁ c 0 0 → s₃ ≡ rowLeft s₂ l w → s₃ ≡ settledNew tb s t c l w
+  unfolding settledNew
+  settle-new-is s₃ c e f g = rw (g, f, e)
+
+  pub settle-two-is : (u : ℕ) (l′ : List ℕ) (w′ : ℕ) → s₁ ≡ rowEntered tb (rowEntered tb s t) u → s₂ ≡ rowLeft (rowLeft s₁ l w) l′ w′ → s₂ ≡ settledTwo tb s t u l w l′ w′
+  unfolding settledTwo
+  settle-two-is u l′ w′ e f = rw (f, e)

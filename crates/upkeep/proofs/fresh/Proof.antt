@@ -1,0 +1,15 @@
+use Rattle.upkeep.proofs.Listings.{freshes}
+use borrow.Author.Needs.{needs}
+use Rattle.upkeep.proofs.fresh.Statement.{statement}
+use Rattle.upkeep.proofs.fresh.Tie as tie
+
+pub fresh-spec : {M : Type 1} → statement M
+fresh-spec =
+    tie.close
+    (tie.spec
+    (λ c κs. search needs)
+    (λ c. search freshes)
+    (λ c κs. search needs)
+    (λ c. search freshes)
+    (λ c. search freshes)
+    (λ c. search freshes))

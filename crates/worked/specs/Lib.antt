@@ -1,4 +1,0 @@
-pub mod Listing
-pub mod Shown
-pub mod Cut
-pub mod Reasons
