@@ -4,6 +4,7 @@ use archive::ENGINE;
 use differential::for_seeds;
 use generate::cases::Case;
 use generate::{any_valid, damaged_table, table_of, LINE_BYTES, TABLE_BYTES};
+use interface::STATE_BYTES;
 
 /// Whether a bench starts with these bytes as its table. Start has two grounds alone: a length, and the table.
 fn accepted(table: &[u8]) -> bool {
