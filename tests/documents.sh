@@ -2,7 +2,8 @@
 # What the documents say of files. The names that docs/RULES.md gives are there: a definition in the
 # file that is linked before it, a function in the crate before its colons (or, without colons, in
 # some crate). The procedure files that docs/PROCEDURES.md and examples/README.md show are those in
-# examples.
+# examples. docs/architecture.svg has the arrows of crates.txt, and docs/ARCHITECTURE.md says of each
+# crate what it is.
 set -euo pipefail
 root=$(cd "$(dirname "$0")/.." && pwd)
 source "$root/tests/counted.sh"
@@ -114,7 +115,46 @@ shows() {
     [ "$all" -eq 0 ] && [ "$count" -ge "$2" ]
 }
 
+# The arrows of crates.txt between crates of ours, and those of the picture: who uses, and what is used.
+arrows_listed() {
+    awk -F: '!/^#/ { ours[$1]; list[$1] = $2 }
+        END { for (user in list) { n = split(list[user], used, " "); for (i = 1; i <= n; i++) if (used[i] in ours) print user, used[i] } }' crates.txt
+}
+
+arrows_drawn() {
+    sed -nE 's|^<title>([a-z_]+)&#45;&gt;([a-z_]+)</title>$|\1 \2|p' docs/architecture.svg
+}
+
+# The arrows that it reads, with those that they imply.
+with_implied() {
+    awk '{ arrow[$1, $2]; name[$1]; name[$2] }
+        END {
+            for (b in name) for (a in name) if ((a, b) in arrow) for (c in name) if ((b, c) in arrow) arrow[a, c]
+            for (pair in arrow) { split(pair, ends, SUBSEP); print ends[1], ends[2] }
+        }' | sort
+}
+
+picture_holds() {
+    arrows_listed | with_implied >"$scratch/listed"
+    arrows_drawn | with_implied >"$scratch/drawn"
+    [ -s "$scratch/listed" ] && diff "$scratch/listed" "$scratch/drawn"
+}
+
+# Each crate has a line of its own in a table of docs/ARCHITECTURE.md.
+crates_told() {
+    local crate all=0
+    while read -r crate; do
+        grep -qF "| \`$crate\` |" docs/ARCHITECTURE.md || {
+            echo "docs/ARCHITECTURE.md does not say what $crate is"
+            all=1
+        }
+    done < <(sed -nE 's/^([a-z_]+):.*/\1/p' crates.txt)
+    return "$all"
+}
+
 check "every name in docs/RULES.md is there" all_named
+check "docs/architecture.svg has the arrows of crates.txt" picture_holds
+check "docs/ARCHITECTURE.md says what each crate is" crates_told
 check "docs/PROCEDURES.md shows files as they are" shows docs/PROCEDURES.md 16
 check "docs/PROCEDURES.md has the command for short lines" grep -qF "awk '$columns'" docs/PROCEDURES.md
 check "examples/README.md shows files as they are" shows examples/README.md 6
