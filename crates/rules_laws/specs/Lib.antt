@@ -5,9 +5,9 @@ pub mod Accepted
 pub mod Filled
 pub mod Shape
 pub mod Reading
-pub mod Sound
+pub mod Soundness
 pub mod Chosen
-pub mod Rows
+pub mod ThreadRow
 pub mod Entered
 pub mod Onward
 pub mod Meetings
@@ -20,11 +20,8 @@ pub mod Started
 pub mod Frames
 pub mod Held
 pub mod Learnt
-pub mod Polarity
 pub mod Entry
 pub mod Lacking
 pub mod Answers
 pub mod Bench
 pub mod Refusals
-pub mod Calls
-pub mod Instance
