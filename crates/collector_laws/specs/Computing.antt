@@ -10,8 +10,8 @@ use Rattle.rules.specs.Start.{entered, portRow, started}
 use Rattle.rules.specs.Offers.{meets?, offersIn, offersAt, offeringBranch, offers, answers, answering, partnerOf}
 use Rattle.rules.specs.Moves.{firstFrom, around, oneUp, isFreeThread, isFreeChannel, freeThread, freeChannel, meeting, creation, spawning, goesAhead, actMove, branchMove, ahead, choice, move, resumed, waitingRow, stored, met, gone, sideOf, typed, goneBy, createdBy, metBy, valueBy, typeBy, spawnedBy, written, perform}
 use Rattle.rules.specs.Calls.{stepAnswer, isReadyThread, nextReady, pastTurn, reasonFor, turnFor, turnBy, turnEnd, takeTurn, oneMore, onward, courseOf}
-use Rattle.collector.specs.Enabled.{known, reaches, joins, begins, rounds, enabledSet}
-use Rattle.collector.specs.Collect.{nobody, taken, remaining, collected, takenCount}
+use Rattle.marking.specs.Enabled.{nobody, known, reaches, joins, begins, rounds, enabledSet}
+use Rattle.collector.specs.Collect.{taken, remaining, collected, takenCount}
 
 unfoldable pub running : Unit {0}
 unfolding computing some bit count residue lower sum widened blocks lines branchCount size start endsPast owner withMark withThread withChannel withChannels wrappedSum wrappedDifference typeAt channelSlot blank branchAt nextOf childOf actOf guardHolds assigned opposite same hasAt holds holders waiters countOf channelRow recount settled entered portRow started meets? offersIn offersAt offeringBranch offers answers answering partnerOf firstFrom around oneUp isFreeThread isFreeChannel freeThread freeChannel meeting creation spawning goesAhead actMove branchMove ahead choice move resumed waitingRow stored met gone sideOf typed goneBy createdBy metBy valueBy typeBy spawnedBy written perform stepAnswer isReadyThread nextReady pastTurn reasonFor turnFor turnBy turnEnd takeTurn oneMore onward courseOf

@@ -11,8 +11,8 @@ use Rattle.rules.specs.Holding.{holds}
 use Rattle.rules.specs.Offers.{offers}
 use Rattle.rules.specs.declared.Direction.{Direction}
 use Rattle.rules_laws.specs.Reading.Laws.{waiting-used}
-use Rattle.collector.specs.Enabled.{Enabled, from-start, is-ready, by-bench, by-thread}
-use Rattle.collector.specs.Collect.{nobody, taken, collected}
+use Rattle.marking.specs.Enabled.{nobody, Enabled, from-start, is-ready, by-bench, by-thread}
+use Rattle.collector.specs.Collect.{taken, collected}
 use Rattle.collector.specs.Collect.Laws.{stays-enabled, taken-freed, left-same, enabled-same}
 
 -- document 01's links: a series of threads, by those that come after thread t. Each but the last has an offer, so that it waits, on a channel of the next,

@@ -1,5 +1,5 @@
-// The calls of the engine: start, step, give, take, run. Each judges its buffers first, and a call that is refused writes nothing. For a layer above,
-// which works on the words of an admitted state, what it may ask of a thread and the writing of the words are handed on.
+// The calls of the engine: start, step, give, take, run. Each judges its buffers first, and a call that is refused writes nothing. For the collector,
+// which works on the words of an admitted state, the admission and the writing of the words are handed on.
 ghost use mathlib.Core.Path.{_≡_};
 ghost use lib.ListN.{length, replicate};
 ghost use Rattle.numbers.specs.Bytes.{words as wordsOf};
@@ -10,7 +10,6 @@ ghost use Rattle.rules.specs.Calls.{Outcome, lengthsRight, startAdmission, admi
 ghost use Rattle.rules.specs.declared.Admission.the-variants.{Admitted};
 ghost use Rattle.rules_laws.specs.Granted.{Granted};
 ghost use Rattle.rules_laws.specs.Soundness.{Sound};
-pub use state::write;
 use rules::Admission;
 use rules::Given;
 use rules::Ran;
@@ -19,11 +18,7 @@ use rules::Started;
 use rules::Stepped;
 use rules::Taken;
 pub use state::WORDS;
-pub use threads::mark_held;
-pub use threads::offers_marked;
-pub use threads::port_count;
-pub use threads::release;
-pub use threads::status_of;
+pub use state::write;
 
 const TABLE: usize = 20760;
 

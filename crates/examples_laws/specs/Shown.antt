@@ -56,7 +56,8 @@ use Rattle.rules_laws.specs.Lasting.{course-kept}
 use Rattle.rules_laws.specs.Chosen.{Chosen, chosen}
 use Rattle.collector.specs.Collect.{taken, collected, takenCount}
 use Rattle.collector.specs.Collect.Laws.{taken-iff}
-use Rattle.listing_text.specs.Listing.{characters, column, channelsInUse, maxSteps}
+use Rattle.listing_lines.specs.Lines.{characters, column, channelsInUse}
+use Rattle.listing_text.specs.Listing.{maxSteps}
 use Rattle.listing_text.specs.Laying.{Come}
 use Rattle.listing_text.specs.Laying.Steps.{come-none, come-more, come-state, end-turn}
 use Rattle.listing_text.specs.Laying.Whole.{course-few}

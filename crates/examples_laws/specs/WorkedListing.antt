@@ -12,7 +12,8 @@ use Rattle.loader_laws.specs.FileExamples.{inputRows, header, definition, setti
 use Rattle.loader_laws.specs.PrintedFile.{filledUp}
 use Rattle.collector_laws.specs.Computing.{collecting}
 use Rattle.examples.specs.Files.{inOrder, rows-load, judging}
-use Rattle.listing_text.specs.Listing.{characters, column, line, heading, stepLine, channelsInUse, turnLine, stepLines, closingLine, takenLine, takenLines, runLines, listingBy, listing}
+use Rattle.listing_lines.specs.Lines.{characters, column, line, heading, stepLine, channelsInUse}
+use Rattle.listing_text.specs.Listing.{turnLine, stepLines, closingLine, takenLine, takenLines, runLines, listingBy, listing}
 
 -- opens all that a listing computes with
 unfoldable pub listingsCompute : Unit {0}

@@ -46,7 +46,7 @@ use Rattle.collector_laws.specs.Linked.{Series}
 use Rattle.collector_laws.specs.Out.{takenThread}
 use Rattle.collector_laws.specs.Computing.{collecting}
 use Rattle.collector.specs.declared.Collected.the-variants as Collected
-use Rattle.pithread.specs.Interface.{numbered, loadResult, inNumbers, startResult, stepFields, stepNumbers, stepResult, collectFields, collectNumbers, collectResult}
+use Rattle.interface.specs.Interface.{numbered, loadResult, inNumbers, startResult, stepFields, stepNumbers, stepResult, collectFields, collectNumbers, collectResult}
 use Rattle.examples.specs.Files.{inOrder, rows-load, judging}
 use Rattle.guarantee.specs.Claim.{Any, on, afterAny, afterList, reachedBy, unlessRefused, metByGive, moving, movingAll, takenBy, Guarantee}
 use Rattle.guarantee.specs.ClaimKept.{grants, collect-view, taken-is}

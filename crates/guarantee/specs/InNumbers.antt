@@ -20,7 +20,7 @@ use Rattle.state.specs.State.{State, maxThreads, view, thread, inUse, isWaiting
 use Rattle.rules_laws.specs.Frames.{elem}
 use Rattle.engine_laws.specs.Movers.{ranMovers}
 use Rattle.engine_laws.specs.Lists.{Call, step, give, take, run}
-use Rattle.pithread.specs.Interface.{startResult, stepResult, giveResult, takeResult, runResult, collectResult}
+use Rattle.interface.specs.Interface.{startResult, stepResult, giveResult, takeResult, runResult, collectResult}
 use Rattle.guarantee.specs.Claim.{Any, on, Counted, Linked}
 use Rattle.guarantee.specs.Exported.{left, refusal}
 

@@ -11,7 +11,7 @@ use lib.ListN.{length}
 use borrow.Author.Tests.{eqb-true}
 use Rattle.numbers.specs.Count.{bit, count}
 use Rattle.numbers.specs.Search.Laws.{contra}
-use Rattle.collector.specs.Enabled.Laws.{or-elim}
+use Rattle.marking.specs.Enabled.Laws.{or-elim}
 use Rattle.published.specs.Syntax.{Process, end, choice, nothing, branch, wait, always, output, andWait, waiting, someWait, onlyWaits}
 use Rattle.published.specs.Agents.{_∈_, channel, number, Env, holds, Commitment, gives, takes, channelOf, Thread, thread, Channels, adding, Agent, agent, refers, mentions, knows, globalrc, Commits}
 use Rattle.published.specs.Rules.{Rearranged, Acts, step, new, spawn, next, call, inert, send, out, recv, inn, more, Reclaims, reclaim, Sticks, stuck, Reduces, par, acts, reclaims, sticks, exchange, stays, goes, Reaches, Nothing}

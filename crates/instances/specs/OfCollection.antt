@@ -24,8 +24,7 @@ use Rattle.rules_laws.specs.Reading.Laws.{ready-not-waiting}
 use Rattle.rules_laws.specs.Soundness.{Sound}
 use Rattle.engine_laws.specs.Sealed.{Sealed}
 use Rattle.engine_laws.specs.Lists.{Call, reached, always-sound}
-use Rattle.collector.specs.Enabled.{Enabled, is-ready, by-bench, by-thread}
-use Rattle.collector.specs.Collect.{nobody}
+use Rattle.marking.specs.Enabled.{nobody, Enabled, is-ready, by-bench, by-thread}
 use Rattle.collector.specs.Collect.Laws.{taken-iff}
 use Rattle.collector_laws.specs.Linked.{Series}
 use Rattle.collector_laws.specs.Out.{takenThread, taken-sealed}

@@ -55,7 +55,7 @@ use Rattle.collector.specs.Collect.{taken, takenCount, collectBy, collectCall}
 use Rattle.collector.specs.Collect.Laws.{count-says}
 use Rattle.collector.specs.declared.Collected.{Collected}
 use Rattle.collector.specs.declared.Collected.the-variants as Collected
-use Rattle.pithread.specs.Interface.{loadResult, inNumbers, startFields, startNumbers, startResult, stepFields, stepNumbers, stepResult, giveFields, giveNumbers, giveResult, takeFields, takeNumbers, takeResult, runFields, runNumbers, runResult, collectFields, collectNumbers, collectResult}
+use Rattle.interface.specs.Interface.{loadResult, inNumbers, startFields, startNumbers, startResult, stepFields, stepNumbers, stepResult, giveFields, giveNumbers, giveResult, takeFields, takeNumbers, takeResult, runFields, runNumbers, runResult, collectFields, collectNumbers, collectResult}
 use Rattle.guarantee.specs.Claim.{Any, on, collect, afterAny, afterList, reachedBy, unlessRefused, metByGive, metByTake, inTurns, moving, movingAll, takenBy, Untouched, Linked, NeverTen}
 use Rattle.guarantee.specs.Exported.{left, refusal, given-so, started-so, left-so, refused-so, load-so, table-so}
 use Rattle.guarantee.specs.InNumbers.{leftAll, leftFrom, isZero, ifDone, named, waitingIn, moved, movedAll, takes, NoTen, InNumbers}
