@@ -18,7 +18,7 @@ use Rattle.numbers.specs.Tests.{and-left, and-right}
 use Rattle.table.specs.Table.{Table, maxRows, rowNumbers, tableOf, lineTotal}
 use Rattle.table.specs.Form.{headerInRange}
 use Rattle.table.specs.Form.Laws.{header-counts}
-use Rattle.checks.specs.Ranges.{unusedFrom, restUnused}
+use Rattle.ranges.specs.Ranges.{unusedFrom, restUnused}
 use Rattle.text.specs.Text.{fileText, fieldOf, readNumber}
 use Rattle.text.specs.Text.Laws.{reads-value, length-joined}
 use Rattle.text.specs.Text.Characters.{Characters}

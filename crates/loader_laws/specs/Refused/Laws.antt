@@ -14,8 +14,8 @@ use Rattle.numbers.specs.Search.Laws.{caseB, contra, first-void}
 use Rattle.numbers.specs.Tests.{and-left, and-right}
 use Rattle.table.specs.Table.{nodes, nodeRow, lineTotal}
 use Rattle.table.specs.Form.{headerInRange, kindWrong, sumsAgree}
-use Rattle.checks.specs.Ranges.{outOfRange}
-use Rattle.checks.specs.Types.{typesDisagree}
+use Rattle.ranges.specs.Ranges.{outOfRange}
+use Rattle.types.specs.Types.{typesDisagree}
 use Rattle.flow.specs.Flow.{readsUnwritten, unreachable}
 use Rattle.loader.specs.File.{lineCount, notLines, malformed, fileTable}
 use Rattle.loader.specs.Verdict.{groundNumber, verdict}
