@@ -39,6 +39,6 @@ module _ (tb : Table) (s : State) where
       (λ k. contra (rw (taken-freed tb s t l k) at w) refl)
       (λ k. enabled-linked (stays-enabled tb s t (rw (left-same tb s t l k) at w) k))
 
-  -- so with each thread that waits after it
+  -- each thread that waits after a collection is the first of a series
   pub waiting-linked : (t : ℕ) → t < maxThreads → isWaiting (thread (collected tb s) t) ≡ true → (r : List ℕ) × Series tb (collected tb s) t r
   waiting-linked t l w = left-linked t l (waiting-used (thread (collected tb s) t) w)

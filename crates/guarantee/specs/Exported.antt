@@ -106,7 +106,7 @@ load-table file t e =
     let (v, l) = load-zero-iff file t .0 e in
     table-so file t ∙ ap (λ (o : Load.Outcome). o .table) (sound-loads file t v l)
 
--- and with any other refusal what it had before
+-- where load is answered with any other refusal the buffer has what it had before
 pub load-keeps : (file t : List ℕ) → loadResult file t .answer .refusal ≢ pos 0 → loadResult file t .table ≡ t
 unfolding loadResult numbered loaded Load.refusalNumber
 load-keeps file t n = after-refused (verdict file) file t (λ e. n (rw e))

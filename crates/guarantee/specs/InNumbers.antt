@@ -54,7 +54,7 @@ unfoldable pub named : ℤ → List ℕ
 named (pos u) = u ∷ []
 named (negsuc n) = []
 
--- those of some threads that wait
+-- of some threads those that wait
 unfoldable pub waitingIn : State → List ℕ → List ℕ
 waitingIn s [] = []
 waitingIn s (u ∷ us) = cond (isWaiting (thread s u)) (u ∷ waitingIn s us) (waitingIn s us)

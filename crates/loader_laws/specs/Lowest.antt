@@ -255,7 +255,7 @@ module _ (file : List ℕ) where
   pub lowest-iff : (g : Ground) (l : ℕ) → (verdict file ≡ Fault g l) ↔ Names file g l
   lowest-iff = named (verdict file) (verdict-lowest file)
 
-  -- and is in order just when no ground has one
+  -- a file is in order just when no ground has a line of it at fault
   pub sound-iff : (verdict file ≡ Sound) ↔ ((g : Ground) (l : ℕ) → faultAt file g l ≡ false)
   sound-iff = none-named (verdict file) (verdict-lowest file)
 

@@ -16,7 +16,8 @@ use Rattle.numbers.specs.Count.Laws.{bit-le}
 use Rattle.numbers.specs.Search.{sumTo}
 use Rattle.numbers.specs.Search.Laws.{caseB, contra, sum-none, sum-suc}
 use Rattle.table.specs.Table.{Table, tableOf, ports}
-use Rattle.loader.specs.Load.{loaded, accepted}
+use Rattle.loader.specs.Load.{accepted}
+use Rattle.loader_laws.specs.Yields.{loaded-small, loaded-accepted}
 use Rattle.state.specs.State.{State, maxThreads, stateLength, view, thread, inUse, isWaiting}
 use Rattle.rules.specs.Offers.{partnerOf}
 use Rattle.rules.specs.Moves.{move}
@@ -50,7 +51,6 @@ use Rattle.engine_laws.specs.Movers.{ranMovers}
 use Rattle.engine_laws.specs.Buffers.{SoundBuffer}
 use Rattle.engine_laws.specs.SoundCalls.{start-done, admitted}
 use Rattle.engine_laws.specs.Lists.{Call, step, give, take, run, after, afterAll, after-sound}
-use Rattle.engine_laws.specs.ListInstance.{loaded-small, loaded-accepted}
 use Rattle.collector.specs.Collect.{taken, takenCount, collectBy, collectCall}
 use Rattle.collector.specs.Collect.Laws.{count-says}
 use Rattle.collector.specs.declared.Collected.{Collected}

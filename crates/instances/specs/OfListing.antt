@@ -1,30 +1,25 @@
 -- Document 01's listing, worked from its file by the definitions alone. Assumes nothing.
 use Prim.Native.Nat.{ℕ}
 use mathlib.Core.Path.{_≡_, refl}
-use mathlib.Core.Bool.{true}
 use mathlib.Core.List.{List, [], _∷_}
 use Rattle.numbers.specs.Bytes.{joined}
 use Rattle.text.specs.Text.{figuresBy, figures, numeral, rightJustified, text, fileText}
-use Rattle.table.specs.Table.{Table}
 use Rattle.rules.specs.Calls.{stepAnswer}
 use Rattle.engine.specs.Numbers.{actNumber, branchNumber, partnerNumber, reasonNumber, heldUpNumber}
-use Rattle.loader_laws.specs.FileExamples.{inputRows, header, definition, setting}
 use Rattle.loader_laws.specs.PrintedFile.{filledUp}
-use Rattle.collector_laws.specs.Computing.{collecting}
-use Rattle.examples.specs.Files.{inOrder, rows-load, judging}
+use Rattle.examples.specs.Tables.{listing}
+use Rattle.examples.specs.Computing.{collecting}
+use Rattle.examples.specs.Files.{rows-load, listing-in-order}
 use Rattle.listing_lines.specs.Lines.{characters, column, line, heading, stepLine, channelsInUse}
-use Rattle.listing_text.specs.Listing.{turnLine, stepLines, closingLine, takenLine, takenLines, runLines, listingBy, listing}
+use Rattle.listing_text.specs.Listing as Listing
+use Rattle.listing_text.specs.Listing.{turnLine, stepLines, closingLine, takenLine, takenLines, runLines, listingBy}
 
 -- opens all that a listing computes with
-unfoldable pub listingsCompute : Unit {0}
+unfoldable listingsCompute : Unit {0}
 unfolding collecting joined figuresBy figures numeral rightJustified text stepAnswer actNumber branchNumber partnerNumber reasonNumber heldUpNumber characters column line heading stepLine channelsInUse turnLine stepLines closingLine takenLine takenLines runLines
 listingsCompute = tt
 
--- the rows of the file that `loader_laws/specs/FileExamples.antt` loads
-abbrev pub example : Table
-example = inputRows header definition setting
-
--- its listing
+-- what document 01 prints
 abbrev pub printed : List ℕ
 printed = joined (
     characters "  STEPTHREAD  NODE   ACTBRANCH  WITH\n"
@@ -38,15 +33,11 @@ printed = joined (
     ∷ characters "     7     1    -1     0     0\n"
     ∷ [])
 
-example-in-order : inOrder example ≡ true
-unfolding judging
-example-in-order = refl
-
-example-run : runLines (filledUp example) ≡ printed
+example-run : runLines (filledUp listing) ≡ printed
 unfolding listingsCompute
 example-run = refl
 
 -- the file's listing is that, character by character
-pub example-listing : listing (fileText example) ≡ printed
-unfolding listing listingBy
-example-listing = let l = rows-load example example-in-order in rw (l .0, l .1) example-run
+pub example-listing : Listing.listing (fileText listing) ≡ printed
+unfolding Listing.listing listingBy
+example-listing = let l = rows-load listing listing-in-order in rw (l .0, l .1) example-run

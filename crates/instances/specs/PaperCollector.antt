@@ -2,7 +2,7 @@
 use Prim.Native.Nat.{ℕ, zero, suc}
 use mathlib.Core.Path.{_≡_, refl}
 use mathlib.Core.Bool.{Bool, true, false, not, _&&_, _||_}
-use mathlib.Core.List.{List, [], _∷_}
+use mathlib.Core.List.{List}
 use lib.Dec.{eqb}
 use lib.ListN.{getD}
 use Rattle.numbers.specs.Rows.{at}
@@ -19,7 +19,8 @@ use Rattle.rules.specs.declared.Direction.the-variants.{Out, In}
 use Rattle.rules_laws.specs.Frames.{elem, movers}
 use Rattle.engine_laws.specs.Movers.{turnMovers, onwardMovers, ranMovers}
 use Rattle.collector.specs.Collect.{taken}
-use Rattle.collector_laws.specs.Computing.{running, collecting}
+use Rattle.examples.specs.Tables.{chain}
+use Rattle.examples.specs.Computing.{running, collecting}
 
 -- ---- the printed collector begins with one waiting thread as the only candidate. Of each candidate it looks at the channels of its offers. Where some
 -- holder of such a channel does not wait, which the channel's two counts show (the bench never waits), it gives up and takes nothing. Else those that
@@ -34,7 +35,7 @@ module _ (tb : Table) (s : State) where
       && (guardHolds tb (branchAt tb (standsAt (thread s t)) i) (thread s t)
       && (meets? (actOf tb (branchAt tb (standsAt (thread s t)) i)) Out || meets? (actOf tb (branchAt tb (standsAt (thread s t)) i)) In))
 
-  -- its channel
+  -- the channel of that offer
   unfoldable pub channelOf : ℕ → ℕ → ℕ
   channelOf t i = slotOf (thread s t) (fieldA tb (branchAt tb (standsAt (thread s t)) i))
 
@@ -65,50 +66,14 @@ module _ (tb : Table) (s : State) where
   unfoldable pub printedTakes : ℕ → ℕ → Bool
   printedTakes first t = getD (candidates first maxThreads) t false && takesAll (candidates first maxThreads)
 
--- ---- the example
-
-abbrev row : ℕ → ℕ → ℕ → ℕ → ℕ → ℕ → ℕ → ℕ → ℕ → ℕ → List ℕ
-row a b c d e f g h i j = a ∷ b ∷ c ∷ d ∷ e ∷ f ∷ g ∷ h ∷ i ∷ j ∷ 0 ∷ 0 ∷ []
-
--- one type that carries numbers; slots: the channels c and d, and a number. Nodes: 0 set, 1 new c, 2 new d, 3 spawn of P, 4 spawn of W, 5 a new channel in
--- the place of c, 6 send on d; 7, where P starts, receive on c; 8, where W starts, receive on d, 9 send on c; 10 end
-abbrev pub chain : Table
-chain =
-    row 1 1 1 3 11 10 0 0 0 0
-    ∷ row 2 0 0 0 0 0 0 0 0 0
-    ∷ row 3 0 3 11 0 0 0 0 0 0
-    ∷ row 4 1 0 0 0 0 0 0 0 0
-    ∷ row 4 1 0 0 0 0 0 0 0 0
-    ∷ row 4 0 0 0 0 0 0 0 0 0
-    ∷ row 5 1 1 0 0 0 0 0 0 0
-    ∷ row 5 1 1 0 0 0 0 0 0 0
-    ∷ row 5 1 1 0 0 0 0 0 0 0
-    ∷ row 5 1 1 0 0 0 0 0 0 0
-    ∷ row 5 1 1 0 0 0 0 0 0 0
-    ∷ row 5 1 1 0 0 0 0 0 0 0
-    ∷ row 5 1 1 0 0 0 0 0 0 0
-    ∷ row 5 1 1 0 0 0 0 0 0 0
-    ∷ row 5 1 1 0 0 0 0 0 0 0
-    ∷ row 5 1 1 0 0 0 0 0 0 0
-    ∷ row 5 0 0 0 0 0 0 0 0 0
-    ∷ row 6 0 0 0 5 2 7 0 1 0
-    ∷ row 6 0 0 0 3 0 0 0 2 0
-    ∷ row 6 0 0 0 3 1 0 0 3 0
-    ∷ row 6 0 0 0 4 0 0 0 4 7
-    ∷ row 6 0 0 0 4 0 0 0 5 8
-    ∷ row 6 0 0 0 3 0 0 0 6 0
-    ∷ row 6 0 0 0 1 1 2 0 10 0
-    ∷ row 6 0 0 0 2 0 2 0 10 0
-    ∷ row 6 0 0 0 2 1 2 0 9 0
-    ∷ row 6 0 0 0 1 0 2 0 10 0
-    ∷ []
+-- ---- the file of document 01's third case
 
 -- the state after eight steps
 unfoldable pub chained : State
 chained = courseOf chain 8 (started chain) .state
 
--- document 01's third case: thread 1, P, waits on channel 0, which is c; thread 2, W, has c too and waits on channel 1, which is d; thread 0, R, stands ready
--- and knows d, and it does not know c
+-- thread 1, P, waits on channel 0, which is c; thread 2, W, has c too and waits on channel 1, which is d; thread 0, R, stands ready and knows d, and it does
+-- not know c
 pub chain-stands : (offers chain (thread chained 1) In 0 ≡ true)
     × (holds chain (thread chained 2) 0 ≡ true)
     × (offers chain (thread chained 2) In 1 ≡ true)

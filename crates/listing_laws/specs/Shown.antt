@@ -109,7 +109,7 @@ module _ (tb : Table) (s : State) (n : ℕ) where
       let e : courseOf tb n s .steps ≡ i + courseOf tb (n - i) s₁ .steps = ap (λ (k : Course). k .steps) (c n l) in
       went-first tb (n - i) s₁ (omega arith)
 
-  -- and its next turn leads on
+  -- the turn after i steps of a longer run leads on
   comes : (i : ℕ) → Come tb s i (courseOf tb i s .state) → i < courseOf tb n s .steps → Come tb s (suc i) (takeTurn tb (courseOf tb i s .state) .state)
   comes i c h =
       let s₁ : State = courseOf tb i s .state in
@@ -288,7 +288,7 @@ module _ (file : List ℕ) (e : verdict file ≡ Verdict.Sound) where
       turn-shown tb grants few-branches (courseOf tb i (started tb) .state) (sound-after i) (suc i) (omega (arith, course-few tb maxSteps (started tb)))
       (went tb (started tb) maxSteps i h)
 
-  -- and the steps are those of one run: each leads to the state in which the next is made
+  -- the steps are those of one run: each leads to the state in which the next is made
   pub step-leads : (i : ℕ) → i < run .steps → let s : State = courseOf tb i (started tb) .state in
       courseOf tb (suc i) (started tb) .state ≡ pastTurn (perform tb s (nextReady s) (move tb s (nextReady s))) (nextReady s)
   step-leads i h =
