@@ -20,7 +20,7 @@ characters ends = []
 characters (c then s) = code c ∷ characters s
 
 -- the column of a number that is given by its 32-bit pattern: the six characters of the same number's 16-bit pattern. Every number of a listing is within
--- 16 bits (`examples_laws/specs/Shown.antt`)
+-- 16 bits (`listing_laws/specs/Shown.antt`)
 unfoldable pub column : ℕ → List ℕ
 column v = text (v % 65536)
 
