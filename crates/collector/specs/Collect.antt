@@ -7,7 +7,7 @@ use lib.ListN.{getD}
 use Rattle.numbers.specs.Count.{bit}
 use Rattle.numbers.specs.Search.{sumTo, tabulate}
 use Rattle.table.specs.Table.{Table, tableOf}
-use Rattle.state.specs.State.{State, maxThreads, thread, inUse, view, stateBytes}
+use Rattle.state.specs.State.{State, maxThreads, thread, inUse, view, stateBytes, withThreads}
 use Rattle.rules.specs.Holding.{settled}
 use Rattle.rules.specs.Start.{freeRow}
 use Rattle.rules.specs.Calls.{Outcome, outcome, admission}
@@ -27,7 +27,7 @@ module _ (tb : Table) (s : State) where
 
   -- the state after a collection: marks and turn stay
   unfoldable pub collected : State
-  collected = settled tb (record { marks = s .marks; threads = tabulate maxThreads remaining; channels = s .channels })
+  collected = settled tb (withThreads s (tabulate maxThreads remaining))
 
   -- how many threads it takes
   unfoldable pub takenCount : ℕ

@@ -11,7 +11,7 @@ use Rattle.numbers.specs.Rows.{at}
 use Rattle.numbers.specs.Search.{tabulate}
 use Rattle.numbers.specs.Search.Laws.{caseB, contra, getD-tabulate, length-tabulate}
 use Rattle.table.specs.Table.{Table}
-use Rattle.state.specs.State.{State, maxThreads, thread, typeIn}
+use Rattle.state.specs.State.{State, maxThreads, thread, typeIn, withThreads}
 use Rattle.rules.specs.Start.{freeRow}
 use Rattle.rules.specs.Offers.{offers}
 use Rattle.rules.specs.declared.Direction.{Direction}
@@ -34,7 +34,7 @@ module _ (tb : Table) (s : State) (o : Orderly tb s) (q : ℕ → Bool) where
   left t = cond (q t) freeRow (thread s t)
 
   abbrev leftState : State
-  leftState = record { marks = s .marks; threads = tabulate maxThreads left; channels = s .channels }
+  leftState = withThreads s (tabulate maxThreads left)
 
   left-row : (t : ℕ) → t < maxThreads → thread leftState t ≡ left t
   left-row t l = getD-tabulate maxThreads t left [] l

@@ -5,10 +5,9 @@ use mathlib.Core.Bool.{true, false}
 use mathlib.Core.List.{List, [], _∷_}
 use mathlib.Core.Logic.{_≢_, _↔_}
 use lib.ListN.{length, getD}
-use Rattle.numbers.specs.Rows.{at}
 use Rattle.table.specs.Table.{tableOf}
 use Rattle.loader.specs.Load.{accepted}
-use Rattle.state.specs.State.{State, maxThreads, maxChannels, stateLength, view, thread, typeIn}
+use Rattle.state.specs.State.{State, maxThreads, maxChannels, stateLength, view, thread, typeIn, countIn, waitersIn}
 use Rattle.rules.specs.Holding.{waiters, countOf}
 use Rattle.rules.specs.Offers.{offers}
 use Rattle.rules.specs.Calls.{startCall, stepCall, giveCall, takeCall, runCall}
@@ -118,9 +117,9 @@ module _ (table : List ℕ) (ok : accepted table ≡ true) (fit : (i : ℕ) → 
   -- for a port (`countOf`); the third word is how many of those threads wait; and the channel is in use, its type being other than 0, exactly if its count
   -- is above 0
   pub counts-true : (c : ℕ) → c < maxChannels
-      → (at (s .channels) c 1 ≡ countOf (tableOf table) (s .threads) c)
-      × (at (s .channels) c 2 ≡ waiters (tableOf table) (s .threads) c)
-      × ((typeIn s c ≢ 0) ↔ (0 < at (s .channels) c 1))
+      → (countIn s c ≡ countOf (tableOf table) (s .threads) c)
+      × (waitersIn s c ≡ waiters (tableOf table) (s .threads) c)
+      × ((typeIn s c ≢ 0) ↔ (0 < countIn s c))
   counts-true c l = (
     count-is (tableOf table) s holding c l,
     waiters-is (tableOf table) s holding c l,

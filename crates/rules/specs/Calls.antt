@@ -6,6 +6,7 @@ use lib.Dec.{ltb, eqb}
 use lib.ListN.{length}
 use Rattle.table.specs.Table.{Table, tableOf, ports}
 use Rattle.loader.specs.Load.{tableLength, accepted}
+use Rattle.state.specs.Words as Word
 use Rattle.state.specs.State.{State, maxThreads, stateLength, view, stateBytes, turn, thread, standsAt, isReady, withMark}
 use Rattle.rules.specs.Start.{started}
 use Rattle.rules.specs.Offers.{partnerOf}
@@ -150,7 +151,7 @@ nextReady s = around maxThreads (turn s) (isReadyThread s)
 
 -- the turn moves one past thread t
 unfoldable pub pastTurn : State → ℕ → State
-pastTurn s t = withMark s 2 (oneUp maxThreads t)
+pastTurn s t = withMark s Word.turn (oneUp maxThreads t)
 
 -- why a run ends where the step of thread t is refused: on ground 13 or 14 a row is lacking. On another ground there was no thread to step; a run
 -- does not come to that, since it steps a ready thread of a sound state
