@@ -10,7 +10,6 @@ ghost use Rattle.rules.specs.Calls.{Outcome, lengthsRight, startAdmission, admi
 ghost use Rattle.rules.specs.declared.Admission.the-variants.{Admitted};
 ghost use Rattle.rules_laws.specs.Granted.{Granted};
 ghost use Rattle.rules_laws.specs.Soundness.{Sound};
-pub use state::write;
 use rules::Admission;
 use rules::Given;
 use rules::Ran;
@@ -19,6 +18,7 @@ use rules::Started;
 use rules::Stepped;
 use rules::Taken;
 pub use state::WORDS;
+pub use state::write;
 pub use threads::mark_held;
 pub use threads::offers_marked;
 pub use threads::port_count;

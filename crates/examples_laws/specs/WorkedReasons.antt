@@ -20,9 +20,9 @@ use Rattle.loader.specs.Load.{tableLength, tableBytes, Outcome, outcome, loaded
 use Rattle.loader.specs.declared.Loaded.the-variants.{Done}
 use Rattle.loader_laws.specs.PrintedFile.{filledUp}
 use Rattle.loader_laws.specs.Yields.{bytes-hold, file-shaped, sound-loads}
-use Rattle.state.specs.State.{State, maxThreads, maxChannels, threadWords, channelWords, stateBytes}
+use Rattle.state.specs.State.{State, maxThreads, maxChannels, threadWords, channelWords, view, stateBytes}
 use Rattle.rules.specs.Sound.{marksInRange, freeZero, rowInRange, spareZero, slotTyped, slotsTyped, slotFilled, slotsFilled, countTrue, portTyped, waitsRightly, sound}
-use Rattle.rules.specs.Calls.{courseOf, runBy, runCall}
+use Rattle.rules.specs.Calls.{courseOf, runOn, runCall}
 use Rattle.rules.specs.declared.Refusal.the-variants as Ground
 use Rattle.rules.specs.declared.Stepped.the-variants as Stepped
 use Rattle.rules.specs.declared.Reason.the-variants.{AllDone, NoneReady, LackedThread, LackedChannel}
@@ -33,7 +33,7 @@ use Rattle.rules_laws.specs.Shape.Laws.{view-bytes, bytes-small}
 use Rattle.rules_laws.specs.Soundness.{Sound}
 use Rattle.rules_laws.specs.Soundness.Laws.{sound-elim}
 use Rattle.engine_laws.specs.Buffers.{SoundBuffer, bytes-sound}
-use Rattle.engine_laws.specs.SoundCalls.{admitted}
+use Rattle.engine_laws.specs.SoundCalls.{call-made}
 use Rattle.engine_laws.specs.ListInstance.{loaded-small, loaded-accepted}
 use Rattle.engine_laws.specs.Reasons.{dueAnswer, afterTurns, run-ends}
 use Rattle.rules_laws.specs.Codes.{clash}
@@ -145,8 +145,13 @@ module _ (rs : Table) (e : inOrder rs ≡ true) where
     buffer = let h : Sound (tableOf (tableFor rs)) s = rw table-holds (sound-elim (filledUp rs) s (shaped s f) g) in bytes-sound (tableFor rs) s h
 
     run-answer : (n : ℕ) → runCall (tableFor rs) (stateBytes s) n .answer ≡ Ran.Done (courseOf (filledUp rs) n s .steps) (courseOf (filledUp rs) n s .reason)
-    unfolding runCall runBy
-    run-answer n = rw (admitted (tableFor rs) table-accepted (stateBytes s) buffer, view-bytes s (shaped s f), table-holds)
+    unfolding runCall runOn
+    run-answer n =
+        rw (
+          call-made (tableFor rs) table-accepted Ran.Refused (stateBytes s) buffer (runOn (tableOf (tableFor rs)) (view (stateBytes s)) n),
+          view-bytes s (shaped s f),
+          table-holds,
+        )
 
 -- opens what a test of a state computes with
 unfoldable testingStates : Unit {0}

@@ -20,25 +20,22 @@ use Rattle.loader.specs.declared.Verdict.the-variants.{Sound, Fault}
 use Rattle.loader_laws.specs.FileExamples.{listing-cut}
 use Rattle.loader_laws.specs.PrintedFile.{filledUp}
 use Rattle.loader_laws.specs.Yields.{bytes-hold, file-shaped, sound-loads}
-use Rattle.state.specs.State.{State, stateLength, view, stateBytes, thread, isWaiting}
+use Rattle.state.specs.State.{State, stateLength, view, thread, standsAt, isWaiting}
 use Rattle.rules.specs.Start.{started}
 use Rattle.rules.specs.Offers.{partnerOf}
 use Rattle.rules.specs.Moves.{move}
-use Rattle.rules.specs.Calls.{startAdmission, startBy, startCall, canStep, stepAnswer, stepEnd, stepBy, stepCall, bench, givenTo, giveBy, giveCall, courseOf, runBy, runCall}
+use Rattle.rules.specs.Calls.{startCall, canStep, stepAnswer, stepOn, stepCall, bench, givenTo, giveOn, giveCall, courseOf}
+use Rattle.rules.specs.Calls.Laws.{step-answered}
 use Rattle.rules.specs.declared.Direction.the-variants.{In}
 use Rattle.rules.specs.declared.Partner.the-variants.{At}
 use Rattle.rules.specs.declared.Move.the-variants.{Spawns}
-use Rattle.rules.specs.declared.Admission.{Admission}
-use Rattle.rules.specs.declared.Admission.the-variants as Admission
-use Rattle.rules.specs.declared.Started.the-variants as Started
-use Rattle.rules_laws.specs.Codes.{clash}
+use Rattle.rules.specs.declared.Deed.the-variants.{TookWith}
+use Rattle.rules.specs.declared.Stepped.the-variants as Stepped
+use Rattle.rules.specs.declared.Given.the-variants as Given
 use Rattle.engine.specs.Numbers.{partnerNumber}
-use Rattle.rules_laws.specs.Shape.Laws.{view-bytes}
-use Rattle.rules_laws.specs.Lasting.{course-kept}
-use Rattle.rules_laws.specs.Started.{started-sound}
 use Rattle.rules_laws.specs.Frames.{elem, movers}
-use Rattle.engine_laws.specs.Buffers.{SoundBuffer, view-sound}
-use Rattle.engine_laws.specs.SoundCalls.{start-done, admitted}
+use Rattle.engine_laws.specs.Buffers.{SoundBuffer}
+use Rattle.engine_laws.specs.SoundCalls.{call-made, start-view, run-view}
 use Rattle.engine_laws.specs.Lists.{Call, step, give, run, after}
 use Rattle.engine_laws.specs.ListInstance.{loaded-small, loaded-accepted}
 use Rattle.collector.specs.Collect.{collected, takenCount, collectCall}
@@ -49,32 +46,11 @@ use Rattle.collector.specs.declared.Collected.the-variants as Collected
 use Rattle.pithread.specs.Interface.{numbered, loadResult, inNumbers, startResult, stepFields, stepNumbers, stepResult, collectFields, collectNumbers, collectResult}
 use Rattle.examples.specs.Files.{inOrder, rows-load, judging}
 use Rattle.guarantee.specs.Claim.{Any, on, afterAny, afterList, reachedBy, unlessRefused, metByGive, moving, movingAll, takenBy, Guarantee}
-use Rattle.guarantee.specs.ClaimKept.{grants, collect-view, taken-is}
+use Rattle.guarantee.specs.ClaimKept.{collect-view, taken-is}
 use Rattle.guarantee.specs.Proof.{reached-sound, collection-made, guarantee}
 use Rattle.guarantee.specs.Exported.{table-so}
 use Rattle.guarantee.specs.InNumbers.{moved, InNumbers}
 use Rattle.guarantee.specs.InNumbers.Proof.{moved-so, started-iff, in-numbers}
-
--- ---- the state that the bytes hold after a start, and after a run
-
-start-by : (table state : List ℕ) (a : Admission) → startBy a table state .answer ≡ Started.Done
-    → startBy a table state .state ≡ stateBytes (started (tableOf table))
-unfolding startBy
-start-by table state (Admission.Refused r) e = clash cc
-start-by table state Admission.Admitted e = refl
-
-module _ (table : List ℕ) (ok : accepted table ≡ true) (fit : (i : ℕ) → getD table i 0 < 256) (state : List ℕ) where
-  start-view : length state ≡ stateLength → view (startCall table state .state) ≡ started (tableOf table)
-  unfolding startCall
-  start-view long =
-      rw (start-by table state (startAdmission table state) (start-done table ok state long))
-      (view-bytes _ (started-sound (tableOf table) (grants table ok fit) .orderly .shaped))
-
-  run-view : SoundBuffer table state → (n : ℕ) → view (runCall table state n .state) ≡ courseOf (tableOf table) n (view state) .state
-  unfolding runCall runBy
-  run-view b n =
-      rw (admitted table ok state b)
-      (view-bytes _ (course-kept (tableOf table) (grants table ok fit) n (view state) (view-sound table state b) .orderly .shaped))
 
 -- ---- the example
 
@@ -223,10 +199,15 @@ parent-offers = refl
 parent-found : partnerOf (tableOf table) (view worked) bench In 0 ≡ At 0 0
 parent-found = rw (table-holds, worked-view) parent-offers
 
+parent-met : giveCall table worked 0 7 .answer ≡ Given.Met 0
+unfolding giveCall giveOn givenTo
+parent-met =
+    rw (call-made table table-accepted Given.Refused worked worked-sound (giveOn (tableOf table) (view worked) 0 7), port-open, parent-found)
+
 -- while thread 0 would have: a give on the port moves it
 pub parent-moves : elem 0 (movingAll table worked (give 0 7 (omega arith) ∷ [])) ≡ true
-unfolding movingAll moving giveCall giveBy givenTo metByGive elem
-parent-moves = rw (admitted table table-accepted worked worked-sound, port-open, parent-found)
+unfolding movingAll moving metByGive elem
+parent-moves = rw parent-met
 
 -- and after the collection thread 0 is linked
 pub parent-linked : (r : List ℕ) × Series (tableOf table) (view (collectCall table worked .state)) 0 r
@@ -262,8 +243,8 @@ one-answered = rw one-collected
 
 -- a give on the port in its place names thread 0
 pub parent-named : moved table worked (give 0 7 (omega arith)) ≡ 0 ∷ []
-unfolding moving giveCall giveBy givenTo metByGive
-parent-named = moved-so table table-accepted worked worked-sound (give 0 7 (omega arith)) ∙ rw (admitted table table-accepted worked worked-sound, port-open, parent-found)
+unfolding moving metByGive
+parent-named = moved-so table table-accepted worked worked-sound (give 0 7 (omega arith)) ∙ rw parent-met
 
 -- after one step thread 0 is about to spawn: the answer of its step names thread 1, which it starts and does not meet
 abbrev pub begun : List ℕ
@@ -286,9 +267,15 @@ begun-view = after-run 1
 child-moves : (canStep (view begun) 0 ≡ true) × (move (tableOf table) (view begun) 0 ≡ Spawns 0 1)
 child-moves = rw (table-holds, begun-view) spawns
 
+child-answer : stepCall table begun 0 .answer ≡ Stepped.Done (standsAt (thread (view begun) 0)) (TookWith 0 1)
+unfolding stepCall stepAnswer
+child-answer =
+    rw (call-made table table-accepted Stepped.Refused begun begun-sound (stepOn (tableOf table) (view begun) 0))
+    (step-answered (tableOf table) (view begun) 0 ∙ rw (child-moves .0, child-moves .1))
+
 pub child-named : (stepResult table begun 0 .answer .partner ≡ pos 1) × (moved table begun (step 0) ≡ 0 ∷ [])
-unfolding stepResult inNumbers stepNumbers stepFields partnerNumber stepCall stepBy stepEnd stepAnswer moving unlessRefused movers
+unfolding stepResult inNumbers stepNumbers stepFields partnerNumber moving unlessRefused movers
 child-named = (
-  rw (admitted table table-accepted begun begun-sound, child-moves .0, child-moves .1),
-  moved-so table table-accepted begun begun-sound (step 0) ∙ rw (admitted table table-accepted begun begun-sound, child-moves .0, child-moves .1),
+  rw child-answer,
+  moved-so table table-accepted begun begun-sound (step 0) ∙ rw (child-answer, child-moves .1),
 )

@@ -19,7 +19,7 @@ use Rattle.rules.specs.declared.Act.the-variants.{New, Spawn}
 use Rattle.rules.specs.declared.Move.the-variants.{Creates, Spawns, Meets, LacksThread, LacksChannel}
 use Rattle.rules_laws.specs.Frames.{elem, elem-nil, elem-cases, movers, waiting-stays}
 use Rattle.rules_laws.specs.Learnt.{Knew, learnt}
-use Rattle.rules_laws.specs.Lacking.{Takes, NoThreadRow, NoChannelRow, lacks-thread-iff, lacks-channel-iff}
+use Rattle.engine_laws.specs.Lacking.{Takes, NoThreadRow, NoChannelRow, lacks-thread-iff, lacks-channel-iff}
 use Rattle.collector_laws.specs.Computing.{running}
 use Rattle.collector_laws.specs.PaperCollector.{chain, chained}
 use Rattle.instances.specs.OfFiles.{teaching, spawner, maker, in-order, rows-granted, run-sound}

@@ -27,7 +27,7 @@ use Rattle.rules.specs.declared.Reason.the-variants.{AllDone}
 use Rattle.rules.specs.declared.Ran.the-variants as Ran
 use Rattle.rules_laws.specs.Accepted.{granted}
 use Rattle.engine_laws.specs.Buffers.{SoundBuffer, view-sound}
-use Rattle.engine_laws.specs.SoundCalls.{start-done, start-sound}
+use Rattle.engine_laws.specs.SoundCalls.{start-done, start-sound, start-view, run-view}
 use Rattle.engine_laws.specs.Lists.{run, after, after-sound}
 use Rattle.engine_laws.specs.ListInstance.{loaded-small, loaded-accepted}
 use Rattle.collector_laws.specs.Out.{takenThread}
@@ -49,10 +49,9 @@ use Rattle.published_laws.specs.Products.{Bench}
 use Rattle.published_laws.specs.Firing.{firedBy, TellsWith, Tells, nextHad}
 use Rattle.published_laws.specs.Benches.{portsAnd, bench-is}
 use Rattle.published_laws.specs.Taking.{placeIn, taken-iff-disabled}
-use Rattle.published_laws.specs.Running.{run-view, run-done, run-call-reduced}
+use Rattle.published_laws.specs.Running.{run-done, run-call-reduced}
 use Rattle.published_laws.specs.Stepping.{Plain}
 use Rattle.published_laws.specs.Wholly.{turn-whole}
-use Rattle.published_laws.specs.Computation.{start-view}
 
 -- ---- the file of `guarantee/specs/ClaimInstance.antt`: thread 0 makes a channel, spawns thread 1, which receives on the channel, makes another channel in the
 -- place of the first, and receives on the port
