@@ -17,7 +17,7 @@ cp -r crates crates.txt "$scratch"
 cp -r target/stamp "$scratch/target"
 for library in target/rlib/*.rlib; do
     case $library in
-    */pithread.rlib | */guarantee.rlib | */driver.rlib) cp -r "$library" "$scratch/target/rlib" ;;
+    */pithread.rlib | */driver.rlib) cp -r "$library" "$scratch/target/rlib" ;;
     *) ln -s "$root/$library" "$scratch/target/rlib" ;;
     esac
 done
@@ -60,35 +60,34 @@ check "the copy is proved as it is" proved
 both='(now (table .entry)) (now (state .entry))'
 
 # Other calls than those asked for.
-change "(giveResult $both port number)" "(giveResult $both 0 number)"
+change "≡ giveResult $both port number" "≡ giveResult $both 0 number"
 change 'engine::give(table, state, port, ' 'engine::give(table, state, 0, '
-change "(takeResult $both port)" "(takeResult $both 0)"
+change "≡ takeResult $both port" "≡ takeResult $both 0"
 change 'engine::take(table, state, port)' 'engine::take(table, state, 0)'
-change "(runResult $both n)" "(runResult $both 1)"
+change "≡ runResult $both n" "≡ runResult $both 1"
 change 'engine::run(table, state, n)' 'engine::run(table, state, 1)'
 
 # A step that answers what it should and then goes on: the contract says nothing of the state.
-change "_≡_ {A = StateResult StepAnswer} (record { answer = r; state = now (state .exit) }) (stepResult $both thread)" \
-    "r ≡ stepResult $both thread .answer"
-change '    step_numbers(engine::step(table, state, thread))' \
-    '    let answer = step_numbers(engine::step(table, state, thread));
+change "result r (now (state .exit)) ≡ stepResult $both thread" "r ≡ stepResult $both thread .answer"
+change '    interface::step_numbers(engine::step(table, state, thread))' \
+    '    let answer = interface::step_numbers(engine::step(table, state, thread));
     engine::run(table, state, 1);
     answer'
 cat >"$proofs/pithread_step/Proof.antt" <<'PROOF'
 use Prim.Native.Nat.{ℕ}
 use mathlib.Core.Path.{_≡_, ap}
 use mathlib.Core.List.{List}
-use Rattle.rules.specs.Calls.{outcome, stepCall}
+use Rattle.rules.specs.Calls.{Outcome, outcome, stepCall}
 use Rattle.rules.specs.declared.Stepped.{Stepped}
-use Rattle.pithread.specs.Interface.{StateResult, stepNumbers, stepResult}
-use Rattle.pithread.specs.Interface.Calls.{step-answered}
-use Rattle.pithread.specs.declared.StepAnswer.{StepAnswer}
+use Rattle.interface.specs.Interface.{stepNumbers, stepResult, inNumbers}
+use Rattle.interface.specs.declared.StepAnswer.{StepAnswer}
 use borrow.Author.Needs.{needs}
 use Rattle.pithread.proofs.pithread_step.Statement.{statement}
 use Rattle.pithread.proofs.pithread_step.Tie as tie
 
-answered : (table b b₁ : List ℕ) (t : ℕ) (a : Stepped) (r : StepAnswer) → outcome a b₁ ≡ stepCall table b t → r ≡ stepNumbers a → r ≡ stepResult table b t .answer
-answered table b b₁ t a r e f = ap (λ (x : StateResult StepAnswer). x .answer) (step-answered table b b₁ t a r e f)
+told : (table b b₁ : List ℕ) (t : ℕ) (a : Stepped) (r : StepAnswer) → outcome a b₁ ≡ stepCall table b t → r ≡ stepNumbers a → r ≡ stepResult table b t .answer
+unfolding stepResult inNumbers
+told table b b₁ t a r e f = rw f (ap (λ (x : Outcome Stepped). stepNumbers (x .answer)) e)
 
 pub pithread-step-spec : {M : Type 1} → statement M
 pithread-step-spec =
@@ -98,31 +97,29 @@ pithread-step-spec =
     (λ c κs. search needs)
     (λ c κs. search needs)
     (λ c. search needs)
-    (λ c. search answered))
+    (λ c. search told))
 PROOF
 
 # A collection that always says that it took nobody: the contract says nothing of the answer.
-change "λ r. ⌜ _≡_ {A = StateResult CollectAnswer} (record { answer = r; state = now (state .exit) }) (collectResult $both)" \
-    "λ _. ⌜ now (state .exit) ≡ collectResult $both .state"
-change '    collect_numbers(collector::collect(table, state))' \
+change "λ r. ⌜ result r (now (state .exit)) ≡ collectResult $both" "λ _. ⌜ now (state .exit) ≡ collectResult $both .state"
+change '    interface::collect_numbers(collector::collect(table, state))' \
     '    collector::collect(table, state);
-    collect_fields(0, 0)'
+    interface::collect_numbers(collector::Collected::Done(0))'
 cat >"$proofs/pithread_collect/Proof.antt" <<'PROOF'
 use Prim.Native.Nat.{ℕ}
-use mathlib.Core.Path.{_≡_, refl, ap}
+use mathlib.Core.Path.{_≡_, ap}
 use mathlib.Core.List.{List}
-use Rattle.rules.specs.Calls.{outcome}
+use Rattle.rules.specs.Calls.{Outcome, outcome}
 use Rattle.collector.specs.Collect.{collectCall}
 use Rattle.collector.specs.declared.Collected.{Collected}
-use Rattle.pithread.specs.Interface.{StateResult, collectNumbers, collectResult}
-use Rattle.pithread.specs.Interface.Calls.{collect-answered}
-use Rattle.pithread.specs.declared.CollectAnswer.{CollectAnswer}
+use Rattle.interface.specs.Interface.{collectResult, inNumbers}
 use borrow.Author.Needs.{needs}
 use Rattle.pithread.proofs.pithread_collect.Statement.{statement}
 use Rattle.pithread.proofs.pithread_collect.Tie as tie
 
 left : (table b b₁ : List ℕ) (a : Collected) → outcome a b₁ ≡ collectCall table b → b₁ ≡ collectResult table b .state
-left table b b₁ a e = ap (λ (x : StateResult CollectAnswer). x .state) (collect-answered table b b₁ a (collectNumbers a) e refl)
+unfolding collectResult inNumbers
+left table b b₁ a e = ap (λ (x : Outcome Collected). x .state) e
 
 pub pithread-collect-spec : {M : Type 1} → statement M
 pithread-collect-spec =

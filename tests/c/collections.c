@@ -240,27 +240,6 @@ static void one_offer_is_enough(void) {
     closed(b);
 }
 
-/* A thread does not meet its own offer, so it waits; and nobody else can ever meet it. */
-static void both_directions_alone(void) {
-    static const line lines[] = {
-        TYPE(0), DEFINITION(0, 2, 4), SLOT(1), SLOT(0),
-        CHOICE(1), CHOICE(1), CHOICE(2), END,
-        BRANCH(ALWAYS, NEW(0), 1),
-        BRANCH(ALWAYS, SET(1, 4), 2),
-        BRANCH(ALWAYS, SEND(0, 1), 3),
-        BRANCH(ALWAYS, RECEIVE(0, 1), 3),
-    };
-    bench *b = OPENED("both directions on one channel, alone", lines);
-    walk(b, 0, 2);
-    want_thread(b, 0, WAITS(2, 0, 4));
-    want_channel(b, 0, 1, 1, 1);
-    step_waits(b, 0, 2);
-    want_thread(b, 0, FREE);
-    want_channel(b, 0, 0, 0, 0);
-    collect(b, 1);
-    closed(b);
-}
-
 /*
  * A thread at node 1 has two channels and waits to receive on the first of them; at node 2 it is at its
  * end and still has both. The cases put threads there. Channel 0 is the port.
@@ -529,7 +508,6 @@ void check_collections(void) {
     waiters_on_ports_stay();
     all_guards_false();
     one_offer_is_enough();
-    both_directions_alone();
     rings_of_64();
     some_taken_some_left();
     at_odd_addresses();

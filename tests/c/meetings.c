@@ -14,6 +14,7 @@ static const line send_or_receive[] = {
     BRANCH(ALWAYS, RECEIVE(0, 1), 6),
 };
 
+/* A thread does not meet its own offer, so it waits; nobody else can ever meet it, and a collection takes it. */
 static void own_offer_is_not_met(void) {
     static const line lines[] = {
         TYPE(0), DEFINITION(0, 2, 4), SLOT(1), SLOT(0),
@@ -30,6 +31,9 @@ static void own_offer_is_not_met(void) {
     step_waits(b, 0, 2);
     run(b, 9, 0, PITHREAD_NONE_READY, PITHREAD_NOBODY);
     step_refused(b, 0, PITHREAD_THREAD);
+    want_thread(b, 0, FREE);
+    want_channel(b, 0, 0, 0, 0);
+    collect(b, 1);
     closed(b);
 }
 

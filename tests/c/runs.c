@@ -162,25 +162,6 @@ static void steps_before_a_held_thread_stay(void) {
     closed(b);
 }
 
-/* Each child waits behind a false guard, so thread 0 alone comes to the spawn for which no row is left. */
-static void run_until_no_row(void) {
-    static const line lines[] = {
-        DEFINITION(0, 1, 5), SLOT(0),
-        CHOICE(1), CHOICE(1), CALL(0), CHOICE(1), END,
-        BRANCH(ALWAYS, SET(0, 0), 1),
-        BRANCH(ALWAYS, SPAWN, 2, 3),
-        BRANCH(IS(0, 1), TAU, 4),
-    };
-    bench *b = OPENED("a run until no row is left", lines);
-    want_thread(b, 0, READY(1));
-    for (int thread = 1; thread < PITHREAD_THREADS; thread++) {
-        want_thread(b, thread, WAITS(3));
-    }
-    want_marks(b, 0, 0, 1);
-    run(b, 1000, 63 * 4 + 1, PITHREAD_LACKED_THREAD_ROW, 0);
-    closed(b);
-}
-
 /* A definition that calls itself never ends by itself. */
 static void longest_run(void) {
     static const line lines[] = {DEFINITION(0, 0, 1), CALL(0)};
@@ -199,6 +180,5 @@ void check_runs(void) {
     turn_goes_upward_and_around();
     run_goes_past_a_held_thread();
     steps_before_a_held_thread_stay();
-    run_until_no_row();
     longest_run();
 }

@@ -11,7 +11,7 @@ use rules::Refusal;
 // The pattern of -1.
 const MINUS_ONE: u32 = 4294967295;
 
-// Grounds 1 to 7.
+// The number of a ground on which a file is refused: 1 to 7.
 pub fn ground_number(ground: Ground) -> u32
     ensures { λ r. ⌜ r ≡ groundNumber ground ⌝ }
     ensures { λ r. ⌜ r ≤ 8 ⌝ }
@@ -30,7 +30,7 @@ pub fn ground_number(ground: Ground) -> u32
     }
 }
 
-// Grounds 8 to 14.
+// The number of a ground on which a call is refused: 8 to 14.
 pub fn refusal_of(refusal: Refusal) -> u32
     ensures { λ r. ⌜ r ≡ refusalNumber refusal ⌝ }
 {
@@ -45,7 +45,7 @@ pub fn refusal_of(refusal: Refusal) -> u32
     }
 }
 
-// Of a step: the act, the branch, and the partner or child.
+// The number of what a step did: 0 ended, 1 called, 2 waited, 3 took a branch.
 pub fn act_number(deed: Deed) -> u32
     ensures { λ r. ⌜ r ≡ actNumber deed ⌝ }
 {
@@ -58,6 +58,7 @@ pub fn act_number(deed: Deed) -> u32
     }
 }
 
+// The branch that a step took, and 0 where it took none.
 pub fn branch_number(deed: Deed) -> u32
     ensures { λ r. ⌜ r ≡ branchNumber deed ⌝ }
 {
@@ -70,6 +71,7 @@ pub fn branch_number(deed: Deed) -> u32
     }
 }
 
+// The partner or child of a step, and -1 where it has none.
 pub fn partner_number(deed: Deed) -> u32
     ensures { λ r. ⌜ r ≡ partnerNumber deed ⌝ }
 {
@@ -82,7 +84,7 @@ pub fn partner_number(deed: Deed) -> u32
     }
 }
 
-// Of a run: the reason, and the thread held up.
+// The number of the reason for which a run ended.
 pub fn reason_number(reason: Reason) -> u32
     ensures { λ r. ⌜ r ≡ reasonNumber reason ⌝ }
 {
@@ -94,6 +96,7 @@ pub fn reason_number(reason: Reason) -> u32
     }
 }
 
+// The thread that lacked a row when a run ended, and -1 where none did.
 pub fn held_up_number(reason: Reason) -> u32
     ensures { λ r. ⌜ r ≡ heldUpNumber reason ⌝ }
 {

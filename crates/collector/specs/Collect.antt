@@ -11,13 +11,9 @@ use Rattle.state.specs.State.{State, maxThreads, thread, inUse, view}
 use Rattle.rules.specs.Holding.{settled}
 use Rattle.rules.specs.Start.{freeRow}
 use Rattle.rules.specs.Calls.{Outcome, After, afterwards, onBuffers}
-use Rattle.collector.specs.Enabled.{enabledSet}
+use Rattle.marking.specs.Enabled.{nobody, enabledSet}
 use Rattle.collector.specs.declared.Collected.{Collected}
 use Rattle.collector.specs.declared.Collected.the-variants as Collected
-
--- nobody counts as enabled from the start
-unfoldable pub nobody : ℕ → Bool
-nobody t = false
 
 module _ (tb : Table) (s : State) where
   -- a thread is taken if it is not enabled (002: disabled)

@@ -1,5 +1,2 @@
-pub mod Rounds
-pub mod Enabled
 pub mod Collect
-pub mod Marking
 pub mod Freeing

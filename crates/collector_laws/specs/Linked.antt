@@ -11,8 +11,8 @@ use Rattle.rules.specs.Holding.{holds}
 use Rattle.rules.specs.Offers.{offers}
 use Rattle.rules.specs.declared.Direction.{Direction}
 use Rattle.rules_laws.specs.Reading.Laws.{waiting-used}
-use Rattle.collector.specs.Enabled.{Enabled, from-start, is-ready, by-bench, by-thread}
-use Rattle.collector.specs.Collect.{nobody, taken, collected}
+use Rattle.marking.specs.Enabled.{nobody, Enabled, from-start, is-ready, by-bench, by-thread}
+use Rattle.collector.specs.Collect.{taken, collected}
 use Rattle.collector.specs.Collect.Laws.{stays-enabled, taken-freed, left-same, enabled-same}
 
 -- document 01's links: a series of threads, by those that come after thread t. Each but the last has an offer, so that it waits, on a channel of the next,
@@ -39,6 +39,6 @@ module _ (tb : Table) (s : State) where
       (λ k. contra (rw (taken-freed tb s t l k) at w) refl)
       (λ k. enabled-linked (stays-enabled tb s t (rw (left-same tb s t l k) at w) k))
 
-  -- so with each thread that waits after it
+  -- each thread that waits after a collection is the first of a series
   pub waiting-linked : (t : ℕ) → t < maxThreads → isWaiting (thread (collected tb s) t) ≡ true → (r : List ℕ) × Series tb (collected tb s) t r
   waiting-linked t l w = left-linked t l (waiting-used (thread (collected tb s) t) w)

@@ -22,8 +22,8 @@ use Rattle.rules_laws.specs.Soundness.{Sound}
 use Rattle.rules_laws.specs.Frames.{elem}
 use Rattle.engine_laws.specs.Movers.{ranMovers}
 use Rattle.engine_laws.specs.Sealed.{Sealed, sealed-run}
-use Rattle.collector.specs.Enabled.{Enabled, is-ready, by-bench, by-thread}
-use Rattle.collector.specs.Collect.{nobody, taken}
+use Rattle.marking.specs.Enabled.{nobody, Enabled, is-ready, by-bench, by-thread}
+use Rattle.collector.specs.Collect.{taken}
 use Rattle.collector.specs.Collect.Laws.{taken-iff, stays-enabled}
 
 -- the threads that a collection takes, among the rows that there are

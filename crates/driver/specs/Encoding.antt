@@ -12,13 +12,13 @@ use mir.Syntax.{w32}
 use mir.Val.{toZ, ofZ}
 use Rattle.numbers.specs.Bytes.{words}
 use Rattle.engine_laws.specs.Lists.{step, give, take, run}
-use Rattle.pithread.specs.Interface.{stepResult, giveResult, takeResult, runResult, collectResult}
+use Rattle.interface.specs.Interface.{stepResult, giveResult, takeResult, runResult, collectResult}
 use Rattle.guarantee.specs.Claim.{Any, on, collect, afterAny}
-use Rattle.pithread.specs.declared.StepAnswer.{StepAnswer}
-use Rattle.pithread.specs.declared.GiveAnswer.{GiveAnswer}
-use Rattle.pithread.specs.declared.TakeAnswer.{TakeAnswer}
-use Rattle.pithread.specs.declared.RunAnswer.{RunAnswer}
-use Rattle.pithread.specs.declared.CollectAnswer.{CollectAnswer}
+use Rattle.interface.specs.declared.StepAnswer.{StepAnswer}
+use Rattle.interface.specs.declared.GiveAnswer.{GiveAnswer}
+use Rattle.interface.specs.declared.TakeAnswer.{TakeAnswer}
+use Rattle.interface.specs.declared.RunAnswer.{RunAnswer}
+use Rattle.interface.specs.declared.CollectAnswer.{CollectAnswer}
 use Rattle.driver.specs.declared.Answer.{Answer}
 
 -- ---- calls

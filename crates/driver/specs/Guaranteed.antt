@@ -3,7 +3,7 @@ use Prim.Native.Nat.{ℕ}
 use mathlib.Core.Path.{_≡_, sym, _∙_}
 use mathlib.Core.List.{List}
 use lib.IntN.{pos}
-use Rattle.pithread.specs.Interface.{loadResult, startResult}
+use Rattle.interface.specs.Interface.{loadResult, startResult}
 use Rattle.guarantee.specs.Claim.{afterList}
 use Rattle.guarantee.specs.InNumbers.{leftFrom, InNumbers}
 use Rattle.guarantee.specs.InNumbers.Proof.{all-so, in-numbers}

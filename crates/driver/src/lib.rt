@@ -19,7 +19,7 @@ pub struct Answer {
     pub fifth: i32,
 }
 
-// The five calls, each by the exported function.
+// The functions `step`, `give`, `take`, `run` and `collect` each make one call by the exported function, and put its numbers in their order.
 fn step(table: &[u8], state: &mut [u8], thread: u32) -> Answer
     ensures { λ _. ⌜ now (state .exit) ≡ afterAny (now (table .entry)) (now (state .entry)) (on (Step thread)) ⌝ }
     ensures { λ r. ⌜ r ≡ answerTo (now (table .entry)) (now (state .entry)) (on (Step thread)) ⌝ }
@@ -127,7 +127,8 @@ fn put_answer(answers: &mut [u8], i: usize, answer: Answer)
 fn work_record(table: &[u8], state: &mut [u8], calls: &[u8], answers: &mut [u8], i: usize)
     requires { ⌜ i < length (now calls) / 12 ⌝ }
     ensures { λ _. ⌜ now (state .exit) ≡ afterAny (now (table .entry)) (now (state .entry)) (callAt (words (now (calls .entry))) i) ⌝ }
-    ensures { λ _. ⌜ words (now (answers .exit)) ≡ writtenFrom (words (now (answers .entry))) (i * 5) (wordsOf (answerTo (now (table .entry)) (now (state .entry)) (callAt (words (now (calls .entry))) i))) ⌝ }
+    ensures { λ _. ⌜ words (now (answers .exit)) ≡ writtenFrom (words (now (answers .entry))) (i * 5)
+        (wordsOf (answerTo (now (table .entry)) (now (state .entry)) (callAt (words (now (calls .entry))) i))) ⌝ }
 {
     let code = numbers::word_at(calls, i * 3);
     let argument = numbers::word_at(calls, i * 3 + 1);
@@ -141,7 +142,8 @@ fn work_record(table: &[u8], state: &mut [u8], calls: &[u8], answers: &mut [u8],
 #[no_mangle]
 pub extern "C" fn driver_work_list(table: &[u8], state: &mut [u8], calls: &[u8], answers: &mut [u8])
     ensures { λ _. ⌜ now (state .exit) ≡ afterList (now (table .entry)) (now (state .entry)) (callsOf (now (calls .entry))) ⌝ }
-    ensures { λ _. ⌜ words (now (answers .exit)) ≡ writtenFrom (words (now (answers .entry))) 0 (answersTo (now (table .entry)) (now (state .entry)) (callsOf (now (calls .entry)))) ⌝ }
+    ensures { λ _. ⌜ words (now (answers .exit)) ≡ writtenFrom (words (now (answers .entry))) 0
+        (answersTo (now (table .entry)) (now (state .entry)) (callsOf (now (calls .entry)))) ⌝ }
 {
     for i in 0..calls.len() / 12 {
         work_record(table, state, calls, answers, i);

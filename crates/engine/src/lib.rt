@@ -1,5 +1,5 @@
-// The calls of the engine: start, step, give, take, run. Each judges its buffers first, and a call that is refused writes nothing. For a layer above,
-// which works on the words of an admitted state, what it may ask of a thread and the writing of the words are handed on.
+// The calls of the engine: start, step, give, take, run. Each judges its buffers first, and a call that is refused writes nothing. For the collector,
+// which works on the words of an admitted state, the admission and the writing of the words are handed on.
 ghost use mathlib.Core.Path.{_≡_};
 ghost use lib.ListN.{length, replicate};
 ghost use Rattle.numbers.specs.Bytes.{words as wordsOf};
@@ -19,11 +19,6 @@ use rules::Stepped;
 use rules::Taken;
 pub use state::WORDS;
 pub use state::write;
-pub use threads::mark_held;
-pub use threads::offers_marked;
-pub use threads::port_count;
-pub use threads::release;
-pub use threads::status_of;
 
 const TABLE: usize = 20760;
 

@@ -17,11 +17,11 @@ pub record SoundBuffer (table state : List ℕ) : Type 0 where
   pub small : (i : ℕ) → getD state i 0 < 256
   pub tested : sound (tableOf table) (view state) ≡ true
 
--- the state that it holds is sound
+-- the state that such a buffer holds is sound
 pub view-sound : (table state : List ℕ) → SoundBuffer table state → Sound (tableOf table) (view state)
 view-sound table state b = sound-elim (tableOf table) (view state) (view-shaped state (b .long) (b .small)) (b .tested)
 
--- and the bytes of a sound state are such a buffer
+-- the bytes of a sound state are such a buffer
 pub bytes-sound : (table : List ℕ) (s : State) → Sound (tableOf table) s → SoundBuffer table (stateBytes s)
 bytes-sound table s ok = let h = ok .orderly .shaped in record {
   long = bytes-long s h;

@@ -11,4 +11,3 @@ pub mod Buffers
 pub mod SoundCalls
 pub mod Reasons
 pub mod Lists
-pub mod ListInstance

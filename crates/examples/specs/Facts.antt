@@ -17,9 +17,9 @@ use Rattle.rules.specs.declared.Partner.{Partner}
 use Rattle.rules.specs.declared.Partner.the-variants.{Nobody, At}
 use Rattle.engine.specs.Numbers.{reasonNumber}
 use Rattle.collector.specs.Collect.{collected, takenCount}
-use Rattle.collector_laws.specs.Computing.{collecting}
+use Rattle.examples.specs.Computing.{collecting}
 
--- ---- what is done: a run of at most n steps, or a give, on port p, of the number with the pattern v
+-- ---- what is done: a run of at most n steps, or a give, on port p, of the number whose pattern is v
 pub data Doing : Type 0 where
   steps : ℕ → Doing
   gives : ℕ → ℕ → Doing
@@ -97,6 +97,6 @@ allHold [] = true
 allHold (x ∷ xs) = passes x && allHold xs
 
 -- opens what a case computes with
-unfoldable pub testing : Unit {0}
+unfoldable pub working : Unit {0}
 unfolding collecting metByBench reasonNumber afterGive afterDoing afterAll holdsIn allIn passes allHold
-testing = tt
+working = tt

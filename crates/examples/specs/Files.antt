@@ -1,32 +1,39 @@
--- Whether the files of cases load, computed from their rows.
+-- Whether the file of rows loads, computed from the rows; and from there to a table that the engine accepts, in which every run is sound. Assumes nothing.
+use Prim.Native.Nat.{ℕ, _<_}
 use mathlib.Core.Path.{_≡_, refl, _∙_}
 use mathlib.Core.Bool.{Bool, true, _&&_}
-use mathlib.Core.List.{List, [], _∷_}
+use mathlib.Core.List.{List, []}
 use lib.Dec.{ltb, leb, eqb}
 use lib.ListN.{length, getD}
 use borrow.Author.Tests.{ltb-true, leb-true, eqb-true}
+use Rattle.numbers.specs.Bytes.{joined}
+use Rattle.numbers.specs.Bytes.Laws.{encode-below}
 use Rattle.numbers.specs.Rows.{at}
-use Rattle.numbers.specs.Search.{every, computing}
-use Rattle.numbers.specs.Search.Laws.{every-elim, contra}
+use Rattle.numbers.specs.Search.{every}
+use Rattle.numbers.specs.Search.Laws.{every-elim}
 use Rattle.numbers.specs.Tests.{and-left, and-right}
 use Rattle.text.specs.Text.{fileText}
-use Rattle.table.specs.Table.{Table, maxRows, rowNumbers}
-use Rattle.table.specs.Layout.{blocks, lines, branchCount, size, start, endsPast, owner}
-use Rattle.table.specs.Form.{gain, loss, within, headerInRange, kindDue, kindWrong, gainOf, lossOf, sumAgrees, sumsAgree}
-use Rattle.table.specs.Roles.{guardRole, actionRole, operandPlace, operand, operandRole, reads, writes}
-use Rattle.checks.specs.Ranges.{roleInRange, ahead, unusedFrom, restUnused, typeInRange, definitionInRange, argumentInRange, callInRange, nodeInRange, operandInRange, targetsInRange, branchInRange, rowInRange, outOfRange}
-use Rattle.checks.specs.Types.{roleTyped, portTyped, portsTyped, argumentTyped, nodeTyped, operandTyped, branchTyped, rowTyped, typesDisagree}
-use Rattle.flow.specs.Flow.{slotWritten, pastWrite, either, arrive, begins, beginning, branchFollowed, branchesFollowed, flowTo, flow, mayLack, argumentWritten, callWritten, operandWritten, rowWritten, readsUnwritten, unreachable, marked}
+use Rattle.table.specs.Table.{Table, maxRows, rowNumbers, tableOf}
 use Rattle.loader.specs.File.{fileTable}
-use Rattle.loader.specs.Verdict.{atFault, judgedFlow, judgedRows, judged, verdict, isSound}
-use Rattle.loader.specs.declared.Verdict.{Verdict}
-use Rattle.loader.specs.declared.Verdict.the-variants.{Sound, Fault}
-use Rattle.loader_laws.specs.PrintedFile.{Printable, filledUp, print-table, print-judged}
-use Rattle.examples.specs.Facts.{Case, tableIn}
+use Rattle.loader.specs.Verdict.{judged, verdict, isSound}
+use Rattle.loader.specs.Load.{tableLength, tableBytes, outcome, loaded, accepted}
+use Rattle.loader.specs.declared.Loaded.the-variants.{Done}
+use Rattle.loader.specs.declared.Verdict.the-variants as Verdict
+use Rattle.loader_laws.specs.PrintedFile.{Printable, filledUp, sound-bytes, print-table, print-judged}
+use Rattle.loader_laws.specs.Yields.{is-sound, file-shaped, length-bytes, bytes-hold, sound-loads, accepted-iff}
+use Rattle.rules.specs.Start.{started}
+use Rattle.rules.specs.Calls.{courseOf}
+use Rattle.rules_laws.specs.Granted.{Granted}
+use Rattle.rules_laws.specs.Accepted.{granted}
+use Rattle.rules_laws.specs.Soundness.{Sound}
+use Rattle.rules_laws.specs.Started.{started-sound}
+use Rattle.rules_laws.specs.Lasting.{course-kept}
+use Rattle.examples.specs.Computing.{judging}
+use Rattle.examples.specs.Tables.{listing, spawner, maker, parting, teaching, portReceiver, endOnly}
 
--- ---- of rows
+-- ---- rows and their file
 
--- they can be printed: 1 to 865 of them, each of twelve numbers of 16 bits
+-- rows that can be printed: 1 to 865 of them, each of twelve numbers of 16 bits
 unfoldable pub prints : Table → Bool
 prints rs =
     leb 1 (length rs)
@@ -34,7 +41,7 @@ prints rs =
     && (every (λ i. eqb (length (getD rs i [])) rowNumbers) (length rs)
     && every (λ i. every (λ k. ltb (at rs i k) 65536) rowNumbers) (length rs)))
 
--- and a verdict finds no fault in them
+-- rows that can be printed and in which a verdict finds no fault
 unfoldable pub inOrder : Table → Bool
 inOrder rs = prints rs && isSound (judged (filledUp rs) (length rs))
 
@@ -53,35 +60,77 @@ module _ (rs : Table) where
         small = λ i k l m. ltb-true (at rs i k) 65536 (every-elim _ rowNumbers k (every-elim _ (length rs) i smalls l) m);
       }
 
-  is-sound : (v : Verdict) → isSound v ≡ true → v ≡ Sound
-  unfolding isSound
-  is-sound Sound e = refl
-  is-sound (Fault g l) e = contra e refl
+  -- the verdict on the file is that on the rows
+  pub rows-judged : prints rs ≡ true → verdict (fileText rs) ≡ judged (filledUp rs) (length rs)
+  rows-judged e = print-judged rs (printable e)
 
-  -- then the file is in order, and its table is the rows, filled up
-  pub rows-load : inOrder rs ≡ true → (verdict (fileText rs) ≡ Sound) × (fileTable (fileText rs) ≡ filledUp rs)
+  -- where it finds no fault the table of the file is the rows, filled up
+  pub rows-load : inOrder rs ≡ true → (verdict (fileText rs) ≡ Verdict.Sound) × (fileTable (fileText rs) ≡ filledUp rs)
   unfolding inOrder
   rows-load e =
-      let p = printable (and-left _ _ e) in
-      (print-judged rs p ∙ is-sound (judged (filledUp rs) (length rs)) (and-right (prints rs) _ e), print-table rs p)
+      let p = and-left (prints rs) _ e in
+      (rows-judged p ∙ is-sound (judged (filledUp rs) (length rs)) (and-right (prints rs) _ e), print-table rs (printable p))
 
--- ---- of cases
+-- ---- from rows in order to an accepted table
 
-unfoldable pub allInOrder : List Case → Bool
-allInOrder [] = true
-allInOrder (x ∷ xs) = inOrder (x .rows) && allInOrder xs
+-- the bytes that loading leaves
+abbrev pub tableFor : Table → List ℕ
+tableFor rs = tableBytes (filledUp rs)
 
--- the file of each is in order, and loading gives the table in which the case is worked
-unfoldable pub Loads : List Case → Type 0
-Loads [] = Unit {0}
-Loads (x ∷ xs) = ((verdict (fileText (x .rows)) ≡ Sound) × (fileTable (fileText (x .rows)) ≡ tableIn x)) × Loads xs
+module _ (rs : Table) (e : inOrder rs ≡ true) where
+  -- the file loads into every buffer of the right length
+  pub rows-loaded : (t : List ℕ) → length t ≡ tableLength → loaded (fileText rs) t ≡ outcome Done (tableFor rs)
+  rows-loaded t l = let (v, q) = rows-load rs e in rw q at (sound-loads (fileText rs) t v l)
 
-pub loads : (xs : List Case) → allInOrder xs ≡ true → Loads xs
-unfolding allInOrder Loads
-loads [] e = tt
-loads (x ∷ xs) e = (rows-load (x .rows) (and-left _ _ e), loads xs (and-right (inOrder (x .rows)) _ e))
+  pub table-holds : tableOf (tableFor rs) ≡ filledUp rs
+  table-holds = rw (← rows-load rs e .1) (bytes-hold (fileTable (fileText rs)) (file-shaped (fileText rs)))
 
--- opens what the tests of rows compute with, for examples
-unfoldable pub judging : Unit {0}
-unfolding computing blocks lines branchCount size start endsPast owner gain loss within headerInRange kindDue kindWrong gainOf lossOf sumAgrees sumsAgree guardRole actionRole operandPlace operand operandRole reads writes roleInRange ahead unusedFrom restUnused typeInRange definitionInRange argumentInRange callInRange nodeInRange operandInRange targetsInRange branchInRange rowInRange outOfRange roleTyped portTyped portsTyped argumentTyped nodeTyped operandTyped branchTyped rowTyped typesDisagree slotWritten pastWrite either arrive begins beginning branchFollowed branchesFollowed flowTo flow marked mayLack argumentWritten callWritten operandWritten rowWritten readsUnwritten unreachable atFault judgedFlow judgedRows judged isSound prints inOrder allInOrder
-judging = tt
+  pub table-long : length (tableFor rs) ≡ tableLength
+  table-long = rw (← rows-load rs e .1) (length-bytes (fileTable (fileText rs)) (file-shaped (fileText rs)))
+
+  pub table-small : (i : ℕ) → getD (tableFor rs) i 0 < 256
+  unfolding tableBytes
+  table-small = encode-below 2 (joined (filledUp rs))
+
+  pub table-accepted : accepted (tableFor rs) ≡ true
+  table-accepted =
+      accepted-iff (tableFor rs) table-small .1
+      (fileText rs, tableFor rs, sound-bytes (fileText rs) (rows-load rs e .0), rows-loaded (tableFor rs) table-long)
+
+  -- all that the engine's theorems ask of a table
+  pub rows-granted : Granted (filledUp rs)
+  rows-granted = rw table-holds at (granted (tableFor rs) table-accepted table-small)
+
+  -- every state that a run reaches from the start is sound
+  pub run-sound : (n : ℕ) → Sound (filledUp rs) (courseOf (filledUp rs) n (started (filledUp rs)) .state)
+  run-sound n = course-kept (filledUp rs) rows-granted n (started (filledUp rs)) (started-sound (filledUp rs) rows-granted)
+
+-- ---- the files of the theorems are in order
+
+pub listing-in-order : inOrder listing ≡ true
+unfolding judging prints inOrder
+listing-in-order = refl
+
+pub spawner-in-order : inOrder spawner ≡ true
+unfolding judging prints inOrder
+spawner-in-order = refl
+
+pub maker-in-order : inOrder maker ≡ true
+unfolding judging prints inOrder
+maker-in-order = refl
+
+pub parting-in-order : inOrder parting ≡ true
+unfolding judging prints inOrder
+parting-in-order = refl
+
+pub teaching-in-order : inOrder teaching ≡ true
+unfolding judging prints inOrder
+teaching-in-order = refl
+
+pub receiver-in-order : inOrder portReceiver ≡ true
+unfolding judging prints inOrder
+receiver-in-order = refl
+
+pub end-in-order : inOrder endOnly ≡ true
+unfolding judging prints inOrder
+end-in-order = refl

@@ -1,4 +1,7 @@
-pub mod Facts
-pub mod Files
+pub mod Builders
 pub mod Tables
+pub mod Computing
+pub mod Files
+pub mod ListingFile
+pub mod Facts
 pub mod Starred

@@ -1,14 +1,19 @@
 -- The starred bench cases of document 01, each from the start of a file. Assumes nothing.
 use mathlib.Core.Path.{_≡_, refl}
-use mathlib.Core.Bool.{true}
+use mathlib.Core.Bool.{Bool, true, _&&_}
 use mathlib.Core.List.{List, [], _∷_}
 use lib.IntN.{negsuc}
 use mir.Syntax.{w32}
 use mir.Val.{toZ}
-use Rattle.collector_laws.specs.PaperCollector.{chain}
-use Rattle.examples.specs.Facts.{steps, gives, ready, waits, sends, receives, knows, slot, counted, runs, collects, takes, keeps, frees, Case, case, allHold, testing}
-use Rattle.examples.specs.Files.{allInOrder, Loads, loads, judging}
-use Rattle.examples.specs.Tables.{loneReceiver, twoReceivers, portReceiver, falseGuards, bothSides, twoSlots, overflow, swap, endOnly}
+use Rattle.numbers.specs.Tests.{and-left, and-right}
+use Rattle.text.specs.Text.{fileText}
+use Rattle.loader.specs.File.{fileTable}
+use Rattle.loader.specs.Verdict.{verdict}
+use Rattle.loader.specs.declared.Verdict.the-variants.{Sound}
+use Rattle.examples.specs.Facts.{steps, gives, ready, waits, sends, receives, knows, slot, counted, runs, collects, takes, keeps, frees, Case, case, tableIn, allHold, working}
+use Rattle.examples.specs.Computing.{judging}
+use Rattle.examples.specs.Files.{prints, inOrder, rows-load}
+use Rattle.examples.specs.Tables.{loneReceiver, twoReceivers, chain, portReceiver, falseGuards, bothSides, twoSlots, overflow, swap, endOnly}
 
 -- each case: its file's rows, what is done from the start, and what holds then
 abbrev pub cases : List Case
@@ -34,24 +39,38 @@ cases =
     ∷ case overflow (steps 1 ∷ gives 0 2147483647 ∷ steps 2 ∷ []) (slot 0 1 2147483647 ∷ slot 0 2 1 ∷ slot 0 3 2147483648 ∷ [])
     -- 9: a call changes two slots round: slot 0 had port 0, and slot 1 had port 1
     ∷ case swap (steps 1 ∷ []) (slot 0 0 1 ∷ slot 0 1 0 ∷ [])
-    -- 10: a run of at most 0 steps makes none and ends for reason 0; so too where no thread is ready, which is reason 1 for a longer run
+    -- 10: a run of at most 0 steps makes none and ends for reason 0, even where no thread is ready, which is reason 1 for a longer run
     ∷ case endOnly [] (ready 0 ∷ runs 0 0 0 ∷ [])
     ∷ case endOnly (steps 1 ∷ []) (runs 0 0 0 ∷ runs 1 0 1 ∷ [])
     ∷ []
 
 -- all of them hold
 pub starred-cases : allHold cases ≡ true
-unfolding testing
+unfolding working
 starred-cases = refl
 
 -- the pattern of case 8 is that of -2147483648: negsuc n is -(n + 1)
 pub least-pattern : toZ w32 2147483648 ≡ negsuc 2147483647
 least-pattern = refl
 
+-- ---- each file is in order, and loading gives the table in which its case is worked
+
+unfoldable allInOrder : List Case → Bool
+allInOrder [] = true
+allInOrder (x ∷ xs) = inOrder (x .rows) && allInOrder xs
+
+unfoldable pub Loads : List Case → Type 0
+Loads [] = Unit {0}
+Loads (x ∷ xs) = ((verdict (fileText (x .rows)) ≡ Sound) × (fileTable (fileText (x .rows)) ≡ tableIn x)) × Loads xs
+
+loads : (xs : List Case) → allInOrder xs ≡ true → Loads xs
+unfolding allInOrder Loads
+loads [] e = tt
+loads (x ∷ xs) e = (rows-load (x .rows) (and-left _ _ e), loads xs (and-right (inOrder (x .rows)) _ e))
+
 all-in-order : allInOrder cases ≡ true
-unfolding judging
+unfolding judging prints inOrder allInOrder
 all-in-order = refl
 
--- each file is in order, and loading gives the table that its case speaks of
 pub starred-load : Loads cases
 starred-load = loads cases all-in-order

@@ -1,66 +1,24 @@
--- The rows of the files of the starred cases, and of two more.
-use Prim.Native.Nat.{ℕ}
+-- The rows of the files of examples. Each file has one definition unless it says otherwise, and types that carry numbers.
 use mathlib.Core.List.{List, [], _∷_}
+use Prim.Native.Nat.{ℕ}
 use Rattle.table.specs.Table.{Table}
+use Rattle.examples.specs.Builders.{header, carrying, ofNumbers, definition, slot, ending, choice, call, pass, send, receive, new, spawn, set, add, passIfEqual, receiveIfBelow}
 
--- ---- rows, by what they say
+-- ---- document 01's listing
 
-abbrev row : ℕ → ℕ → ℕ → ℕ → ℕ → ℕ → ℕ → ℕ → ℕ → ℕ → List ℕ
-row a b c d e f g h i j = a ∷ b ∷ c ∷ d ∷ e ∷ f ∷ g ∷ h ∷ i ∷ j ∷ 0 ∷ 0 ∷ []
+-- the rows with this header, this definition and this branch of node 2. Slots: a channel, a number. Nodes: 0 new channel, 1 spawn, 2 the branch, 3 send on the
+-- channel; 4, where the child starts, receive on it; 5 end
+abbrev pub listingWith : List ℕ → List ℕ → List ℕ → Table
+listingWith counts defined second =
+    counts ∷ ofNumbers ∷ defined ∷ slot 1 ∷ slot 0
+    ∷ choice 1 ∷ choice 1 ∷ choice 1 ∷ choice 1 ∷ choice 1 ∷ ending
+    ∷ new 0 1 ∷ spawn 4 2 ∷ second ∷ send 0 1 5 ∷ receive 0 1 5 ∷ []
 
--- the counts of types, definitions, slots, nodes, branches and ports
-abbrev header : ℕ → ℕ → ℕ → ℕ → ℕ → ℕ → List ℕ
-header t d s n b p = row 1 t d s n b p 0 0 0
+-- node 2 sets the number to 7
+abbrev pub listing : Table
+listing = listingWith (header 1 1 2 6 5 0) (definition 0 2 6) (set 1 7 3)
 
--- a type of channels that carry numbers
-abbrev ofNumbers : List ℕ
-ofNumbers = row 2 0 0 0 0 0 0 0 0 0
-
--- a definition with these counts of parameters, slots and nodes; a slot of a type
-abbrev definition : ℕ → ℕ → ℕ → List ℕ
-definition p s n = row 3 p s n 0 0 0 0 0 0
-
-abbrev slot : ℕ → List ℕ
-slot ty = row 4 ty 0 0 0 0 0 0 0 0
-
--- nodes: the end, a choice of n branches, a call of a definition with two slots
-abbrev ending : List ℕ
-ending = row 5 0 0 0 0 0 0 0 0 0
-
-abbrev choice : ℕ → List ℕ
-choice n = row 5 1 n 0 0 0 0 0 0 0
-
-abbrev call : ℕ → ℕ → ℕ → List ℕ
-call d a b = row 5 2 d a b 0 0 0 0 0
-
--- branches without a guard, with the next node last
-abbrev send : ℕ → ℕ → ℕ → List ℕ
-send a b n = row 6 0 0 0 1 a b 0 n 0
-
-abbrev receive : ℕ → ℕ → ℕ → List ℕ
-receive a b n = row 6 0 0 0 2 a b 0 n 0
-
-abbrev new : ℕ → ℕ → List ℕ
-new a n = row 6 0 0 0 3 a 0 0 n 0
-
--- ... and the child's node before it
-abbrev spawn : ℕ → ℕ → List ℕ
-spawn c n = row 6 0 0 0 4 0 0 0 n c
-
-abbrev set : ℕ → ℕ → ℕ → List ℕ
-set a v n = row 6 0 0 0 5 a v 0 n 0
-
-abbrev add : ℕ → ℕ → ℕ → ℕ → List ℕ
-add a b c n = row 6 0 0 0 6 a b c n 0
-
--- branches with a guard: go on if slot k equals v; receive on slot a into slot b if slot k is below v
-abbrev ifEqual : ℕ → ℕ → ℕ → List ℕ
-ifEqual k v n = row 6 1 k v 0 0 0 0 n 0
-
-abbrev receiveBelow : ℕ → ℕ → ℕ → ℕ → ℕ → List ℕ
-receiveBelow k v a b n = row 6 2 k v 2 a b 0 n 0
-
--- ---- files
+-- ---- the starred cases
 
 -- slots: a channel, a number. Nodes: 0 new channel, 1 receive on it
 abbrev pub loneReceiver : Table
@@ -76,6 +34,14 @@ twoReceivers =
     ∷ choice 1 ∷ choice 1 ∷ choice 1 ∷ choice 1 ∷ choice 1 ∷ ending
     ∷ new 0 1 ∷ new 1 2 ∷ spawn 4 3 ∷ receive 0 2 5 ∷ receive 1 2 5 ∷ []
 
+-- slots: the channels c and d, a number. Nodes: 0 set the number, 1 new c, 2 new d, 3 and 4 spawns, 5 a new channel in the place of c, 6 send on d; 7, where the
+-- first child starts, receive on c; 8, where the second starts, receive on d, 9 send on c; 10 end
+abbrev pub chain : Table
+chain =
+    header 1 1 3 11 10 0 ∷ ofNumbers ∷ definition 0 3 11 ∷ slot 1 ∷ slot 1 ∷ slot 0
+    ∷ choice 1 ∷ choice 1 ∷ choice 1 ∷ choice 1 ∷ choice 1 ∷ choice 1 ∷ choice 1 ∷ choice 1 ∷ choice 1 ∷ choice 1 ∷ ending
+    ∷ set 2 7 1 ∷ new 0 2 ∷ new 1 3 ∷ spawn 7 4 ∷ spawn 8 5 ∷ new 0 6 ∷ send 1 2 10 ∷ receive 0 2 10 ∷ receive 1 2 9 ∷ send 0 2 10 ∷ []
+
 -- slots: the port, a number. Node 0 is a receive on the port
 abbrev pub portReceiver : Table
 portReceiver =
@@ -88,7 +54,7 @@ abbrev pub falseGuards : Table
 falseGuards =
     header 1 1 2 3 3 1 ∷ ofNumbers ∷ definition 1 2 3 ∷ slot 1 ∷ slot 0
     ∷ choice 1 ∷ choice 2 ∷ ending
-    ∷ set 1 0 1 ∷ ifEqual 1 1 2 ∷ receiveBelow 1 0 0 1 2 ∷ []
+    ∷ set 1 0 1 ∷ passIfEqual 1 1 2 ∷ receiveIfBelow 1 0 0 1 2 ∷ []
 
 -- slots: a channel, a number. Nodes: 0 new channel, 1 set the number, 2 send on the channel or receive on it
 abbrev pub bothSides : Table
@@ -119,10 +85,41 @@ swap = header 1 1 2 1 0 2 ∷ ofNumbers ∷ definition 2 2 1 ∷ slot 1 ∷ slot
 abbrev pub endOnly : Table
 endOnly = header 0 1 0 1 0 0 ∷ definition 0 0 1 ∷ ending ∷ []
 
+-- ---- the theorems
+
 -- no slots. Node 0 is a spawn
 abbrev pub spawner : Table
 spawner = header 0 1 0 2 1 0 ∷ definition 0 0 2 ∷ choice 1 ∷ ending ∷ spawn 1 1 ∷ []
 
--- slots: two channels. Node 0 makes a channel in the place of the first
+-- definition 0 is an end; definition 1 has eight channels for parameters. Nodes: 0 end; 1, where definition 1 begins, a new channel in the place of the first
+-- parameter, 2 end
 abbrev pub maker : Table
-maker = header 1 1 2 2 1 0 ∷ ofNumbers ∷ definition 0 2 2 ∷ slot 1 ∷ slot 1 ∷ choice 1 ∷ ending ∷ new 0 1 ∷ []
+maker =
+    header 1 2 8 3 1 0 ∷ ofNumbers ∷ definition 0 0 1 ∷ definition 8 8 2
+    ∷ slot 1 ∷ slot 1 ∷ slot 1 ∷ slot 1 ∷ slot 1 ∷ slot 1 ∷ slot 1 ∷ slot 1
+    ∷ ending ∷ choice 1 ∷ ending
+    ∷ new 0 1 ∷ []
+
+-- slots: the port, a channel, a number. Nodes: 0 new channel, 1 spawn, 2 a new channel in the place of the first, 3 receive on the port; 4, where the child
+-- starts, receive on the first channel, which it alone knows by then; 5 end
+abbrev pub parting : Table
+parting =
+    header 1 1 3 6 5 1 ∷ ofNumbers ∷ definition 1 3 6 ∷ slot 1 ∷ slot 1 ∷ slot 0
+    ∷ choice 1 ∷ choice 1 ∷ choice 1 ∷ choice 1 ∷ choice 1 ∷ ending
+    ∷ new 1 1 ∷ spawn 4 2 ∷ new 1 3 ∷ receive 0 2 5 ∷ receive 1 2 5 ∷ []
+
+-- type 2 carries channels of type 1. Slots: c of type 2, d of type 1. Nodes: 0 new c, 1 spawn, 2 new d, 3 send d on c; 4, where the child starts, receive on c
+-- into d; 5 end
+abbrev pub teaching : Table
+teaching =
+    header 2 1 2 6 5 0 ∷ ofNumbers ∷ carrying 1 ∷ definition 0 2 6 ∷ slot 2 ∷ slot 1
+    ∷ choice 1 ∷ choice 1 ∷ choice 1 ∷ choice 1 ∷ choice 1 ∷ ending
+    ∷ new 0 1 ∷ spawn 4 2 ∷ new 1 3 ∷ send 0 1 5 ∷ receive 0 1 5 ∷ []
+
+-- not in order: one port, and no parameter for it
+abbrev pub portless : Table
+portless = header 1 1 0 1 0 1 ∷ ofNumbers ∷ definition 0 0 1 ∷ ending ∷ []
+
+-- not in order: a node whose only branch leads back to it
+abbrev pub circle : Table
+circle = header 0 1 0 1 1 0 ∷ definition 0 0 1 ∷ choice 1 ∷ pass 0 ∷ []

@@ -1,21 +1,18 @@
-// Which slots a path may leave unwritten, and grounds 6 and 7 over a loaded table. The marks of a node are the bits of one number, so that a write
-// clears a bit and two ways to a node meet in one `|`.
+// Which slots a path may leave unwritten, over a loaded table. The marks of a node are the bits of one number, so that a write clears a bit and two ways
+// to a node meet in one `|`.
 ghost use mathlib.Core.Path.{_≡_};
 ghost use Prim.Native.Nat.{_+_, _-_, _<_};
 ghost use lib.ListN.{set, replicate};
-ghost use Rattle.numbers.specs.Search.{every, first};
 ghost use Rattle.table.specs.Table.{tableOf, nodes, branchRow};
 ghost use Rattle.table.specs.Layout.{start, branchCount, definitionOf};
 ghost use Rattle.table.specs.Index.{Indexed};
 ghost use Rattle.table.specs.declared.Part.the-variants.{Nodes, Branches};
-ghost use Rattle.flow.specs.Flow.{slotWritten, pastWrite, arrive, beginning, branchFollowed, branchesFollowed, flowTo, flow, marked, argumentWritten, callWritten, operandWritten, rowWritten, readsUnwritten, unreachable};
+ghost use Rattle.flow.specs.Flow.{slotWritten, pastWrite, arrive, beginning, branchFollowed, branchesFollowed, flowTo, flow, marked};
 ghost use Rattle.flow.specs.Marks.{bits, marksOf, marksFrom, seed};
 use table::Part;
 
 // Marks 0 to 15 are slots, mark 16 is the path itself.
 const MARKS: u32 = 17;
-
-const PATH_MARK: u32 = 16;
 
 // All marks, and the bit past them.
 const ALL_MARKS: u32 = 131071;
@@ -23,7 +20,7 @@ const ALL_MARKS: u32 = 131071;
 const PAST_MARKS: u32 = 131072;
 
 // Whether node n has mark k.
-fn is_marked(marks: &[u32], n: usize, k: u32) -> bool
+pub fn is_marked(marks: &[u32], n: usize, k: u32) -> bool
     ensures { λ r. ⌜ r ≡ marked (marksOf (now (marks .entry))) n k ⌝ }
 {
     if k < MARKS {
@@ -36,11 +33,11 @@ fn is_marked(marks: &[u32], n: usize, k: u32) -> bool
 fn slot_written(table: &[u8], row: usize) -> u32
     ensures { λ r. ⌜ r ≡ slotWritten (tableOf (now (table .entry))) row ⌝ }
 {
-    if table::is_written(table::role_of(table, row, 2)) {
-        return table::operand_of(table, row, 2);
+    if roles::is_written(roles::role_of(table, row, 2)) {
+        return roles::operand_of(table, row, 2);
     }
-    if table::is_written(table::role_of(table, row, 3)) {
-        return table::operand_of(table, row, 3);
+    if roles::is_written(roles::role_of(table, row, 3)) {
+        return roles::operand_of(table, row, 3);
     }
     MARKS
 }
@@ -102,7 +99,7 @@ fn begin_at(table: &[u8], index: &[u32], n: u32, marks: &mut [u32])
     numbers::put_cell(marks, n as usize, seed_of(table, index, n));
 }
 
-// All nodes get theirs; no path begins past the last node, and the numbers there stay 0.
+// All nodes get the marks that they begin with; no path begins past the last node, and the numbers there stay 0.
 fn begin(table: &[u8], index: &[u32], marks: &mut [u32])
     requires { ⌜ Indexed (tableOf (now table)) (now index) ⌝ }
     requires { ⌜ now marks ≡ replicate 192 0 ⌝ }
@@ -172,127 +169,4 @@ pub fn mark_flow(table: &[u8], index: &[u32], marks: &mut [u32])
     for n in 0..count {
         follow_node(table, index, n, marks);
     }
-}
-
-// Argument i of the call in a row, at node n, is surely written.
-fn argument_written(table: &[u8], marks: &[u32], row: usize, n: usize, i: u32) -> bool
-    requires { ⌜ marksOf (now marks) ≡ flow (tableOf (now table)) ⌝ }
-    ensures { λ r. ⌜ r ≡ argumentWritten (tableOf (now (table .entry))) row n i ⌝ }
-{
-    !is_marked(marks, n, table::cell(table, row, 3 + i as usize))
-}
-
-fn arguments_written(table: &[u8], marks: &[u32], row: usize, n: usize, count: u32) -> bool
-    requires { ⌜ marksOf (now marks) ≡ flow (tableOf (now table)) ⌝ }
-    ensures { λ r. ⌜ r ≡ every (argumentWritten (tableOf (now (table .entry))) row n) count ⌝ }
-{
-    for i in 0..count {
-        if !argument_written(table, marks, row, n, i) {
-            return false;
-        }
-    }
-    true
-}
-
-// What node n, which is in a row, reads is surely written: only a call reads, its arguments.
-fn call_written(table: &[u8], marks: &[u32], row: usize, n: usize) -> bool
-    requires { ⌜ marksOf (now marks) ≡ flow (tableOf (now table)) ⌝ }
-    ensures { λ r. ⌜ r ≡ callWritten (tableOf (now (table .entry))) row n ⌝ }
-{
-    if table::cell(table, row, 1) == 2 {
-        let count = table::parameters_of(table, table::cell(table, row, 2));
-        return arguments_written(table, marks, row, n, count);
-    }
-    true
-}
-
-// Operand k of the branch in a row, of node n, is surely written where it is read.
-fn operand_written(table: &[u8], marks: &[u32], row: usize, n: usize, k: u32) -> bool
-    requires { ⌜ marksOf (now marks) ≡ flow (tableOf (now table)) ⌝ }
-    requires { ⌜ k < 5 ⌝ }
-    ensures { λ r. ⌜ r ≡ operandWritten (tableOf (now (table .entry))) row n k ⌝ }
-{
-    if table::is_read(table::role_of(table, row, k)) {
-        return !is_marked(marks, n, table::operand_of(table, row, k));
-    }
-    true
-}
-
-fn operands_written(table: &[u8], marks: &[u32], row: usize, n: usize) -> bool
-    requires { ⌜ marksOf (now marks) ≡ flow (tableOf (now table)) ⌝ }
-    ensures { λ r. ⌜ r ≡ every (operandWritten (tableOf (now (table .entry))) row n) 5 ⌝ }
-{
-    for k in 0..5 {
-        if !operand_written(table, marks, row, n, k) {
-            return false;
-        }
-    }
-    true
-}
-
-// Ground 6: what a row reads is surely written.
-fn row_written(table: &[u8], index: &[u32], marks: &[u32], row: usize) -> bool
-    requires { ⌜ Indexed (tableOf (now table)) (now index) ⌝ }
-    requires { ⌜ marksOf (now marks) ≡ flow (tableOf (now table)) ⌝ }
-    ensures { λ r. ⌜ r ≡ rowWritten (tableOf (now (table .entry))) row ⌝ }
-{
-    let kind = table::cell(table, row, 0);
-    if kind == 5 {
-        return call_written(table, marks, row, table::node_in(table, row));
-    }
-    if kind == 6 {
-        return operands_written(
-            table,
-            marks,
-            row,
-            table::node_at(table, index, row) as usize,
-        );
-    }
-    true
-}
-
-fn reads_unwritten(table: &[u8], index: &[u32], marks: &[u32], row: usize) -> bool
-    requires { ⌜ Indexed (tableOf (now table)) (now index) ⌝ }
-    requires { ⌜ marksOf (now marks) ≡ flow (tableOf (now table)) ⌝ }
-    ensures { λ r. ⌜ r ≡ readsUnwritten (tableOf (now (table .entry))) row ⌝ }
-{
-    !row_written(table, index, marks, row)
-}
-
-// The first of n rows that reads what may be unwritten; n where there is none.
-pub fn first_reads_unwritten(table: &[u8], index: &[u32], marks: &[u32], n: usize) -> usize
-    requires { ⌜ Indexed (tableOf (now table)) (now index) ⌝ }
-    requires { ⌜ marksOf (now marks) ≡ flow (tableOf (now table)) ⌝ }
-    ensures { λ r. ⌜ r ≡ first (readsUnwritten (tableOf (now (table .entry)))) n ⌝ }
-{
-    for row in 0..n {
-        if reads_unwritten(table, index, marks, row) {
-            return row;
-        }
-    }
-    n
-}
-
-// Ground 7: a row is a node that no path leads to.
-fn is_unreachable(table: &[u8], marks: &[u32], row: usize) -> bool
-    requires { ⌜ marksOf (now marks) ≡ flow (tableOf (now table)) ⌝ }
-    ensures { λ r. ⌜ r ≡ unreachable (tableOf (now (table .entry))) row ⌝ }
-{
-    if table::cell(table, row, 0) == 5 {
-        return !is_marked(marks, table::node_in(table, row), PATH_MARK);
-    }
-    false
-}
-
-// The first of n rows that is such a node; n where there is none.
-pub fn first_unreachable(table: &[u8], marks: &[u32], n: usize) -> usize
-    requires { ⌜ marksOf (now marks) ≡ flow (tableOf (now table)) ⌝ }
-    ensures { λ r. ⌜ r ≡ first (unreachable (tableOf (now (table .entry)))) n ⌝ }
-{
-    for row in 0..n {
-        if is_unreachable(table, marks, row) {
-            return row;
-        }
-    }
-    n
 }

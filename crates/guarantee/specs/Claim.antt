@@ -53,7 +53,7 @@ reachedBy table state ks = afterList table (startCall table state .state) ks
 
 -- ---- who moves in a call: document 01, demand 3, where it says when a thread steps and when it is a partner
 
--- those of a step, unless it is refused
+-- the threads that move in a step, which are these unless it is refused
 unfoldable pub unlessRefused : Stepped → List ℕ → List ℕ
 unlessRefused (Stepped.Done n d) who = who
 unlessRefused (Stepped.Refused r) who = []
@@ -69,20 +69,20 @@ metByTake (Taken.Met u v) = u ∷ []
 metByTake Taken.Nobody = []
 metByTake (Taken.Refused r) = []
 
--- those of a run, unless it is refused
+-- the threads that move in a run, which are these unless it is refused
 unfoldable pub inTurns : Ran → List ℕ → List ℕ
 inTurns (Ran.Done n r) who = who
 inTurns (Ran.Refused r) who = []
 
 -- the threads that step or are met in a call. By a step of thread t, `movers` has t and, where its move is a meeting, the thread met, and nobody where the
--- move lacks a row; by a run, `ranMovers` has the same for each turn up to its end
+-- move lacks a row; by a run, `ranMovers` has them for each turn up to its end
 unfoldable pub moving : List ℕ → List ℕ → Call → List ℕ
 moving table state (step t) = unlessRefused (stepCall table state t .answer) (movers t (move (tableOf table) (view state) t))
 moving table state (give p v h) = metByGive (giveCall table state p v .answer)
 moving table state (take p) = metByTake (takeCall table state p .answer)
 moving table state (run n) = inTurns (runCall table state n .answer) (ranMovers (tableOf table) n (view state))
 
--- and in a list of calls
+-- the threads that step or are met in a list of calls
 unfoldable pub movingAll : List ℕ → List ℕ → List Call → List ℕ
 movingAll table state [] = []
 movingAll table state (k ∷ ks) = moving table state k ++ movingAll table (after table state k) ks

@@ -80,7 +80,7 @@ module _ (table : List ℕ) (ok : accepted table ≡ true) (fit : (i : ℕ) → 
         let s = view state in
         List·getD-eq-default (s .threads) [] {n = t} (omega (arith, view-sound table state b .orderly .shaped .all-threads, ltb-false t 64 e))
 
-    -- and the threads that it takes, by their rows, are those that are not enabled
+    -- the threads that a collection takes, by their rows, are those that are not enabled
     pub taken-is : (t : ℕ) → takenBy table state t ≡ takenThread (tableOf table) (view state) t
     unfolding takenBy takenThread
     taken-is t =

@@ -43,7 +43,7 @@ use Rattle.engine_laws.specs.Lists.{step, give, take, run, after, RefusedWith}
 use Rattle.collector.specs.Collect.{collectCall}
 use Rattle.collector.specs.declared.Collected.{Collected}
 use Rattle.collector.specs.declared.Collected.the-variants as Collected
-use Rattle.pithread.specs.Interface.{numbered, loadResult, inNumbers, startResult, stepFields, stepNumbers, stepResult, giveFields, giveNumbers, giveResult, takeFields, takeNumbers, takeResult, runFields, runNumbers, runResult, collectFields, collectNumbers, collectResult}
+use Rattle.interface.specs.Interface.{numbered, loadResult, inNumbers, startResult, stepFields, stepNumbers, stepResult, giveFields, giveNumbers, giveResult, takeFields, takeNumbers, takeResult, runFields, runNumbers, runResult, collectFields, collectNumbers, collectResult}
 use Rattle.guarantee.specs.Claim.{Any, on, collect, afterAny, RefusedBy}
 
 -- ---- loading
@@ -108,7 +108,7 @@ load-table file t e =
     let (v, l) = load-zero-iff file t .0 e in
     table-so file t ∙ ap (λ (o : Load.Outcome). o .table) (sound-loads file t v l)
 
--- and with any other refusal what it had before
+-- where load is answered with any other refusal the buffer has what it had before
 pub load-keeps : (file t : List ℕ) → loadResult file t .answer .refusal ≢ pos 0 → loadResult file t .table ≡ t
 unfolding loadResult numbered loaded Load.refusalNumber
 load-keeps file t n = after-refused (verdict file) file t (λ e. n (rw e))

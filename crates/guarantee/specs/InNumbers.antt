@@ -20,7 +20,7 @@ use Rattle.state.specs.State.{State, maxThreads, view, thread, inUse, isWaiting
 use Rattle.rules_laws.specs.Frames.{elem}
 use Rattle.engine_laws.specs.Movers.{ranMovers}
 use Rattle.engine_laws.specs.Lists.{Call, step, give, take, run}
-use Rattle.pithread.specs.Interface.{startResult, stepResult, giveResult, takeResult, runResult, collectResult}
+use Rattle.interface.specs.Interface.{startResult, stepResult, giveResult, takeResult, runResult, collectResult}
 use Rattle.guarantee.specs.Claim.{Any, on, Counted, Linked}
 use Rattle.guarantee.specs.Exported.{left, refusal}
 
@@ -54,7 +54,7 @@ unfoldable pub named : ℤ → List ℕ
 named (pos u) = u ∷ []
 named (negsuc n) = []
 
--- those of some threads that wait
+-- of some threads those that wait
 unfoldable pub waitingIn : State → List ℕ → List ℕ
 waitingIn s [] = []
 waitingIn s (u ∷ us) = cond (isWaiting (thread s u)) (u ∷ waitingIn s us) (waitingIn s us)

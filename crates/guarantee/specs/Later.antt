@@ -146,7 +146,7 @@ module _ (table : List ℕ) (ok : accepted table ≡ true) (fit : (i : ℕ) → 
     call-rests (take p) = take-rests p
     call-rests (run n) = run-rests n
 
-  -- so does a list of calls
+  -- a list of calls leaves the set so
   pub list-rests : (state : List ℕ) → SoundBuffer table state → Sealed tb q first (view state) → (ks : List Call)
       → Rests table q first (afterAll table state ks) (movingAll table state ks)
   unfolding afterAll movingAll

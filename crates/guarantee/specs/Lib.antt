@@ -2,7 +2,6 @@ pub mod Claim
 pub mod ClaimKept
 pub mod Later
 pub mod Proof
-pub mod ClaimInstance
 pub mod Exported
 pub mod InNumbers
 pub mod ReasonsInLists

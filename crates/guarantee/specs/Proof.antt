@@ -7,6 +7,7 @@ use lib.ListN.{length, getD}
 use Rattle.table.specs.Table.{Table, tableOf}
 use Rattle.loader.specs.Load.{loaded, accepted}
 use Rattle.loader.specs.declared.Loaded.the-variants.{Done}
+use Rattle.loader_laws.specs.Yields.{loaded-small, loaded-accepted}
 use Rattle.state.specs.State.{State, stateLength, view}
 use Rattle.rules.specs.Calls.{startCall}
 use Rattle.rules_laws.specs.Soundness.{Sound}
@@ -14,7 +15,6 @@ use Rattle.rules_laws.specs.Soundness.Counted.{count-is, used-exactly}
 use Rattle.engine_laws.specs.Buffers.{SoundBuffer, view-sound}
 use Rattle.engine_laws.specs.SoundCalls.{start-done, start-sound}
 use Rattle.engine_laws.specs.Lists.{Call}
-use Rattle.engine_laws.specs.ListInstance.{loaded-small, loaded-accepted}
 use Rattle.collector.specs.Collect.{takenCount, collectCall}
 use Rattle.collector_laws.specs.Linked.{waiting-linked}
 use Rattle.collector_laws.specs.Out.{takenThread, taken-sealed}
@@ -56,7 +56,7 @@ module _ (table : List ℕ) (ok : accepted table ≡ true) (fit : (i : ℕ) → 
     pub reached-sound : (ks : List Any) → SoundBuffer table (reachedBy table state ks)
     reached-sound ks = list-sound table ok fit (startCall table state .state) started ks
 
-    -- so a collection that follows the list is never refused
+    -- a collection that follows the list is never refused
     pub collection-made : (ks : List Any)
         → collectCall table (reachedBy table state ks) .answer ≡ Collected.Done (takenCount (tableOf table) (view (reachedBy table state ks)))
     collection-made ks = collect-done table ok (reachedBy table state ks) (reached-sound ks)

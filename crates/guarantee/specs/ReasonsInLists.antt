@@ -28,8 +28,8 @@ use Rattle.rules_laws.specs.Codes.{clash}
 use Rattle.engine.specs.Numbers.{refusalNumber, reasonNumber, heldUpNumber}
 use Rattle.engine_laws.specs.Refusals.{step-thread-row-iff, step-channel-row-iff}
 use Rattle.engine_laws.specs.Reasons.{turnPast, due, Idle, dueAnswer, afterTurns, leftBy, RunEnds, run-ends}
-use Rattle.pithread.specs.Interface.{inNumbers, stepFields, stepNumbers, stepResult, runFields, runNumbers, runResult}
-use Rattle.pithread.specs.declared.RunAnswer.{RunAnswer}
+use Rattle.interface.specs.Interface.{inNumbers, stepFields, stepNumbers, stepResult, runFields, runNumbers, runResult}
+use Rattle.interface.specs.declared.RunAnswer.{RunAnswer}
 use Rattle.guarantee.specs.Exported.{ground-signed, not-zero, step-number}
 
 -- the first number of the answer to a step of the first ready thread from the turn on

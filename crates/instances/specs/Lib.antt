@@ -1,6 +1,12 @@
+pub mod Parting
+pub mod PaperCollector
 pub mod OfAgents
 pub mod OfFiles
 pub mod OfMoves
 pub mod OfCollection
 pub mod OfBuffers
+pub mod OfReasons
+pub mod OfGuarantee
+pub mod OfTurns
 pub mod OfRefinement
+pub mod OfListing

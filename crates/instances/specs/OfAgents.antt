@@ -11,7 +11,7 @@ use lib.ListN.{length}
 use borrow.Author.Tests.{eqb-true}
 use Rattle.numbers.specs.Count.{bit, count}
 use Rattle.numbers.specs.Search.Laws.{contra}
-use Rattle.collector.specs.Enabled.Laws.{or-elim}
+use Rattle.marking.specs.Enabled.Laws.{or-elim}
 use Rattle.published.specs.Syntax.{Process, end, choice, nothing, branch, wait, always, output, andWait, waiting, someWait, onlyWaits}
 use Rattle.published.specs.Agents.{_∈_, channel, number, Env, holds, Commitment, gives, takes, channelOf, Thread, thread, Channels, adding, Agent, agent, refers, mentions, knows, globalrc, Commits}
 use Rattle.published.specs.Rules.{Rearranged, Acts, step, new, spawn, next, call, inert, send, out, recv, inn, more, Reclaims, reclaim, Sticks, stuck, Reduces, par, acts, reclaims, sticks, exchange, stays, goes, Reaches, Nothing}
@@ -78,7 +78,7 @@ pub all-wait-on : (def : ℕ → Process) {S T : Agent} → Reaches def Nothing 
 all-wait-on def stays h = h
 all-wait-on def (goes r p) h = all-wait-on def p (one-waits def r h)
 
--- so the lone thread never comes to its end: the two agents are a pair that no series of reductions joins
+-- the lone thread never comes to its end: the two agents are a pair that no series of reductions joins
 pub not-reached : (def : ℕ → Process) (Δ Δ′ : Channels) → ¬ Reaches def Nothing (agent Δ (lone ∷ [])) (agent Δ′ (ended ∷ []))
 unfolding waiting someWait onlyWaits
 not-reached def Δ Δ′ p = contra (all-wait-on def p (λ t i. ⊎-elim (λ q. rw q refl) (λ z. absurd z) i) ended (inl refl)) refl
@@ -90,7 +90,7 @@ unfolding adding
 gone-unknown (reclaim {Δ} {A} ĉ f e) c y n =
     ⊎-elim (λ q. rw (eqb-true c ĉ q) e) (λ q. contra q n) (or-elim (eqb c ĉ) (Δ c) y)
 
--- so channel 0 stays while the lone thread is there
+-- channel 0 stays while the lone thread is there
 pub not-reclaimed : (Δ Δ′ : Channels) → Δ 0 ≡ true → Δ′ 0 ≡ false → ¬ Reclaims (agent Δ (lone ∷ [])) (agent Δ′ (lone ∷ []))
 unfolding globalrc count bit knows mentions refers
 not-reclaimed Δ Δ′ y n r = absurd (let z : _≡_ {A = ℕ} 1 0 = gone-unknown r 0 y n in omega arith)

@@ -15,7 +15,7 @@ use Rattle.loader_laws.specs.PrintedFile.{filledUp}
 use Rattle.loader_laws.specs.Yields as Yields
 use Rattle.loader_laws.specs.Yields.{length-bytes, bytes-hold}
 use Rattle.state.specs.State.{State, stateLength, view, stateBytes}
-use Rattle.rules.specs.Start.{freeRow, freeChannelRow, started}
+use Rattle.rules.specs.Start.{started}
 use Rattle.rules.specs.Sound.{sound}
 use Rattle.rules.specs.Offers.{partnerOf}
 use Rattle.rules.specs.Calls.{admission, canStep, stepCall, bench, givenTo, giveOn, giveCall, takeCall, courseOf}
@@ -33,17 +33,15 @@ use Rattle.engine_laws.specs.Entry.{Admitted, length-iff, table-iff, state-iff,
 use Rattle.engine_laws.specs.Bench.{NobodyOffers}
 use Rattle.engine_laws.specs.Refusals.{step-thread-iff, give-port-iff, take-port-iff, give-nobody-iff}
 use Rattle.engine_laws.specs.Buffers.{bytes-sound}
-use Rattle.collector_laws.specs.Computing.{running}
-use Rattle.examples.specs.Files.{inOrder, judging}
+use Rattle.examples.specs.Builders.{stateWith}
 use Rattle.examples.specs.Tables.{portReceiver, endOnly}
-use Rattle.instances.specs.OfFiles as Files
-use Rattle.instances.specs.OfFiles.{bytes-are, bytes-accepted, run-sound}
-use Rattle.instances.specs.OfCollection.{testing}
+use Rattle.examples.specs.Computing.{judging, running, testing}
+use Rattle.examples.specs.Files.{tableFor, table-holds, table-long, table-accepted, run-sound, receiver-in-order, end-in-order}
 
 -- ---- a state of zeros: what a bench has that forgets to start
 
 abbrev pub blank : State
-blank = record { marks = 0 ∷ 0 ∷ 0 ∷ []; threads = replicate 64 freeRow; channels = replicate 128 freeChannelRow }
+blank = stateWith (0 ∷ 0 ∷ 0 ∷ []) [] []
 
 pub blank-bytes : stateBytes blank ≡ replicate stateLength 0
 unfolding stateBytes encode bytesOf joined
@@ -79,19 +77,11 @@ blank-shaped = record {
 
 -- ---- two files: one without ports, of one node, an end; and one whose only thread receives on a port
 
-ends-in-order : inOrder endOnly ≡ true
-unfolding judging
-ends-in-order = refl
-
-pub receives-in-order : inOrder portReceiver ≡ true
-unfolding judging
-receives-in-order = refl
-
 abbrev pub ends : List ℕ
-ends = tableBytes (filledUp endOnly)
+ends = tableFor endOnly
 
 abbrev pub receives : List ℕ
-receives = tableBytes (filledUp portReceiver)
+receives = tableFor portReceiver
 
 -- ---- ground 8: buffers without a byte
 
@@ -125,9 +115,9 @@ zeros-unsound = refl
 pub zeros-refused : admission receives (stateBytes blank) ≡ Admission.Refused Ground.State
 zeros-refused =
     state-iff receives (stateBytes blank) .1 (
-      (Files.bytes-long portReceiver receives-in-order, bytes-long blank blank-shaped),
-      bytes-accepted portReceiver receives-in-order,
-      rw (bytes-are portReceiver receives-in-order, view-bytes blank blank-shaped) zeros-unsound,
+      (table-long portReceiver receiver-in-order, bytes-long blank blank-shaped),
+      table-accepted portReceiver receiver-in-order,
+      rw (table-holds portReceiver receiver-in-order, view-bytes blank blank-shaped) zeros-unsound,
     )
 
 zeros-sound : sound (filledUp endOnly) blank ≡ true
@@ -137,9 +127,9 @@ zeros-sound = refl
 pub zeros-admitted : Admitted ends (stateBytes blank)
 zeros-admitted =
     admitted-iff ends (stateBytes blank) .1 (
-      (Files.bytes-long endOnly ends-in-order, bytes-long blank blank-shaped),
-      bytes-accepted endOnly ends-in-order,
-      rw (bytes-are endOnly ends-in-order, view-bytes blank blank-shaped) zeros-sound,
+      (table-long endOnly end-in-order, bytes-long blank blank-shaped),
+      table-accepted endOnly end-in-order,
+      rw (table-holds endOnly end-in-order, view-bytes blank blank-shaped) zeros-sound,
     )
 
 -- ---- ground 11: thread 0 of it is free, and so not ready; ground 12: there is no port
@@ -149,7 +139,7 @@ unfolding canStep
 none-to-step = step-thread-iff ends (stateBytes blank) 0 .1 (zeros-admitted, rw (view-bytes blank blank-shaped) refl)
 
 pub no-port : (giveCall ends (stateBytes blank) 0 7 .answer ≡ Given.Refused Ground.Port) × (takeCall ends (stateBytes blank) 0 .answer ≡ Taken.Refused Ground.Port)
-no-port = let few : ports (tableOf ends) ≤ 0 = rw (bytes-are endOnly ends-in-order) (omega arith) in
+no-port = let few : ports (tableOf ends) ≤ 0 = rw (table-holds endOnly end-in-order) (omega arith) in
     (give-port-iff ends (stateBytes blank) 0 7 .1 (zeros-admitted, few), take-port-iff ends (stateBytes blank) 0 .1 (zeros-admitted, few))
 
 -- ---- nobody: at the start no thread waits at the port; after a step one does, and a give meets it
@@ -160,12 +150,12 @@ begun n = courseOf (filledUp portReceiver) n (started (filledUp portReceiver)) .
 module _ (n : ℕ) where
   begun-admitted : Admitted receives (stateBytes (begun n))
   begun-admitted =
-      let ok = run-sound portReceiver receives-in-order n in
-      let b = bytes-sound receives (begun n) (rw (bytes-are portReceiver receives-in-order) ok) in
-      admitted-iff receives (stateBytes (begun n)) .1 ((Files.bytes-long portReceiver receives-in-order, b .long), bytes-accepted portReceiver receives-in-order, b .tested)
+      let ok = run-sound portReceiver receiver-in-order n in
+      let b = bytes-sound receives (begun n) (rw (table-holds portReceiver receiver-in-order) ok) in
+      admitted-iff receives (stateBytes (begun n)) .1 ((table-long portReceiver receiver-in-order, b .long), table-accepted portReceiver receiver-in-order, b .tested)
 
   begun-view : view (stateBytes (begun n)) ≡ begun n
-  begun-view = view-bytes (begun n) (run-sound portReceiver receives-in-order n .orderly .shaped)
+  begun-view = view-bytes (begun n) (run-sound portReceiver receiver-in-order n .orderly .shaped)
 
 none-waits : partnerOf (filledUp portReceiver) (begun 0) bench In 0 ≡ Nobody
 unfolding running
@@ -177,12 +167,12 @@ one-waits = refl
 
 pub nobody-there : giveCall receives (stateBytes (begun 0)) 0 7 .answer ≡ Given.Nobody
 unfolding giveCall giveOn givenTo
-nobody-there = rw (call-admitted Given.Refused receives (stateBytes (begun 0)) _ (begun-admitted 0), bytes-are portReceiver receives-in-order, begun-view 0, none-waits)
+nobody-there = rw (call-admitted Given.Refused receives (stateBytes (begun 0)) _ (begun-admitted 0), table-holds portReceiver receiver-in-order, begun-view 0, none-waits)
 
 pub somebody-there : giveCall receives (stateBytes (begun 1)) 0 7 .answer ≡ Given.Met 0
 unfolding giveCall giveOn givenTo
-somebody-there = rw (call-admitted Given.Refused receives (stateBytes (begun 1)) _ (begun-admitted 1), bytes-are portReceiver receives-in-order, begun-view 1, one-waits)
+somebody-there = rw (call-admitted Given.Refused receives (stateBytes (begun 1)) _ (begun-admitted 1), table-holds portReceiver receiver-in-order, begun-view 1, one-waits)
 
--- so, by the law, none of all 64 threads offers to receive there
+-- by the law none of all 64 threads offers to receive there
 pub nobody-offers : NobodyOffers (tableOf receives) (view (stateBytes (begun 0))) In 0
 nobody-offers = give-nobody-iff receives (stateBytes (begun 0)) 0 7 .0 nobody-there .2

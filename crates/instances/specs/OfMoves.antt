@@ -1,18 +1,18 @@
--- Instances of the theorems on moves (`crates/rules_laws`): a meeting that changes another row, a channel that is learnt, rows that are lacking, and states
--- that are sound and that are not. Assumes nothing.
+-- Instances of the theorems on moves (`crates/rules_laws`): a meeting that changes another row, a channel that is learnt, and rows that are lacking. Assumes
+-- nothing.
 use Prim.Native.Nat.{ℕ}
 use native.Mathlib.Omega.{arith}
 use mathlib.Core.Path.{_≡_, refl, sym, _∙_}
 use mathlib.Core.Logic.{inl, inr, ⊎-elim}
 use mathlib.Core.Bool.{true, false}
-use mathlib.Core.List.{List, [], _∷_}
-use lib.ListN.{set, replicate}
+use mathlib.Core.List.{[], _∷_}
+use lib.ListN.{replicate}
 use Rattle.numbers.specs.Search.Laws.{contra}
 use Rattle.table.specs.Table.{Table}
 use Rattle.loader_laws.specs.PrintedFile.{filledUp}
 use Rattle.state.specs.State.{State, thread, isReady, isWaiting, typeIn}
 use Rattle.rules.specs.Holding.{holds}
-use Rattle.rules.specs.Start.{freeRow, freeChannelRow, started}
+use Rattle.rules.specs.Start.{started}
 use Rattle.rules.specs.Moves.{move, perform}
 use Rattle.rules.specs.Calls.{courseOf}
 use Rattle.rules.specs.declared.Act.the-variants.{New, Spawn}
@@ -20,18 +20,20 @@ use Rattle.rules.specs.declared.Move.the-variants.{Creates, Spawns, Meets, Lack
 use Rattle.rules_laws.specs.Frames.{elem, elem-nil, elem-cases, movers, waiting-stays}
 use Rattle.rules_laws.specs.Learnt.{Knew, learnt}
 use Rattle.engine_laws.specs.Lacking.{Takes, NoThreadRow, NoChannelRow, lacks-thread-iff, lacks-channel-iff}
-use Rattle.collector_laws.specs.Computing.{running}
-use Rattle.collector_laws.specs.PaperCollector.{chain, chained}
-use Rattle.instances.specs.OfFiles.{teaching, spawner, maker, in-order, rows-granted, run-sound}
+use Rattle.examples.specs.Builders.{readyAt, channelWith, stateWith}
+use Rattle.examples.specs.Tables.{chain, spawner, maker, teaching}
+use Rattle.examples.specs.Computing.{running}
+use Rattle.examples.specs.Files.{rows-granted, run-sound, teaching-in-order}
+use Rattle.instances.specs.PaperCollector.{chained}
 
 -- ---- frames: in document 01's third case thread 0 sends to thread 2, which waits, and thread 1 waits on
 
--- the move changes the row of thread 2, ...
+-- the move changes the row of thread 2
 pub partner-goes-on : (isWaiting (thread chained 2) ≡ true) × (isReady (thread (perform chain chained 0 (move chain chained 0)) 2) ≡ true)
 unfolding running chained
 partner-goes-on = (refl, refl)
 
--- ... and leaves that of thread 1, by the law
+-- by the law it leaves the row of thread 1
 pub third-stays : thread (perform chain chained 0 (move chain chained 0)) 1 ≡ thread chained 1
 unfolding running chained movers elem
 third-stays = waiting-stays chain chained 0 1 refl refl
@@ -63,9 +65,9 @@ taught-ready = refl
 pub taught-by : Knew tb taught (0 ∷ 1 ∷ []) 1 1
 unfolding taught movers
 taught-by = rw taught-move at
-    (learnt tb (rows-granted teaching (in-order .0)) taught (run-sound teaching (in-order .0) 4) 0 (omega arith) taught-ready 1 1 (child-learns .1))
+    (learnt tb (rows-granted teaching teaching-in-order) taught (run-sound teaching teaching-in-order 4) 0 (omega arith) taught-ready 1 1 (child-learns .1))
 
--- and it was not the child itself
+-- it was not the child itself that knew the channel
 pub not-by-itself : ¬ Knew tb taught (1 ∷ []) 1 1
 not-by-itself (inl e) = let z : _≡_ {A = ℕ} 1 0 = sym (child-learns .2) ∙ e in omega arith
 not-by-itself (inr (w, k, h)) =
@@ -75,48 +77,33 @@ not-by-itself (inr (w, k, h)) =
 -- ---- grounds 13 and 14: with 63 threads a spawn goes ahead, with 64 it lacks a row; with 127 channels a new goes ahead, with 128 it lacks a row, even where
 -- the slot that it writes is the last to hold one of them
 
--- threads at node 0, and no channel
-abbrev crowd : List (List ℕ) → State
-crowd ths = record { marks = 0 ∷ 0 ∷ 0 ∷ []; threads = ths; channels = replicate 128 freeChannelRow }
+-- so many threads at node 0, and no channel
+abbrev pub crowd : ℕ → State
+crowd n = stateWith (0 ∷ 0 ∷ 0 ∷ []) (replicate n (readyAt 0 [])) []
 
-abbrev atFirst : List ℕ
-atFirst = 1 ∷ 0 ∷ replicate 16 0
-
-abbrev pub full : State
-full = crowd (replicate 64 atFirst)
-
-abbrev pub nearlyFull : State
-nearlyFull = crowd (set (replicate 64 atFirst) 63 freeRow)
-
-pub spawn-lacks : move spawner full 0 ≡ LacksThread
+pub spawn-lacks : move spawner (crowd 64) 0 ≡ LacksThread
 unfolding running
 spawn-lacks = refl
 
-pub spawn-goes : move spawner nearlyFull 0 ≡ Spawns 0 63
+pub spawn-goes : move spawner (crowd 63) 0 ≡ Spawns 0 63
 unfolding running
 spawn-goes = refl
 
 -- so, by the law, the branch is a spawn and every row is in use
-pub full-says : Takes spawner full 0 Spawn × NoThreadRow full
-full-says = lacks-thread-iff spawner full 0 .0 spawn-lacks
+pub full-says : Takes spawner (crowd 64) 0 Spawn × NoThreadRow (crowd 64)
+full-says = lacks-thread-iff spawner (crowd 64) 0 .0 spawn-lacks
 
--- thread 0 at node 1, which alone holds channel 5, and these channel rows
-abbrev holder : List (List ℕ) → State
-holder chs = record { marks = 0 ∷ 0 ∷ 0 ∷ []; threads = (1 ∷ 1 ∷ 5 ∷ replicate 15 0) ∷ replicate 63 freeRow; channels = chs }
+-- thread 0 at node 1, a new in the place of channel 5, which it alone holds; and so many channels
+abbrev pub holder : ℕ → State
+holder n = stateWith (0 ∷ 0 ∷ 0 ∷ []) (readyAt 1 (5 ∷ []) ∷ []) (replicate n (channelWith 1 1 0))
 
-abbrev pub allUsed : State
-allUsed = holder (replicate 128 (1 ∷ 1 ∷ 0 ∷ []))
-
-abbrev pub oneFree : State
-oneFree = holder (set (replicate 128 (1 ∷ 1 ∷ 0 ∷ [])) 127 freeChannelRow)
-
-pub new-lacks : move maker allUsed 0 ≡ LacksChannel
+pub new-lacks : move maker (holder 128) 0 ≡ LacksChannel
 unfolding running
 new-lacks = refl
 
-pub new-goes : move maker oneFree 0 ≡ Creates 0 127
+pub new-goes : move maker (holder 127) 0 ≡ Creates 0 127
 unfolding running
 new-goes = refl
 
-pub all-used-says : Takes maker allUsed 0 New × NoChannelRow allUsed
-all-used-says = lacks-channel-iff maker allUsed 0 .0 new-lacks
+pub all-used-says : Takes maker (holder 128) 0 New × NoChannelRow (holder 128)
+all-used-says = lacks-channel-iff maker (holder 128) 0 .0 new-lacks

@@ -1,30 +1,26 @@
 -- Instances of the theorems that tie states to 002's agents (`crates/published_laws`): threads that are a bench and that are not, an agent that no series of
 -- reductions reaches from the start of a file, whatever the bench does, and a turn that ends otherwise than the engine's step. Assumes nothing.
-use Prim.Native.Nat.{ℕ, suc, _<_}
+use Prim.Native.Nat.{ℕ, suc}
 use native.Mathlib.Omega.{arith}
 use mathlib.Core.Path.{_≡_, refl, _∙_}
 use mathlib.Core.Logic.{inl, inr}
 use mathlib.Core.Bool.{true, false}
 use mathlib.Core.List.{List, [], _∷_}
 use mathlib.Core.Option.{Option, none, some}
-use lib.ListN.{getD}
 use Rattle.numbers.specs.Search.Laws.{contra}
 use Rattle.table.specs.Table.{Table, tableOf}
-use Rattle.loader.specs.Load.{tableBytes, accepted}
 use Rattle.loader_laws.specs.PrintedFile.{filledUp}
 use Rattle.state.specs.State.{view, stateBytes, thread, inUse, isReady}
 use Rattle.rules.specs.Start.{entered, started}
 use Rattle.rules.specs.Moves.{move, written}
 use Rattle.rules_laws.specs.Started.{started-sound}
-use Rattle.rules_laws.specs.Shape.Laws.{view-bytes}
-use Rattle.engine_laws.specs.Buffers.{SoundBuffer, bytes-sound}
 use Rattle.engine_laws.specs.Lists.{give}
 use Rattle.collector_laws.specs.Out.{takenThread}
-use Rattle.collector_laws.specs.Computing.{running, collecting}
-use Rattle.examples.specs.Tables.{portReceiver}
+use Rattle.examples.specs.Tables.{listing, portReceiver, parting}
+use Rattle.examples.specs.Computing.{running, collecting}
+use Rattle.examples.specs.Files.{table-holds, rows-granted, listing-in-order, receiver-in-order}
 use Rattle.guarantee.specs.Claim.{on, takenBy}
 use Rattle.guarantee.specs.ClaimKept.{taken-is}
-use Rattle.guarantee.specs.ClaimInstance.{parting}
 use Rattle.published.specs.Syntax.{Process, end, choice, nothing, branch, always, output, assign, constant, waiting}
 use Rattle.published.specs.Agents as Agents
 use Rattle.published.specs.Agents.{_∈_, Value, channel, bind, adding, refers, mentions, knows, Thread, Agent}
@@ -43,9 +39,11 @@ use Rattle.published_laws.specs.Stepping.{Allowed}
 use Rattle.published_laws.specs.Conversely.{turn-conversely}
 use Rattle.published_laws.specs.Taking.{taken-iff-disabled}
 use Rattle.published_laws.specs.Computation.{giving, benchCall}
-use Rattle.instances.specs.OfFiles.{bytes-small, bytes-are, bytes-accepted, rows-granted, rows-readable}
-use Rattle.instances.specs.OfCollection.{parted, parting-in-order, parted-sound, listed, listed-in-order, facing}
-use Rattle.instances.specs.OfBuffers.{receives, receives-in-order, begun, nobody-there, somebody-there}
+use Rattle.instances.specs.Parting.{table, accepts, small, held-table, stateAfter, bytesAfter, bytes-sound, bytes-view}
+use Rattle.instances.specs.OfFiles.{rows-readable}
+use Rattle.instances.specs.OfCollection.{bothWait}
+use Rattle.instances.specs.OfBuffers.{receives, begun, nobody-there, somebody-there}
+use Rattle.instances.specs.OfTurns as Turns
 
 -- ---- the bench of a file with one port: a thread that knows the port; one that knows another channel is none
 
@@ -61,10 +59,10 @@ no-bench b = contra {b = knows 9 (Agents.thread [] (some (channel 0) ∷ some (c
 -- listing, by 002's rules and document 01's own, from whatever process of the bench to whatever
 
 abbrev tb : Table
-tb = filledUp listed
+tb = filledUp listing
 
 abbrev benchAt : Option Value → Process → Thread
-benchAt o E = Agents.thread [] (portsAnd (filledUp listed) o) E
+benchAt o E = Agents.thread [] (portsAnd (filledUp listing) o) E
 
 start-bare : (o : Option Value) (E : Process) → Bare (agentOf tb (benchAt o E) (started tb) .threads)
 unfolding agentOf
@@ -76,19 +74,19 @@ start-bare o E x (inr i) = last-bare x (rw (started-agent tb) at i)
     last-bare x (inr z) = absurd z
 
 pub facing-unreached : (o o′ : Option Value) (E E′ : Process)
-    → ¬ Reaches (bodyOf (filledUp listed)) (OurRules (filledUp listed)) (agentOf (filledUp listed) (benchAt o E) (started (filledUp listed)))
-    (agentOf (filledUp listed) (benchAt o′ E′) (facing 2 2))
+    → ¬ Reaches (bodyOf (filledUp listing)) (OurRules (filledUp listing)) (agentOf (filledUp listing) (benchAt o E) (started (filledUp listing)))
+    (agentOf (filledUp listing) (benchAt o′ E′) bothWait)
 unfolding running agentOf threadsOf threadOf waitingThread commitmentsFrom committed
 facing-unreached o o′ E E′ p =
-    our-proposition-2 (bodyOf tb) (forNumbers tb) (agentOf tb (benchAt o E) (started tb)) (agentOf tb (benchAt o′ E′) (facing 2 2)) (start-bare o E) p
+    our-proposition-2 (bodyOf tb) (forNumbers tb) (agentOf tb (benchAt o E) (started tb)) (agentOf tb (benchAt o′ E′) bothWait) (start-bare o E) p
     1 2 (omega arith) (omega arith) (λ q. omega arith) 0 1 1 _ _ (inl refl) (inl refl)
 
--- ... and what the bench does is told by the calls: where a give of 7 on port 0 meets a thread it sends 7 there, and where it meets nobody it does nothing
+-- what the bench does is told by the calls: where a give of 7 on port 0 meets a thread it sends 7 there, and where it meets nobody it does nothing
 
 pub bench-sends : benchCall receives (stateBytes (begun 1)) (on (give 0 7 (omega arith))) end
     ≡ choice (branch always (assign 1 (constant 7)) (choice (branch always (output 0 1) end nothing)) nothing)
 unfolding benchCall giving
-bench-sends = rw (somebody-there, bytes-are portReceiver receives-in-order)
+bench-sends = rw (somebody-there, table-holds portReceiver receiver-in-order)
 
 pub bench-rests : benchCall receives (stateBytes (begun 0)) (on (give 0 7 (omega arith))) end ≡ end
 unfolding benchCall giving
@@ -105,8 +103,8 @@ idle = benchAt none end
 
 abbrev pub named : ℕ → Agent
 named ĉ =
-    Agents.agent (adding (channelsOf (started (filledUp listed))) ĉ)
-    (Agents.thread [] (bind (threadOf (filledUp listed) (thread (started (filledUp listed)) 0) .env) 0 (channel ĉ)) (processAt (filledUp listed) 1) ∷ benchAt none end ∷ [])
+    Agents.agent (adding (channelsOf (started (filledUp listing))) ĉ)
+    (Agents.thread [] (bind (threadOf (filledUp listing) (thread (started (filledUp listing)) 0) .env) 0 (channel ĉ)) (processAt (filledUp listing) 1) ∷ benchAt none end ∷ [])
 
 named-whole : WholeTurn (bodyOf tb) (agentOf tb idle (started tb)) first (named 5)
 unfolding running agentOf threadsOf channelsOf threadOf readyThread processAt unrolled nodeProcess sumBefore guardOf prefixOf Agents.holds commits
@@ -130,60 +128,39 @@ first-allowed : Allowed (move tb (started tb) 0)
 unfolding running Allowed
 first-allowed = tt
 
-pub any-name : UpTo (bodyOf (filledUp listed)) (forNumbers (filledUp listed)) (agentOf (filledUp listed) (benchAt none end) (started (filledUp listed)))
-    (threadOf (filledUp listed) (thread (started (filledUp listed)) 0)) (named 5)
-    (agentOf (filledUp listed) (benchAt none end) (written (filledUp listed) (started (filledUp listed)) 0 (move (filledUp listed) (started (filledUp listed)) 0)))
+pub any-name : UpTo (bodyOf (filledUp listing)) (forNumbers (filledUp listing)) (agentOf (filledUp listing) (benchAt none end) (started (filledUp listing)))
+    (threadOf (filledUp listing) (thread (started (filledUp listing)) 0)) (named 5)
+    (agentOf (filledUp listing) (benchAt none end) (written (filledUp listing) (started (filledUp listing)) 0 (move (filledUp listing) (started (filledUp listing)) 0)))
 any-name =
-    turn-conversely tb (rows-granted listed listed-in-order) (rows-readable listed listed-in-order) (started tb)
-    (started-sound tb (rows-granted listed listed-in-order)) 0 (omega arith) first-ready idle idle-bench first-allowed (named 5) named-whole
+    turn-conversely tb (rows-granted listing listing-in-order) (rows-readable listing listing-in-order) (started tb)
+    (started-sound tb (rows-granted listing listing-in-order)) 0 (omega arith) first-ready idle idle-bench first-allowed (named 5) named-whole
 
--- ---- Definition 1, read off the bytes: of the two threads of `parted` 002 calls the one disabled that a collection takes, and not the other
-
-abbrev pub partingTable : List ℕ
-partingTable = tableBytes (filledUp parting)
-
-abbrev partingBench : Thread
-partingBench = Agents.thread [] (portsAnd (tableOf partingTable) none) end
-
-bench-there : Bench (tableOf partingTable) partingBench
-unfolding refers waiting
-bench-there = bench-is (tableOf partingTable) none (λ c. refl) end refl
-
-ok : accepted partingTable ≡ true
-ok = bytes-accepted parting parting-in-order
-
-fit : (i : ℕ) → getD partingTable i 0 < 256
-fit = bytes-small parting parting-in-order
-
-held : SoundBuffer partingTable (stateBytes parted)
-held = bytes-sound partingTable parted (rw (bytes-are parting parting-in-order) parted-sound)
-
-parted-view : view (stateBytes parted) ≡ parted
-parted-view = view-bytes parted (parted-sound .orderly .shaped)
+-- ---- Definition 1, read off the bytes: of the two threads of the file `parting` after five steps 002 calls the one disabled that a collection takes, and not
+-- the other
 
 -- both threads are in use, and the collection takes thread 1 and not thread 0
-uses : (inUse (thread parted 0) ≡ true)
-    × (inUse (thread parted 1) ≡ true)
-    × (takenThread (filledUp parting) parted 0 ≡ false)
-    × (takenThread (filledUp parting) parted 1 ≡ true)
-unfolding collecting parted takenThread
+uses : (inUse (thread (stateAfter 5) 0) ≡ true)
+    × (inUse (thread (stateAfter 5) 1) ≡ true)
+    × (takenThread (filledUp parting) (stateAfter 5) 0 ≡ false)
+    × (takenThread (filledUp parting) (stateAfter 5) 1 ≡ true)
+unfolding collecting stateAfter takenThread
 uses = (refl, refl, refl, refl)
 
-taken-as : (t : ℕ) → takenBy partingTable (stateBytes parted) t ≡ takenThread (filledUp parting) parted t
-taken-as t = taken-is partingTable ok fit (stateBytes parted) held t ∙ rw (bytes-are parting parting-in-order, parted-view)
+taken-as : (t : ℕ) → takenBy table (bytesAfter 5) t ≡ takenThread (filledUp parting) (stateAfter 5) t
+taken-as t = taken-is table accepts small (bytesAfter 5) (bytes-sound 5) t ∙ rw (held-table, bytes-view 5)
 
 -- the agent that the bytes stand for, and the places in it
 abbrev partingThreads : List Thread
-partingThreads = agentOf (tableOf partingTable) partingBench (view (stateBytes parted)) .threads
+partingThreads = agentOf (tableOf table) Turns.idle (view (bytesAfter 5)) .threads
 
 abbrev placeOf : ℕ → ℕ
-placeOf t = suc (rank (view (stateBytes parted) .threads) t)
+placeOf t = suc (rank (view (bytesAfter 5) .threads) t)
 
 pub child-disabled : Disabled partingThreads (placeOf 1)
 child-disabled =
-    taken-iff-disabled partingTable ok fit (stateBytes parted) held partingBench bench-there 1 (rw parted-view (uses .1)) .0 (taken-as 1 ∙ uses .3)
+    taken-iff-disabled table accepts small (bytesAfter 5) (bytes-sound 5) Turns.idle Turns.idle-bench 1 (rw (bytes-view 5) (uses .1)) .0 (taken-as 1 ∙ uses .3)
 
 pub parent-not-disabled : ¬ Disabled partingThreads (placeOf 0)
 parent-not-disabled d =
-    let y = taken-iff-disabled partingTable ok fit (stateBytes parted) held partingBench bench-there 0 (rw parted-view (uses .0)) .1 d in
+    let y = taken-iff-disabled table accepts small (bytesAfter 5) (bytes-sound 5) Turns.idle Turns.idle-bench 0 (rw (bytes-view 5) (uses .0)) .1 d in
     contra y (taken-as 0 ∙ uses .2)

@@ -7,6 +7,7 @@ use libc::STDOUT_FILENO;
 // One byte more than a file may have: so much is read at most, enough to see that a file is too long.
 const MOST: usize = 63146;
 
+// How many bytes of input came, or that reading failed.
 enum Input {
     Came(usize),
     Failed,
@@ -31,6 +32,7 @@ fn read_input(buffer: &mut [u8]) -> Input
     Input::Came(n)
 }
 
+// Prints the listing of a file.
 fn print_listing(file: &[u8]) {
     let mut out = [0u8; listing_text::LONGEST];
     let n = listing_text::list(file, &mut out);

@@ -1,56 +1,23 @@
 -- The listing of a procedure file: from the bytes of the file to the bytes that are printed.
-use Prim.Native.Nat.{ℕ, suc, _%_}
-use Prim.Native.Char.{code}
-use Prim.Native.String.{String, [] as ends, _∷_ as _then_}
-use mathlib.Core.Bool.{not, cond}
-use mathlib.Core.List.{List, [], _∷_, _++_, map}
+use Prim.Native.Nat.{ℕ, suc}
+use mathlib.Core.Bool.{cond}
+use mathlib.Core.List.{List, [], _∷_, _++_}
 use Rattle.numbers.specs.Bytes.{joined}
-use Rattle.numbers.specs.Count.{bit}
-use Rattle.numbers.specs.Search.{sumTo, tabulate}
-use Rattle.text.specs.Text.{text}
+use Rattle.numbers.specs.Search.{tabulate}
 use Rattle.table.specs.Table.{Table}
 use Rattle.loader.specs.File.{fileTable}
 use Rattle.loader.specs.Verdict.{groundNumber, verdict}
 use Rattle.loader.specs.declared.Verdict.{Verdict}
 use Rattle.loader.specs.declared.Verdict.the-variants.{Sound, Fault}
-use Rattle.state.specs.State.{State, maxThreads, maxChannels, thread, standsAt}
+use Rattle.state.specs.State.{State, maxThreads, thread, standsAt}
 use Rattle.rules.specs.Start.{started}
-use Rattle.rules.specs.Moves.{isFreeChannel, move}
+use Rattle.rules.specs.Moves.{move}
 use Rattle.rules.specs.Calls.{stepAnswer, nextReady, Course, courseOf}
-use Rattle.rules.specs.declared.Stepped.{Stepped}
-use Rattle.rules.specs.declared.Stepped.the-variants.{Done, Refused}
-use Rattle.engine.specs.Numbers.{actNumber, branchNumber, partnerNumber, reasonNumber, heldUpNumber}
+use Rattle.engine.specs.Numbers.{reasonNumber, heldUpNumber}
 use Rattle.collector.specs.Collect.{taken, collected, takenCount}
-
--- ---- characters, columns and lines
-
--- the characters of a quoted text, each as its number
-unfoldable pub characters : String → List ℕ
-characters ends = []
-characters (c then s) = code c ∷ characters s
-
--- the column of a number that is given by its 32-bit pattern: the six characters of the same number's 16-bit pattern. Every number of a listing is within
--- 16 bits (`examples_laws/specs/Shown.antt`)
-unfoldable pub column : ℕ → List ℕ
-column v = text (v % 65536)
-
--- a line: columns and a newline
-unfoldable pub line : List ℕ → List ℕ
-line vs = joined (map column vs) ++ (10 ∷ [])
-
-unfoldable pub heading : List ℕ
-heading = characters "  STEPTHREAD  NODE   ACTBRANCH  WITH\n"
+use Rattle.listing_lines.specs.Lines.{line, heading, stepLine, channelsInUse}
 
 -- ---- a run, and a collection after it
-
--- the line of step k, by thread t and what the step answers; a step that is refused has none
-unfoldable pub stepLine : ℕ → ℕ → Stepped → List ℕ
-stepLine k t (Done n d) = line (k ∷ t ∷ n ∷ actNumber d ∷ branchNumber d ∷ partnerNumber d ∷ [])
-stepLine k t (Refused r) = []
-
--- how many channels are in use, the ports among them
-unfoldable pub channelsInUse : State → ℕ
-channelsInUse s = sumTo (λ c. bit (not (isFreeChannel s c))) maxChannels
 
 abbrev pub maxSteps : ℕ
 maxSteps = 1000

@@ -8,8 +8,8 @@ use lib.Dec.{ltb, eqb}
 use Rattle.numbers.specs.Search.{every, first}
 use Rattle.table.specs.Table.{Table, maxRows, lineTotal}
 use Rattle.table.specs.Form.{headerInRange, kindWrong, sumsAgree}
-use Rattle.checks.specs.Ranges.{outOfRange, restUnused}
-use Rattle.checks.specs.Types.{typesDisagree}
+use Rattle.ranges.specs.Ranges.{outOfRange, restUnused}
+use Rattle.types.specs.Types.{typesDisagree}
 use Rattle.flow.specs.Flow.{readsUnwritten, unreachable}
 use Rattle.loader.specs.File.{lineCount, notLines, malformed, fileTable}
 use Rattle.loader.specs.declared.Ground.{Ground}

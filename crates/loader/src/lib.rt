@@ -1,4 +1,4 @@
-// Loading a procedure file: grounds 1 to 8, and ground 9 for a table that is handed in. For the engine's test of a state the marks of the flow are handed on.
+// Loading a procedure file: grounds 1 to 8, and ground 9 for a table that is handed in.
 ghost use mathlib.Core.Path.{_≡_};
 ghost use mathlib.Core.Bool.{true};
 ghost use Prim.Native.Nat.{_+_, _*_, _≤_, _<_};
@@ -11,7 +11,6 @@ ghost use Rattle.table.specs.Index.{indexLength, Indexed};
 ghost use Rattle.loader.specs.File.{lineLength, notLines, wellFormed, malformed, fileTable, numberIn};
 ghost use Rattle.loader.specs.Verdict.{judgedFlow, judgedRows, judged, verdict, restZero};
 ghost use Rattle.loader.specs.Load.{Outcome, loaded, accepted, tableLength};
-pub use flow::mark_flow;
 use text::Reading;
 
 const LINE: usize = 73;
@@ -120,11 +119,11 @@ fn judge_flow(table: &[u8], index: &[u32], n: usize) -> Verdict
 {
     let mut marks = [0u32; MAX_NODES];
     flow::mark_flow(table, index, &mut marks);
-    let unwritten = flow::first_reads_unwritten(table, index, &marks, n);
+    let unwritten = paths::first_reads_unwritten(table, index, &marks, n);
     if unwritten < n {
         return Verdict::Fault(Ground::Unwritten, unwritten + 1);
     }
-    let unreachable = flow::first_unreachable(table, &marks, n);
+    let unreachable = paths::first_unreachable(table, &marks, n);
     if unreachable < n {
         return Verdict::Fault(Ground::Unreachable, unreachable + 1);
     }
@@ -136,11 +135,11 @@ fn judge_rows(table: &[u8], index: &[u32], n: usize) -> Verdict
     requires { ⌜ Indexed (tableOf (now table)) (now index) ⌝ }
     ensures { λ r. ⌜ r ≡ judgedRows (tableOf (now (table .entry))) n ⌝ }
 {
-    let range = checks::first_out_of_range(table, index, n);
+    let range = ranges::first_out_of_range(table, index, n);
     if range < n {
         return Verdict::Fault(Ground::Range, range + 1);
     }
-    let types = checks::first_types_disagree(table, index, n);
+    let types = types::first_types_disagree(table, index, n);
     if types < n {
         return Verdict::Fault(Ground::Types, types + 1);
     }
@@ -154,20 +153,20 @@ fn judge(table: &[u8], index: &mut [u32], n: usize) -> Verdict
     ensures { λ r. ⌜ r ≡ judged (tableOf (now (table .entry))) n ⌝ }
     ensures { λ r. ⌜ (r ≡ Verdict.Sound → Indexed (tableOf (now (table .entry))) (now (index .exit))) ⌝ }
 {
-    if !table::header_in_range(table) {
+    if !form::header_in_range(table) {
         return Verdict::Fault(Ground::Header, 1);
     }
     if n != table::line_total(table) {
         return Verdict::Fault(Ground::Total, 1);
     }
-    let kind = table::first_kind_wrong(table, n);
+    let kind = form::first_kind_wrong(table, n);
     if kind < n {
         return Verdict::Fault(Ground::Kind, kind + 1);
     }
-    if !table::sums_agree(table) {
+    if !form::sums_agree(table) {
         return Verdict::Fault(Ground::Sums, 1);
     }
-    table::fill_index(table, index);
+    indexing::fill_index(table, index);
     judge_rows(table, index, n)
 }
 

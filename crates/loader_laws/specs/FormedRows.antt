@@ -15,7 +15,7 @@ use Rattle.table.specs.Layout.{blocks, lines, size, branchCount, definitionOf}
 use Rattle.table.specs.Form.{within, headerInRange, kindDue, kindWrong, sumsAgree}
 use Rattle.table.specs.Form.Laws.{within-most}
 use Rattle.table.specs.declared.Part.the-variants.{Slots, Nodes, Branches}
-use Rattle.checks.specs.Ranges.{restUnused, definitionInRange, nodeInRange, rowInRange, outOfRange}
+use Rattle.ranges.specs.Ranges.{restUnused, definitionInRange, nodeInRange, rowInRange, outOfRange}
 use Rattle.loader_laws.specs.Blocks.{Filled, Stands, owner-stands}
 use Rattle.loader_laws.specs.Sums.{sums-fill}
 

@@ -18,7 +18,7 @@ use Rattle.table.specs.declared.Part.{Part}
 use Rattle.table.specs.declared.Part.the-variants.{Slots, Nodes, Branches}
 use Rattle.table.specs.declared.Role.{Role}
 use Rattle.table.specs.declared.Role.the-variants.{Unused, Constant, ReadNumber, ReadChannel, ReadCarried, WriteNumber, WriteChannel, WriteCarried}
-use Rattle.checks.specs.Ranges.{roleInRange, ahead, definitionInRange, nodeInRange, operandInRange, targetsInRange, branchInRange, rowInRange}
+use Rattle.ranges.specs.Ranges.{roleInRange, ahead, definitionInRange, nodeInRange, operandInRange, targetsInRange, branchInRange, rowInRange}
 use Rattle.flow.specs.Flow.{pathMark, slotWritten}
 use Rattle.loader_laws.specs.Blocks.{Filled, Stands, start-suc, stands-line, owner-is, owner-stands}
 use Rattle.loader_laws.specs.FormedRows as R

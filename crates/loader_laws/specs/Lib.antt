@@ -8,4 +8,3 @@ pub mod PrintedFile
 pub mod Yields
 pub mod Refused
 pub mod Lowest
-pub mod FileExamples

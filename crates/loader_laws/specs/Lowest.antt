@@ -12,8 +12,8 @@ use Rattle.numbers.specs.Search.Laws.{caseB, contra, first-le, first-passes, fi
 use Rattle.numbers.specs.Tests.{and-left}
 use Rattle.table.specs.Table.{maxRows, lineTotal}
 use Rattle.table.specs.Form.{headerInRange, kindWrong, sumsAgree}
-use Rattle.checks.specs.Ranges.{outOfRange}
-use Rattle.checks.specs.Types.{typesDisagree}
+use Rattle.ranges.specs.Ranges.{outOfRange}
+use Rattle.types.specs.Types.{typesDisagree}
 use Rattle.flow.specs.Flow.{readsUnwritten, unreachable}
 use Rattle.loader.specs.File.{lineCount, notLines, malformed, fileTable}
 use Rattle.loader.specs.Verdict.{groundNumber, atFault, judgedFlow, judgedRows, judged, verdict}
@@ -255,7 +255,7 @@ module _ (file : List ℕ) where
   pub lowest-iff : (g : Ground) (l : ℕ) → (verdict file ≡ Fault g l) ↔ Names file g l
   lowest-iff = named (verdict file) (verdict-lowest file)
 
-  -- and is in order just when no ground has one
+  -- a file is in order just when no ground has a line of it at fault
   pub sound-iff : (verdict file ≡ Sound) ↔ ((g : Ground) (l : ℕ) → faultAt file g l ≡ false)
   sound-iff = none-named (verdict file) (verdict-lowest file)
 

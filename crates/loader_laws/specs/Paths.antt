@@ -44,7 +44,7 @@ module _ (tb : Table) where
   abbrev pub BranchReads : ℕ → ℕ → Type 0
   BranchReads r k = (j : ℕ) × (j < 5) × (reads (operandRole tb r j) ≡ true) × (k ≡ operand tb r j)
 
-  -- and writes slot k, as one of them
+  -- the branch in row r writes slot k, as one of its operands
   abbrev pub BranchWrites : ℕ → ℕ → Type 0
   BranchWrites r k = (j : ℕ) × (j < 5) × (writes (operandRole tb r j) ≡ true) × (k ≡ operand tb r j)
 

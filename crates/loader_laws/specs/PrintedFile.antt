@@ -121,7 +121,7 @@ module _ (file : List ℕ) (g : Read file) where
 pub sound-printed : (file : List ℕ) → verdict file ≡ Sound → file ≡ fileText (take (lineCount file) (fileTable file))
 sound-printed file e = read-printed file (sound-read file e .0)
 
--- and so a file that loads is bytes
+-- a file that loads is bytes
 pub sound-bytes : (file : List ℕ) → verdict file ≡ Sound → Characters file
 sound-bytes file e = rw (sound-printed file e) (file-fits (take (lineCount file) (fileTable file)))
 
@@ -142,14 +142,14 @@ module _ (rs : Table) (g : Printable rs) where
   pub print-lines : lineCount (fileText rs) ≡ length rs
   print-lines = omega (arith, length-file rs (g .twelve))
 
-  -- ground 1 passes
+  -- ground 1 does not refuse the print of rows
   pub print-whole : notLines (fileText rs) ≡ false
   unfolding notLines
   print-whole =
       let z : length (fileText rs) % 73 ≡ 0 = omega (arith, length-file rs (g .twelve)) in
       rw (print-lines, z, le-leb 1 (length rs) (g .some), le-leb (length rs) maxRows (g .few))
 
-  -- and ground 2
+  -- ground 2 does not refuse it
   pub print-formed : (i : ℕ) → i < length rs → malformed (fileText rs) i ≡ false
   unfolding malformed wellFormed fieldIsNumber isValue
   print-formed i h =
@@ -168,7 +168,7 @@ module _ (rs : Table) (g : Printable rs) where
       (λ k l. let l′ : k < 12 = omega (arith, length-tabulate rowNumbers (numberAt (fileText rs) i)) in
       getD-tabulate rowNumbers k (numberAt (fileText rs) i) 0 l′ ∙ print-number i k h l′)
 
-  -- and the table is the rows again
+  -- the table that is read from the print is the rows again
   pub print-table : fileTable (fileText rs) ≡ filledUp rs
   print-table =
       ext-getD [] (fileTable (fileText rs)) (filledUp rs)
@@ -190,7 +190,7 @@ module _ (rs : Table) (g : Printable rs) where
   pub print-read : Read (fileText rs)
   print-read = record { lined = lines-lined (fileText rs) print-whole; formed = λ i h. print-formed i (omega (arith, print-lines)) }
 
-  -- so the verdict on the print is that on the rows
+  -- the verdict on the print is that on the rows
   pub print-judged : verdict (fileText rs) ≡ judged (filledUp rs) (length rs)
   unfolding verdict
   print-judged =

@@ -52,7 +52,7 @@ unused = from 0 0
 unfoldable pub numbered : ℤ → Limits
 numbered n = record { least = pos 0; most = predℤ n }
 
--- those of a field: -32768 to 32767
+-- the numbers that a field can have: -32768 to 32767
 unfoldable pub anyNumber : Limits
 anyNumber = record { least = negsuc 32767; most = pos 32767 }
 
@@ -64,7 +64,7 @@ unfoldable pub decimal : ℤ → List ℕ
 decimal (pos n) = figures n
 decimal (negsuc n) = 45 ∷ figures (suc n)
 
--- ... and in the six characters of a field, after blanks
+-- the number in decimal in the six characters of a field, after blanks
 abbrev pub printed : ℤ → List ℕ
 printed z = rightJustified 6 (decimal z)
 

@@ -14,7 +14,7 @@ use Rattle.table.specs.Table.{Table, nodes, nodeRow, branchRow, parameters, slo
 use Rattle.table.specs.Layout.{branchCount, definitionOf, start}
 use Rattle.table.specs.Roles.{operand, operandRole, reads}
 use Rattle.table.specs.declared.Part.the-variants.{Branches}
-use Rattle.checks.specs.Ranges.{argumentInRange, callInRange, nodeInRange}
+use Rattle.ranges.specs.Ranges.{argumentInRange, callInRange, nodeInRange}
 use Rattle.flow.specs.Flow.{pathMark, mayLack, argumentWritten, callWritten, operandWritten, rowWritten, readsUnwritten, unreachable}
 use Rattle.loader_laws.specs.Paths.{rowOf, CallReads, BranchReads, Reachable, SurelyWritten}
 use Rattle.loader_laws.specs.Paths.Laws.{reachable-iff, written-iff}

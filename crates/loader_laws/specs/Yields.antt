@@ -12,13 +12,13 @@ use borrow.Author.Tests.{le-ltb, ltb-true, ltb-false, eq-eqb, eqb-true}
 use Rattle.numbers.specs.Rows.{at}
 use Rattle.numbers.specs.Rows.Laws.{length-rows, length-row, at-in}
 use Rattle.numbers.specs.Bytes.{shorts, joined}
-use Rattle.numbers.specs.Bytes.Laws.{length-numbers, length-encode, encode-numbers, numbers-encode, numbers-fit, joined-rows, rows-joined}
+use Rattle.numbers.specs.Bytes.Laws.{length-numbers, length-encode, encode-below, encode-numbers, numbers-encode, numbers-fit, joined-rows, rows-joined}
 use Rattle.numbers.specs.Search.Laws.{caseB, contra, every-elim, every-intro, length-tabulate, getD-tabulate}
 use Rattle.numbers.specs.Tests.{and-left, and-right}
 use Rattle.table.specs.Table.{Table, maxRows, rowNumbers, tableOf, lineTotal}
 use Rattle.table.specs.Form.{headerInRange}
 use Rattle.table.specs.Form.Laws.{header-counts}
-use Rattle.checks.specs.Ranges.{unusedFrom, restUnused}
+use Rattle.ranges.specs.Ranges.{unusedFrom, restUnused}
 use Rattle.text.specs.Text.{fileText, fieldOf, readNumber}
 use Rattle.text.specs.Text.Laws.{reads-value, length-joined}
 use Rattle.text.specs.Text.Characters.{Characters}
@@ -53,7 +53,7 @@ module _ (tb : Table) (n : ℕ) where
   judged-total e = caseB (eqb n (lineTotal tb)) (λ y. eqb-true n (lineTotal tb) y)
       (λ y. no-sound Total 1 (rw (judged-header tb n e, y) at e))
 
-is-sound : (v : Verdict) → isSound v ≡ true → v ≡ Sound
+pub is-sound : (v : Verdict) → isSound v ≡ true → v ≡ Sound
 unfolding isSound
 is-sound Sound e = refl
 is-sound (Fault g l) e = contra e refl
@@ -207,7 +207,7 @@ pub sound-loads : (file t : List ℕ) → verdict file ≡ Sound → length t �
 unfolding loaded afterVerdict
 sound-loads file t e l = rw (e, eq-eqb (length t) tableLength l)
 
--- and nothing else is Done
+-- a load that is done is of a file in order, and leaves its table
 pub done-sound : (file t b : List ℕ) → loaded file t ≡ outcome Done b → (verdict file ≡ Sound) × (tableBytes (fileTable file) ≡ b)
 unfolding loaded
 done-sound file t b e = after-done (verdict file) file t b e
@@ -226,3 +226,19 @@ accepted-iff b fit = (
       let h : fileTable file ≡ tableOf b = sym (bytes-hold (fileTable file) s) ∙ ap tableOf q in
       rw (eq-eqb (length b) tableLength long, yields-acceptable (tableOf b) (file, v, h)),
 )
+
+-- ---- what a file that loads leaves in the table's buffer
+
+module _ (file t : List ℕ) (e : loaded file t .answer ≡ Done) where
+  done : loaded file t ≡ outcome Done (loaded file t .table)
+  done = ap (λ (a : Loaded). outcome a (loaded file t .table)) e
+
+  -- numbers that are bytes
+  pub loaded-small : (i : ℕ) → getD (loaded file t .table) i 0 < 256
+  unfolding tableBytes
+  loaded-small i = rw (← done-sound file t (loaded file t .table) done .1) (encode-below 2 (joined (fileTable file)) i)
+
+  -- a table that ground 9 accepts
+  pub loaded-accepted : accepted (loaded file t .table) ≡ true
+  loaded-accepted =
+      accepted-iff (loaded file t .table) loaded-small .1 (file, t, sound-bytes file (done-sound file t (loaded file t .table) done .0), done)

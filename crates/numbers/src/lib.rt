@@ -11,7 +11,7 @@ ghost use Rattle.numbers.specs.Bytes.{little, shorts, words};
 ghost use Rattle.numbers.specs.Signed.{wrap, lower, sum, difference, widened};
 
 // The number of two bytes, the lower first.
-fn pair(a: u8, b: u8) -> u32
+pub fn pair(a: u8, b: u8) -> u32
     ensures { λ r. ⌜ r ≡ little (a ∷ b ∷ []) ⌝ }
     ensures { λ r. ⌜ r < 65536 ⌝ }
 {

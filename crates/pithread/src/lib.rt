@@ -1,245 +1,41 @@
-// The calls that C makes. Numbers and byte buffers go in, numbers come back.
+// The calls that C makes. Numbers and byte buffers go in, numbers come back. Each call makes that of the layer below, and gives its answer in the numbers of
+// document 01.
 ghost use mathlib.Core.Path.{_≡_};
-ghost use Prim.Native.Nat.{_≤_};
-ghost use Rattle.loader.specs.Load.{refusalNumber, lineNumber};
-ghost use Rattle.pithread.specs.Interface.{LoadResult, loadResult, StateResult, startFields, startNumbers, startResult, stepNumbers, stepFields, stepResult, giveNumbers, giveFields, giveResult, takeNumbers, takeFields, takeResult, runNumbers, runFields, runResult, collectNumbers, collectFields, collectResult};
-use collector::Collected;
-use loader::Loaded;
-use rules::Given;
-use rules::Ran;
-use rules::Started;
-use rules::Stepped;
-use rules::Taken;
-
-// The refusal, 0 for none, and the line at fault, 0 for none.
-#[repr(C)]
-pub struct LoadAnswer {
-    pub refusal: i32,
-    pub line: i32,
-}
-
-fn refusal_number(answer: Loaded) -> u32
-    ensures { λ r. ⌜ r ≡ refusalNumber answer ⌝ }
-    ensures { λ r. ⌜ r ≤ 8 ⌝ }
-{
-    match answer {
-        Loaded::Done => 0,
-        Loaded::FileRefused(ground, _) => answers::ground_number(ground),
-        Loaded::WrongLength => 8,
-    }
-}
-
-fn line_number(answer: Loaded) -> usize
-    ensures { λ r. ⌜ r ≡ lineNumber answer ⌝ }
-{
-    match answer {
-        Loaded::Done => 0,
-        Loaded::FileRefused(_, line) => line,
-        Loaded::WrongLength => 0,
-    }
-}
+ghost use Rattle.interface.specs.Interface.{loadedTo, loadResult, result};
+ghost use Rattle.interface.specs.Interface.{startResult, stepResult, giveResult, takeResult, runResult, collectResult};
+use interface::CollectAnswer;
+use interface::GiveAnswer;
+use interface::LoadAnswer;
+use interface::RunAnswer;
+use interface::StartAnswer;
+use interface::StepAnswer;
+use interface::TakeAnswer;
 
 #[no_mangle]
 pub extern "C" fn pithread_load(file: &[u8], table: &mut [u8]) -> LoadAnswer
-    ensures { λ r. ⌜ _≡_ {A = LoadResult} (record { answer = r; table = now (table .exit) }) (loadResult (now (file .entry)) (now (table .entry))) ⌝ }
+    ensures { λ r. ⌜ loadedTo r (now (table .exit)) ≡ loadResult (now (file .entry)) (now (table .entry)) ⌝ }
 {
     let answer = loader::load(file, table);
-    let refusal = refusal_number(answer);
-    let line = line_number(answer);
+    let refusal = interface::refusal_number(answer);
+    let line = interface::line_number(answer);
     LoadAnswer {
         refusal: refusal as i32,
         line: line as i32,
     }
 }
 
-// The answers of the other calls: the refusal, 0 for none, and then what was done, 0 where the call was refused.
-#[repr(C)]
-pub struct StartAnswer {
-    pub refusal: i32,
-}
-
-#[repr(C)]
-pub struct StepAnswer {
-    pub refusal: i32,
-    pub node: i32,
-    pub act: i32,
-    pub branch: i32,
-    pub partner: i32,
-}
-
-#[repr(C)]
-pub struct GiveAnswer {
-    pub refusal: i32,
-    pub thread: i32,
-}
-
-#[repr(C)]
-pub struct TakeAnswer {
-    pub refusal: i32,
-    pub thread: i32,
-    pub number: i32,
-}
-
-#[repr(C)]
-pub struct RunAnswer {
-    pub refusal: i32,
-    pub steps: i32,
-    pub reason: i32,
-    pub thread: i32,
-}
-
-#[repr(C)]
-pub struct CollectAnswer {
-    pub refusal: i32,
-    pub threads: i32,
-}
-
-// The pattern of -1.
-const MINUS_ONE: u32 = 4294967295;
-
-// The numbers of an answer, from their patterns.
-fn start_fields(refusal: u32) -> StartAnswer
-    ensures { λ r. ⌜ r ≡ startFields refusal ⌝ }
-{
-    StartAnswer {
-        refusal: numbers::signed(refusal),
-    }
-}
-
-fn step_fields(refusal: u32, node: u32, act: u32, branch: u32, partner: u32) -> StepAnswer
-    ensures { λ r. ⌜ r ≡ stepFields refusal node act branch partner ⌝ }
-{
-    StepAnswer {
-        refusal: numbers::signed(refusal),
-        node: numbers::signed(node),
-        act: numbers::signed(act),
-        branch: numbers::signed(branch),
-        partner: numbers::signed(partner),
-    }
-}
-
-fn give_fields(refusal: u32, thread: u32) -> GiveAnswer
-    ensures { λ r. ⌜ r ≡ giveFields refusal thread ⌝ }
-{
-    GiveAnswer {
-        refusal: numbers::signed(refusal),
-        thread: numbers::signed(thread),
-    }
-}
-
-fn take_fields(refusal: u32, thread: u32, number: u32) -> TakeAnswer
-    ensures { λ r. ⌜ r ≡ takeFields refusal thread number ⌝ }
-{
-    TakeAnswer {
-        refusal: numbers::signed(refusal),
-        thread: numbers::signed(thread),
-        number: numbers::signed(number),
-    }
-}
-
-fn run_fields(refusal: u32, steps: u32, reason: u32, thread: u32) -> RunAnswer
-    ensures { λ r. ⌜ r ≡ runFields refusal steps reason thread ⌝ }
-{
-    RunAnswer {
-        refusal: numbers::signed(refusal),
-        steps: numbers::signed(steps),
-        reason: numbers::signed(reason),
-        thread: numbers::signed(thread),
-    }
-}
-
-fn collect_fields(refusal: u32, threads: u32) -> CollectAnswer
-    ensures { λ r. ⌜ r ≡ collectFields refusal threads ⌝ }
-{
-    CollectAnswer {
-        refusal: numbers::signed(refusal),
-        threads: numbers::signed(threads),
-    }
-}
-
-fn start_numbers(answer: Started) -> StartAnswer
-    ensures { λ r. ⌜ r ≡ startNumbers answer ⌝ }
-{
-    match answer {
-        Started::Done => start_fields(0),
-        Started::Refused(ground) => start_fields(answers::refusal_of(ground)),
-    }
-}
-
-fn step_numbers(answer: Stepped) -> StepAnswer
-    ensures { λ r. ⌜ r ≡ stepNumbers answer ⌝ }
-{
-    match answer {
-        Stepped::Done(node, deed) => {
-            step_fields(
-                0,
-                node,
-                answers::act_number(deed),
-                answers::branch_number(deed),
-                answers::partner_number(deed),
-            )
-        }
-        Stepped::Refused(ground) => step_fields(answers::refusal_of(ground), 0, 0, 0, 0),
-    }
-}
-
-fn give_numbers(answer: Given) -> GiveAnswer
-    ensures { λ r. ⌜ r ≡ giveNumbers answer ⌝ }
-{
-    match answer {
-        Given::Met(thread) => give_fields(0, thread),
-        Given::Nobody => give_fields(0, MINUS_ONE),
-        Given::Refused(ground) => give_fields(answers::refusal_of(ground), 0),
-    }
-}
-
-fn take_numbers(answer: Taken) -> TakeAnswer
-    ensures { λ r. ⌜ r ≡ takeNumbers answer ⌝ }
-{
-    match answer {
-        Taken::Met(thread, number) => take_fields(0, thread, number),
-        Taken::Nobody => take_fields(0, MINUS_ONE, 0),
-        Taken::Refused(ground) => take_fields(answers::refusal_of(ground), 0, 0),
-    }
-}
-
-fn run_numbers(answer: Ran) -> RunAnswer
-    ensures { λ r. ⌜ r ≡ runNumbers answer ⌝ }
-{
-    match answer {
-        Ran::Done(steps, reason) => {
-            run_fields(
-                0,
-                steps,
-                answers::reason_number(reason),
-                answers::held_up_number(reason),
-            )
-        }
-        Ran::Refused(ground) => run_fields(answers::refusal_of(ground), 0, 0, 0),
-    }
-}
-
-fn collect_numbers(answer: Collected) -> CollectAnswer
-    ensures { λ r. ⌜ r ≡ collectNumbers answer ⌝ }
-{
-    match answer {
-        Collected::Done(threads) => collect_fields(0, threads),
-        Collected::Refused(ground) => collect_fields(answers::refusal_of(ground), 0),
-    }
-}
-
 #[no_mangle]
 pub extern "C" fn pithread_start(table: &[u8], state: &mut [u8]) -> StartAnswer
-    ensures { λ r. ⌜ _≡_ {A = StateResult StartAnswer} (record { answer = r; state = now (state .exit) }) (startResult (now (table .entry)) (now (state .entry))) ⌝ }
+    ensures { λ r. ⌜ result r (now (state .exit)) ≡ startResult (now (table .entry)) (now (state .entry)) ⌝ }
 {
-    start_numbers(engine::start(table, state))
+    interface::start_numbers(engine::start(table, state))
 }
 
 #[no_mangle]
 pub extern "C" fn pithread_step(table: &[u8], state: &mut [u8], thread: u32) -> StepAnswer
-    ensures { λ r. ⌜ _≡_ {A = StateResult StepAnswer} (record { answer = r; state = now (state .exit) }) (stepResult (now (table .entry)) (now (state .entry)) thread) ⌝ }
+    ensures { λ r. ⌜ result r (now (state .exit)) ≡ stepResult (now (table .entry)) (now (state .entry)) thread ⌝ }
 {
-    step_numbers(engine::step(table, state, thread))
+    interface::step_numbers(engine::step(table, state, thread))
 }
 
 #[no_mangle]
@@ -249,28 +45,28 @@ pub extern "C" fn pithread_give(
     port: u32,
     number: i32,
 ) -> GiveAnswer
-    ensures { λ r. ⌜ _≡_ {A = StateResult GiveAnswer} (record { answer = r; state = now (state .exit) }) (giveResult (now (table .entry)) (now (state .entry)) port number) ⌝ }
+    ensures { λ r. ⌜ result r (now (state .exit)) ≡ giveResult (now (table .entry)) (now (state .entry)) port number ⌝ }
 {
-    give_numbers(engine::give(table, state, port, numbers::pattern(number)))
+    interface::give_numbers(engine::give(table, state, port, numbers::pattern(number)))
 }
 
 #[no_mangle]
 pub extern "C" fn pithread_take(table: &[u8], state: &mut [u8], port: u32) -> TakeAnswer
-    ensures { λ r. ⌜ _≡_ {A = StateResult TakeAnswer} (record { answer = r; state = now (state .exit) }) (takeResult (now (table .entry)) (now (state .entry)) port) ⌝ }
+    ensures { λ r. ⌜ result r (now (state .exit)) ≡ takeResult (now (table .entry)) (now (state .entry)) port ⌝ }
 {
-    take_numbers(engine::take(table, state, port))
+    interface::take_numbers(engine::take(table, state, port))
 }
 
 #[no_mangle]
 pub extern "C" fn pithread_run(table: &[u8], state: &mut [u8], n: u16) -> RunAnswer
-    ensures { λ r. ⌜ _≡_ {A = StateResult RunAnswer} (record { answer = r; state = now (state .exit) }) (runResult (now (table .entry)) (now (state .entry)) n) ⌝ }
+    ensures { λ r. ⌜ result r (now (state .exit)) ≡ runResult (now (table .entry)) (now (state .entry)) n ⌝ }
 {
-    run_numbers(engine::run(table, state, n))
+    interface::run_numbers(engine::run(table, state, n))
 }
 
 #[no_mangle]
 pub extern "C" fn pithread_collect(table: &[u8], state: &mut [u8]) -> CollectAnswer
-    ensures { λ r. ⌜ _≡_ {A = StateResult CollectAnswer} (record { answer = r; state = now (state .exit) }) (collectResult (now (table .entry)) (now (state .entry))) ⌝ }
+    ensures { λ r. ⌜ result r (now (state .exit)) ≡ collectResult (now (table .entry)) (now (state .entry)) ⌝ }
 {
-    collect_numbers(collector::collect(table, state))
+    interface::collect_numbers(collector::collect(table, state))
 }

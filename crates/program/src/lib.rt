@@ -1,8 +1,8 @@
-// What a table says of the node at which a thread stands, read with the thread's slots, and the search for a partner.
+// What a table says of the node at which a thread stands, read with the thread's slots.
 ghost use mathlib.Core.Path.{_≡_};
 ghost use Prim.Native.Nat.{_+_, _≤_, _<_};
 ghost use Rattle.table.specs.Table.{tableOf, definitions, slotRow};
-ghost use Rattle.table.specs.Layout.{start, definitionOf, slotType};
+ghost use Rattle.table.specs.Layout.{start, definitionOf};
 ghost use Rattle.table.specs.declared.Part.the-variants.{Slots, Nodes};
 ghost use Rattle.table.specs.Index.{Indexed};
 ghost use Rattle.state.specs.State.{stateOf, thread, slotOf};
@@ -29,16 +29,7 @@ pub fn types_from(table: &[u8], index: &[u32], d: u32) -> usize
     table::slot_row_of(table, index) + table::start_of(table, index, Part::Slots, d) as usize
 }
 
-// The type of slot k of definition d, and of slot k at node n.
-pub fn slot_type(table: &[u8], index: &[u32], d: u32, k: u32) -> u32
-    requires { ⌜ Indexed (tableOf (now table)) (now index) ⌝ }
-    ensures { λ r. ⌜ r ≡ slotType (tableOf (now (table .entry))) d k ⌝ }
-    ensures { λ r. ⌜ r < 65536 ⌝ }
-{
-    let place = table::start_of(table, index, Part::Slots, d) as usize + k as usize;
-    table::cell_of(table, index, table::slot_row_of(table, index) + place, 1)
-}
-
+// The type of slot k at node n.
 pub fn type_at(table: &[u8], index: &[u32], n: u32, k: u32) -> u32
     requires { ⌜ Indexed (tableOf (now table)) (now index) ⌝ }
     ensures { λ r. ⌜ r ≡ typeAt (tableOf (now (table .entry))) n k ⌝ }
@@ -55,7 +46,7 @@ pub fn channel_slot(table: &[u8], index: &[u32], d: u32, k: u32) -> bool
     ensures { λ r. ⌜ r ≡ channelSlot (tableOf (now (table .entry))) d k ⌝ }
 {
     if k < table::slot_count_of(table, index, d) {
-        return slot_type(table, index, d, k) != 0;
+        return table::slot_type(table, index, d, k) != 0;
     }
     false
 }
@@ -89,7 +80,7 @@ fn node_within(table: &[u8], index: &[u32], n: u32, x: u32) -> u32
     table::start_within(table, index, Part::Nodes, definition_of(table, index, n)) + x
 }
 
-// The nodes to which the branch in a row, of node n, leads on: itself and its child.
+// The node to which the branch in a row, of node n, leads on.
 pub fn next_of(table: &[u8], index: &[u32], n: u32, row: usize) -> u32
     requires { ⌜ Indexed (tableOf (now table)) (now index) ⌝ }
     ensures { λ r. ⌜ r ≡ nextOf (tableOf (now (table .entry))) n row ⌝ }
@@ -97,6 +88,7 @@ pub fn next_of(table: &[u8], index: &[u32], n: u32, row: usize) -> u32
     node_within(table, index, n, table::cell_of(table, index, row, 8))
 }
 
+// The node at which the child begins that the branch in a row, of node n, spawns.
 pub fn child_of(table: &[u8], index: &[u32], n: u32, row: usize) -> u32
     requires { ⌜ Indexed (tableOf (now table)) (now index) ⌝ }
     ensures { λ r. ⌜ r ≡ childOf (tableOf (now (table .entry))) n row ⌝ }
@@ -151,13 +143,14 @@ pub fn guard_holds(
     }
 }
 
-// The sum and the difference of the numbers in two slots, taken back into range.
+// The sum of the numbers in two slots, taken back into range.
 fn sum_of(x: u32, y: u32) -> u32
     ensures { λ r. ⌜ r ≡ wrappedSum x y ⌝ }
 {
     numbers::pattern(numbers::wrapping_add(numbers::signed(x), numbers::signed(y)))
 }
 
+// The difference of the numbers in two slots, taken back into range.
 fn difference_of(x: u32, y: u32) -> u32
     ensures { λ r. ⌜ r ≡ wrappedDifference x y ⌝ }
 {

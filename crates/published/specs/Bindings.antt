@@ -9,7 +9,7 @@ use mathlib.Core.Option.{Option, none, some}
 use lib.ListN.{length}
 use borrow.Author.Tests.{eqb-true, eq-eqb}
 use Rattle.numbers.specs.Search.Laws.{contra}
-use Rattle.collector.specs.Enabled.Laws.{or-elim, or-second}
+use Rattle.marking.specs.Enabled.Laws.{or-elim, or-second}
 use Rattle.published.specs.Agents.{Value, channel, number, Env, look, bind, refers, mentions, Thread, knows}
 
 -- two constructors that differ are not equal: an equation of them gives one of 0 and 1

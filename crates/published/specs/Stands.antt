@@ -11,7 +11,7 @@ use Rattle.numbers.specs.Search.Laws.{contra}
 use Rattle.published.specs.Syntax.{always, Process, end, choice, invoke, Sum, nothing, branch, wait, Prefix, tau, output, input, newChannel, newThread, assign, andWait}
 use Rattle.published.specs.Agents.{_∈_, channel, number, Env, bind, holds, Commitment, takes, Thread, thread, Channels, Agent, agent}
 use Rattle.published.specs.Rules.{Acts, step, new, spawn, next, call, inert, send, out, recv, inn, more, Ours, skip, assigns, zeros, stays, Run, last, pass}
-use Rattle.published.specs.Fired.{Rule, by-inert, by-call, by-step, by-new, by-spawn, by-send, by-recv, by-passing, by-assigns, by-zeros, Fired, fired, behind, Labels, ours-fire, firing, Ends, SteppedBy, Had, Turns, none-had, had}
+use Rattle.published.specs.Fired.{Rule, by-inert, by-call, by-step, by-new, by-spawn, by-send, by-recv, by-passing, by-assigns, by-zeros, Fired, fired, behind, Labels, ours-fire, firing, Ends, SteppedBy, Had, Turns, had}
 use Rattle.published.specs.Bindings.{clash}
 use Rattle.published.specs.ProductLaws.{same-order, in-rearranged}
 
@@ -243,7 +243,7 @@ module _ (def : ℕ → Process) (forNumbers : ℕ → ℕ → Bool) where
   unfolding StandsIn
   twofold-only δ f h n = first-branch δ (f .branch) (f .rule) (rule-stands f h n)
 
-  pub twofold-not-sent : {A B : Agent} (δ : Env) (u : Thread) (k : Commitment)
+  twofold-not-sent : {A B : Agent} (δ : Env) (u : Thread) (k : Commitment)
       → SteppedBy def (Ours def forNumbers) (ours-fire def forNumbers) A (twofold δ) (fired 1 (by-send u k)) B → ⊥
   twofold-not-sent δ u k h = let (e, q) = twofold-only δ (fired 1 (by-send u k)) h (λ z. clash cc) in let z : ⊥ = omega arith in z
 
@@ -280,12 +280,9 @@ module _ (def : ℕ → Process) (forNumbers : ℕ → ℕ → Bool) where
   unfolding MeetsWith
   bare-not-met i δ P k h = partner-there (fired i (by-send (thread [] δ P) k)) h (thread [] δ P) k (refl, refl) .1
 
-  -- ---- turns one after the other: no turn leaves the agent, and the first of some is a turn as above
+  -- ---- turns one after the other: the first of some is a turn as above
 
-  pub no-turns : {A B : Agent} → Turns def (Ours def forNumbers) (ours-fire def forNumbers) [] A B → A ≡ B
-  no-turns none-had = refl
-
-  pub first-turn : {h : Had} {l : List Had} {A B : Agent} → Turns def (Ours def forNumbers) (ours-fire def forNumbers) (h ∷ l) A B
+  first-turn : {h : Had} {l : List Had} {A B : Agent} → Turns def (Ours def forNumbers) (ours-fire def forNumbers) (h ∷ l) A B
       → (C : Agent) × SteppedBy def (Ours def forNumbers) (ours-fire def forNumbers) A (h .who) (h .does) C
       × Turns def (Ours def forNumbers) (ours-fire def forNumbers) l C B
   first-turn (had {B = C} x w) = (C, x, w)

@@ -19,9 +19,9 @@ use Rattle.rules.specs.declared.Direction.{Direction}
 use Rattle.rules_laws.specs.Granted.{Granted}
 use Rattle.rules_laws.specs.Reading.Laws.{holds-elim}
 use Rattle.rules_laws.specs.Soundness.{Sound}
-use Rattle.collector.specs.Enabled as Collector
-use Rattle.collector.specs.Enabled.{is-ready, by-bench, by-thread}
-use Rattle.collector.specs.Collect.{nobody, taken, remaining, collected}
+use Rattle.marking.specs.Enabled as Collector
+use Rattle.marking.specs.Enabled.{nobody, is-ready, by-bench, by-thread}
+use Rattle.collector.specs.Collect.{taken, remaining, collected}
 use Rattle.collector.specs.Collect.Laws.{taken-iff, stays-enabled}
 use Rattle.published.specs.Syntax.{Process, waiting}
 use Rattle.published.specs.Agents.{_∈_, channelOf, Thread, Agent, agent, knows, globalrc, Commits}

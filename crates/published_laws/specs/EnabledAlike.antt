@@ -19,9 +19,8 @@ use Rattle.rules.specs.declared.Direction.{Direction}
 use Rattle.rules_laws.specs.Granted.{Granted}
 use Rattle.rules_laws.specs.Reading.Laws.{ready-used, waiting-used, holds-elim, offers-elim}
 use Rattle.rules_laws.specs.Soundness.{RowSound, Sound}
-use Rattle.collector.specs.Enabled as Collector
-use Rattle.collector.specs.Enabled.{from-start, is-ready, by-bench, by-thread}
-use Rattle.collector.specs.Collect.{nobody}
+use Rattle.marking.specs.Enabled as Collector
+use Rattle.marking.specs.Enabled.{nobody, from-start, is-ready, by-bench, by-thread}
 use Rattle.published.specs.Syntax.{Process, Sum, nothing, waiting, someWait, onlyWaits, waits}
 use Rattle.published.specs.Agents.{channelOf, Thread, nth, knows, Commits}
 use Rattle.published.specs.Enabling.{Enabled, active, awoken, enabled-in}

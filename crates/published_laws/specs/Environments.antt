@@ -58,9 +58,6 @@ module _ (tb : Table) (row : List ℕ) where
   abbrev n : ℕ
   n = standsAt row
 
-  abbrev d : ℕ
-  d = definitionOf tb (standsAt row)
-
   pub look-env : (k : ℕ) → k < rowSlots → look (envOf tb row) k ≡ slotValue tb row k
   unfolding envOf
   look-env k l = look-trimmed (tabulate rowSlots (slotValue tb row)) k ∙ getD-tabulate rowSlots k (slotValue tb row) none l

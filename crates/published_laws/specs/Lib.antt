@@ -29,4 +29,3 @@ pub mod StepConversely
 pub mod Benches
 pub mod Starting
 pub mod Computation
-pub mod ReductionInstance

@@ -18,7 +18,7 @@ use Rattle.rules_laws.specs.Granted.{Granted}
 use Rattle.rules_laws.specs.Soundness.{Orderly}
 use Rattle.rules_laws.specs.Chosen.{channelBy}
 use Rattle.published.specs.Syntax.{Process, Sum, nothing, Prefix, andWait, waits, waiting, someWait}
-use Rattle.published.specs.Agents.{_∈_, Env, Commitment, Thread, Channels, Agent, agent}
+use Rattle.published.specs.Agents.{_∈_, Env, Commitment, Thread, Agent, agent}
 use Rattle.published.specs.Choices.{Sends, Receives, ByAction, ByCommitment, ByPrefix, BySum, ByProcess, Of, same-channel}
 use Rattle.published.specs.Whole.{Whole, firstWaits, Onward, whole-of}
 use Rattle.published_laws.specs.Readable.{Readable}
@@ -33,14 +33,8 @@ module _ (tb : Table) (g : Granted tb) (rd : Readable tb) (s : State) (o : Order
   abbrev δ : Env
   δ = envOf tb (thread s t)
 
-  abbrev Δ : Channels
-  Δ = channelsOf s
-
   abbrev n : ℕ
   n = standsAt (thread s t)
-
-  abbrev count : ℕ
-  count = branchCount tb (standsAt (thread s t))
 
   abbrev row : ℕ → ℕ
   row i = branchAt tb (standsAt (thread s t)) i

@@ -18,8 +18,8 @@ use Rattle.table.specs.Form.Laws.{within-least, header-counts}
 use Rattle.table.specs.Roles.{guardRole, actionRole, operandPlace, operand, operandRole, reads}
 use Rattle.table.specs.declared.Part.the-variants.{Branches}
 use Rattle.table.specs.declared.Role.the-variants.{ReadNumber}
-use Rattle.checks.specs.Ranges.{nodeInRange, operandInRange, branchInRange}
-use Rattle.checks.specs.Types.{roleTyped, operandTyped, branchTyped, rowTyped, typesDisagree}
+use Rattle.ranges.specs.Ranges.{nodeInRange, operandInRange, branchInRange}
+use Rattle.types.specs.Types.{roleTyped, operandTyped, branchTyped, rowTyped, typesDisagree}
 use Rattle.loader.specs.Load.{accepted}
 use Rattle.loader_laws.specs.Grounds.{named, named-below, branch-kind, node-in-range, node-of, branch-below, own-branch-in-range, edges}
 use Rattle.loader_laws.specs.Paths.{rowOf}

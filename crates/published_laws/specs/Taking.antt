@@ -25,12 +25,12 @@ use Rattle.collector.specs.declared.Collected.the-variants as Collected
 use Rattle.collector_laws.specs.Out.{takenThread}
 use Rattle.guarantee.specs.Claim.{takenBy}
 use Rattle.guarantee.specs.ClaimKept.{collect-done, collect-view, taken-is}
-use Rattle.published.specs.Agents.{Thread, nth}
+use Rattle.published.specs.Agents.{Thread}
 use Rattle.published.specs.Enabling.{Disabled}
 use Rattle.published_laws.specs.Readable.{Readable, readable}
-use Rattle.published_laws.specs.Standing.{threadOf, agentOf}
+use Rattle.published_laws.specs.Standing.{agentOf}
 use Rattle.published_laws.specs.Products.{Bench}
-use Rattle.published_laws.specs.Places.{rank, rank-nth}
+use Rattle.published_laws.specs.Places.{rank}
 use Rattle.published_laws.specs.Collecting.{taken-disabled}
 
 -- the place of row t's thread among those of the agent: the bench comes first, and then the rows in use in their order
@@ -65,10 +65,6 @@ module _ (table : List ℕ) (ok : accepted table ≡ true) (fit : (i : ℕ) → 
   taken-row t u = taken-is table ok fit state sb t ∙ rw (lt-ltb t maxThreads (in-range t u))
 
   module _ (b : Thread) (bn : Bench (tableOf table) b) (t : ℕ) (u : inUse (thread (view state) t) ≡ true) where
-    pub place-thread : nth (agentOf (tableOf table) b (view state) .threads) (placeIn (view state) t) ≡ threadOf (tableOf table) (thread (view state) t)
-    unfolding agentOf
-    place-thread = rank-nth tb (view state .threads) t (rw (sound .orderly .shaped .all-threads) (in-range t u)) u
-
     -- a thread in use is taken exactly when 002 calls it disabled
     pub taken-iff-disabled : (takenBy table state t ≡ true) ↔ Disabled (agentOf (tableOf table) b (view state) .threads) (placeIn (view state) t)
     unfolding agentOf

@@ -6,14 +6,14 @@ use mathlib.Core.Path.{_≡_, refl, sym, _∙_, ap}
 use mathlib.Core.Bool.{true}
 use mathlib.Core.List.{List, [], _∷_}
 use lib.Dec.{ltb}
-use lib.ListN.{length, getD}
+use lib.ListN.{getD}
 use borrow.Author.Tests.{ltb-true}
 use Rattle.numbers.specs.Search.{tabulate}
 use Rattle.numbers.specs.Search.Laws.{caseB, getD-tabulate, length-tabulate, is-tabulate, tabulate-none, tabulate-cong}
 use Rattle.table.specs.Table.{Table}
 use Rattle.state.specs.State.{State, maxThreads, thread, isReady, withMark}
-use Rattle.rules.specs.Moves.{move, perform}
-use Rattle.rules.specs.Calls.{stepAnswer, nextReady, pastTurn, turnFor, turnBy, Course, onward, oneMore, turnEnd, takeTurn, courseOf}
+use Rattle.rules.specs.Moves.{move}
+use Rattle.rules.specs.Calls.{stepAnswer, nextReady, pastTurn, turnFor, turnBy, onward, oneMore, turnEnd, takeTurn, courseOf}
 use Rattle.rules.specs.declared.Move.{Move}
 use Rattle.rules.specs.declared.Move.the-variants.{Ends, Calls, Waits, Goes, Creates, Spawns, Meets, LacksThread, LacksChannel}
 use Rattle.rules.specs.declared.Reason.{Reason}
@@ -24,7 +24,7 @@ use Rattle.rules_laws.specs.Granted.{Granted}
 use Rattle.rules_laws.specs.Codes.{clash}
 use Rattle.rules_laws.specs.Soundness.{Sound}
 use Rattle.rules_laws.specs.Lasting.{take-turn-kept}
-use Rattle.published.specs.Agents.{Thread, Agent}
+use Rattle.published.specs.Agents.{Thread}
 use Rattle.published.specs.Fired.{SteppedBy, Had, Turns, none-had, had}
 use Rattle.published_laws.specs.Readable.{Readable}
 use Rattle.published_laws.specs.Standing.{bodyOf, threadOf, channelsOf, agentOf, OurRules, OurLabels}

@@ -1,100 +1,21 @@
 -- One law for each way out of the functions that tally. Assumes nothing.
-use Prim.Native.Nat.{ℕ, _+_, _%_, _≤_, _<_}
+use Prim.Native.Nat.{ℕ, _+_, _%_, _≤_}
 use native.Mathlib.Omega.{arith}
 use native.Mathlib.Numerals.{add-one}
 use mathlib.Core.Path.{_≡_, refl, sym, _∙_}
-use mathlib.Core.Bool.{Bool, true, false, _&&_}
+use mathlib.Core.Bool.{Bool, true}
 use mathlib.Core.List.{List, []}
-use lib.Dec.{eqb}
 use lib.ListN.{length, getD, set, replicate, List·getD-eq-default}
 use lib.Seq.{set-out}
-use borrow.Author.Tests.{lt-ltb, le-ltb, eq-eqb, ne-eqb}
 use Rattle.numbers.specs.Count.{bit}
 use Rattle.numbers.specs.Search.{tabulate}
-use Rattle.numbers.specs.Search.Laws.{some-intro, some-zero, some-still}
-use Rattle.table.specs.Table.{Table, slotCount}
-use Rattle.table.specs.Layout.{definitionOf}
-use Rattle.state.specs.State.{stateOf, maxChannels, standsAt, status, slotOf, isWaiting}
+use Rattle.table.specs.Table.{Table}
+use Rattle.state.specs.State.{stateOf, maxChannels, isWaiting}
 use Rattle.state.specs.State.Laws.{length-threads}
-use Rattle.rules.specs.Program.{channelSlot}
-use Rattle.rules.specs.Holding.{hasAt, holders, waiters}
-use Rattle.recount.specs.Fresh.{ownSlots, hasTo, freshOf}
+use Rattle.rules.specs.Holding.{holders, waiters}
+use Rattle.holding.specs.Own.{ownList, ownRoom}
 use Rattle.recount.specs.Tally.{added, addedTo, rowAdded, addedBelow}
 use Rattle.recount.specs.Tally.Laws.{holders-counted, waiters-counted}
-
--- ---- own_slots
-
-module _ (tb : Table) (d n : ℕ) (e : n ≡ slotCount tb d) where
-  pub own-few : n < 16 → n ≡ ownSlots tb d
-  unfolding ownSlots
-  own-few h = rw (← e, lt-ltb n 16 h)
-
-  pub own-many : 16 ≤ n → 16 ≡ ownSlots tb d
-  unfolding ownSlots
-  own-many h = rw (← e, le-ltb n 16 h)
-
--- ---- has_at: d is the definition of the row's node, v what the slot has
-
-module _ (tb : Table) (row : List ℕ) (c k d v : ℕ) (e : d ≡ definitionOf tb (standsAt row)) (f : v ≡ slotOf row k) where
-  pub has-same : (r : Bool) → v ≡ c → r ≡ channelSlot tb d k → r ≡ hasAt tb row c k
-  unfolding hasAt
-  has-same r g h = rw (← e, ← f, eq-eqb v c g, h) (both (channelSlot tb d k))
-    where
-      both : (b : Bool) → b ≡ (b && true)
-      both true = refl
-      both false = refl
-
-  pub has-other : (v ≡ c → ⊥) → false ≡ hasAt tb row c k
-  unfolding hasAt
-  has-other g = rw (← e, ← f, ne-eqb v c g) (neither (channelSlot tb d k))
-    where
-      neither : (b : Bool) → false ≡ (b && false)
-      neither true = refl
-      neither false = refl
-
--- ---- has_before
-
-module _ (tb : Table) (row : List ℕ) (c : ℕ) where
-  pub has-none : hasTo tb row c 0 ≡ false
-  unfolding hasTo
-  has-none = some-zero (hasAt tb row c)
-
-  module _ (k : ℕ) (r : Bool) (f : r ≡ hasAt tb row c k) where
-    pub has-next : hasTo tb row c k ≡ false → r ≡ false → hasTo tb row c (k + 1) ≡ false
-    unfolding hasTo
-    has-next e g = rw (add-one k) (some-still (hasAt tb row c) k e (sym f ∙ g))
-
-    pub has-hit : (n : ℕ) → r ≡ true → k < n → true ≡ hasTo tb row c n
-    unfolding hasTo
-    has-hit n g h = sym (some-intro (hasAt tb row c) n k h (sym f ∙ g))
-
-  pub has-all : (k n : ℕ) → hasTo tb row c k ≡ false → k ≤ n → n ≤ k → false ≡ hasTo tb row c n
-  has-all k n e h l = let q : k ≡ n = omega arith in sym (rw q at e)
-
-pub ruleset has = (has-none, has-next, has-hit, has-all)
-
--- ---- fresh
-
-module _ (tb : Table) (row : List ℕ) (k d c : ℕ) (e : c ≡ slotOf row k) where
-  module _ (f : d ≡ definitionOf tb (standsAt row)) (b : Bool) (g : b ≡ channelSlot tb d k) (h : c < 128) where
-    module _ (i : b ≡ true) (r : Bool) (j : r ≡ hasTo tb row c k) where
-      pub fresh-new : r ≡ false → c ≡ freshOf tb row k
-      unfolding freshOf
-      fresh-new l = rw (← e, ← f, lt-ltb c 128 h, ← g, i, ← j, l)
-
-      pub fresh-old : r ≡ true → 128 ≡ freshOf tb row k
-      unfolding freshOf
-      fresh-old l = rw (← e, ← f, lt-ltb c 128 h, ← g, i, ← j, l)
-
-    pub fresh-number : b ≡ false → 128 ≡ freshOf tb row k
-    unfolding freshOf
-    fresh-number i = rw (← e, ← f, lt-ltb c 128 h, ← g, i)
-
-  pub fresh-high : 128 ≤ c → 128 ≡ freshOf tb row k
-  unfolding freshOf
-  fresh-high h = rw (← e, le-ltb c 128 h)
-
-pub ruleset freshes = (fresh-new, fresh-old, fresh-number, fresh-high)
 
 -- ---- byte_at and add
 
@@ -109,47 +30,31 @@ pub add-out : (l : List ℕ) (c w : ℕ) → length l ≤ c → l ≡ added l c 
 unfolding added
 add-out l c w h = sym (set-out l c ((getD l c 0 + w) % 256) h)
 
--- ---- add_slots
+-- ---- add_listed
 
-module _ (tb : Table) (row : List ℕ) (w : ℕ) (l : List ℕ) where
-  pub slots-none : l ≡ addedTo tb row w l 0
+module _ (own : List ℕ) (w : ℕ) (l : List ℕ) where
+  pub listed-none : l ≡ addedTo own w l 0
   unfolding addedTo
-  slots-none = refl
+  listed-none = refl
 
-  module _ (k : ℕ) (l₁ : List ℕ) (e : l₁ ≡ addedTo tb row w l k) where
-    pub slots-more : (l₂ : List ℕ) → l₂ ≡ added l₁ (freshOf tb row k) w → l₂ ≡ addedTo tb row w l (k + 1)
+  module _ (k : ℕ) (l₁ : List ℕ) (e : l₁ ≡ addedTo own w l k) where
+    pub listed-more : (l₂ : List ℕ) → l₂ ≡ added l₁ (getD own k 0) w → l₂ ≡ addedTo own w l (k + 1)
     unfolding addedTo
-    slots-more l₂ g = rw (g, e, add-one k)
+    listed-more l₂ g = rw (g, e, add-one k)
 
-    pub slots-all : (n : ℕ) → k ≤ n → n ≤ k → l₁ ≡ addedTo tb row w l n
-    slots-all n h i = let q : k ≡ n = omega arith in rw q at e
+    pub listed-all : (n : ℕ) → k ≤ n → n ≤ k → l₁ ≡ addedTo own w l n
+    listed-all n h i = let q : k ≡ n = omega arith in rw q at e
 
--- ---- waits_bit and add_row
+-- ---- add_row
 
-pub bit-waits : (s : ℕ) → s ≡ 2 → 1 ≡ bit (eqb s 2)
-unfolding bit
-bit-waits s e = rw (eq-eqb s 2 e)
-
-pub bit-other : (s : ℕ) → (s ≡ 2 → ⊥) → 0 ≡ bit (eqb s 2)
-unfolding bit
-bit-other s e = rw (ne-eqb s 2 e)
-
-pub definition-is : (tb : Table) (row : List ℕ) (d n : ℕ) → d ≡ definitionOf tb n → n ≡ standsAt row → d ≡ definitionOf tb (standsAt row)
-definition-is tb row d n e f = rw (← f) e
-
-module _ (tb : Table) (row l : List ℕ) (s : ℕ) (e : s ≡ status row) where
-  pub row-free : (w : ℕ) → s ≡ 0 → l ≡ rowAdded tb row w l
+module _ (tb : Table) (row own l m : List ℕ) (n : ℕ) (e : own ≡ ownList tb row) (f : n ≡ ownRoom tb row) where
+  pub row-held : m ≡ addedTo own 1 l n → m ≡ rowAdded tb row 1 l
   unfolding rowAdded
-  row-free w f = rw (← e, f)
+  row-held g = g ∙ rw (e, f)
 
-  module _ (m : List ℕ) (n d v : ℕ) (f : s ≡ 0 → ⊥) (g : n ≡ ownSlots tb d) (h : d ≡ definitionOf tb v) (i : v ≡ standsAt row) where
-    pub row-held : m ≡ addedTo tb row 1 l n → m ≡ rowAdded tb row 1 l
-    unfolding rowAdded
-    row-held j = rw (← e, ne-eqb s 0 f, ← i, ← h, ← g) j
-
-    pub row-waiting : (w : ℕ) → m ≡ addedTo tb row w l n → w ≡ bit (eqb s 2) → m ≡ rowAdded tb row (bit (isWaiting row)) l
-    unfolding rowAdded
-    row-waiting w j k = rw (← e, ← k, ne-eqb s 0 f, ← i, ← h, ← g) j
+  pub row-waiting : (w : ℕ) → m ≡ addedTo own w l n → w ≡ bit (isWaiting row) → m ≡ rowAdded tb row (bit (isWaiting row)) l
+  unfolding rowAdded
+  row-waiting w g h = g ∙ rw (e, f, h)
 
 -- ---- tally
 

@@ -19,8 +19,8 @@ use Rattle.table.specs.Roles.{operandPlace, operand, operandRole, reads, writes
 use Rattle.table.specs.declared.Part.the-variants.{Nodes, Branches}
 use Rattle.table.specs.declared.Role.{Role}
 use Rattle.table.specs.declared.Role.the-variants.{ReadChannel, WriteNumber, WriteChannel}
-use Rattle.checks.specs.Ranges.{roleInRange, argumentInRange, callInRange, definitionInRange, nodeInRange, operandInRange, branchInRange}
-use Rattle.checks.specs.Types.{roleTyped, portTyped, portsTyped, argumentTyped, nodeTyped, operandTyped, branchTyped, rowTyped, typesDisagree}
+use Rattle.ranges.specs.Ranges.{roleInRange, argumentInRange, callInRange, definitionInRange, nodeInRange, operandInRange, branchInRange}
+use Rattle.types.specs.Types.{roleTyped, portTyped, portsTyped, argumentTyped, nodeTyped, operandTyped, branchTyped, rowTyped, typesDisagree}
 use Rattle.flow.specs.Flow.{mayLack, readsUnwritten}
 use Rattle.loader.specs.Load.{accepted}
 use Rattle.loader_laws.specs.Blocks.{Stands, start-suc, stands-line, owner-is}

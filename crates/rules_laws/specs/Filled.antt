@@ -1,40 +1,36 @@
 -- The clause of soundness on filled slots, in document 01's words: every channel slot is filled that is a parameter or is written on every path to the node.
 -- Paths are those of loading. Assumes nothing.
 use Prim.Native.Nat.{ℕ, _<_}
-use native.Mathlib.Omega.{arith}
-use mathlib.Core.Path.{_≡_, refl}
+use mathlib.Core.Path.{_≡_}
 use mathlib.Core.Logic.{_↔_, _≢_}
 use mathlib.Core.Bool.{true, not, _||_}
-use mathlib.Core.List.{List, [], _∷_}
+use mathlib.Core.List.{List}
 use lib.Dec.{ltb, leb}
-use lib.ListN.{getD}
 use borrow.Author.Tests.{ltb-true, eqb-false, ne-eqb, not-true}
 use Rattle.numbers.specs.Search.{every}
-use Rattle.numbers.specs.Search.Laws.{caseB, contra, every-elim, every-intro}
+use Rattle.numbers.specs.Search.Laws.{caseB, every-elim, every-intro}
 use Rattle.numbers.specs.Tests.{and-right, parts}
-use Rattle.table.specs.Table.{Table, tableOf, nodes}
+use Rattle.table.specs.Table.{Table, nodes}
 use Rattle.table.specs.Layout.{definitionOf}
 use Rattle.flow.specs.Flow.{mayLack}
-use Rattle.loader.specs.Load.{accepted}
 use Rattle.loader_laws.specs.Paths.{SurelyWritten}
 use Rattle.loader_laws.specs.Paths.Laws.{written-iff}
 use Rattle.loader_laws.specs.Grounds.{edges}
-use Rattle.loader_laws.specs.FileExamples.{inputRows, header, definition, setting, verdicts}
 use Rattle.state.specs.State.{State, maxThreads, rowSlots, minusOne, thread, status, standsAt, slotOf, inUse}
 use Rattle.rules.specs.Program.{channelSlot}
 use Rattle.rules.specs.Sound.{rowInRange, slotFilled, slotsFilled, sound}
-use Rattle.rules_laws.specs.Passed.{Passed, judged-passed, accepted-passed}
+use Rattle.rules_laws.specs.Passed.{Passed}
 
 -- slot k of a thread's row, if it is a channel slot that surely has been written where the thread stands, holds a channel
 abbrev pub FilledIfSure : Table → List ℕ → ℕ → Type 0
 FilledIfSure tb row k = channelSlot tb (definitionOf tb (standsAt row)) k ≡ true → SurelyWritten tb (standsAt row) k → slotOf row k ≢ minusOne
 
--- so for each slot of a thread
+-- each slot of a thread, if it is such a slot, holds a channel
 abbrev pub FilledRow : Table → List ℕ → Type 0
 FilledRow tb row = inUse row ≡ true → (k : ℕ) → k < rowSlots → FilledIfSure tb row k
 
 module _ (tb : Table) (a : Passed tb) where
-  -- the test of a slot, which asks the forward pass, says just this
+  -- the test of a slot, which asks the forward pass, says that the slot is filled if it surely has been written
   pub slot-filled-iff : (row : List ℕ) (k : ℕ) → standsAt row < nodes tb → k < rowSlots → (slotFilled tb row k ≡ true) ↔ FilledIfSure tb row k
   unfolding slotFilled
   slot-filled-iff row k h l =
@@ -52,7 +48,7 @@ module _ (tb : Table) (a : Passed tb) where
       let q : (not (inUse row) || ltb (standsAt row) (nodes tb)) ≡ true = and-right (leb (status row) 2) _ e in
       ltb-true (standsAt row) (nodes tb) (rw u at q)
 
-  -- so does the test of a row whose node is in range
+  -- the test of a row whose node is in range says that each of its slots is
   pub row-filled-iff : (row : List ℕ) → rowInRange tb row ≡ true → (slotsFilled tb row ≡ true) ↔ FilledRow tb row
   unfolding slotsFilled
   row-filled-iff row r = (
@@ -62,7 +58,7 @@ module _ (tb : Table) (a : Passed tb) where
         (λ u. rw u),
   )
 
-  -- and the clause of soundness
+  -- the clause of soundness says that the slots of every row are
   pub filled-iff : (s : State) → every (λ t. rowInRange tb (thread s t)) maxThreads ≡ true
       → (every (λ t. slotsFilled tb (thread s t)) maxThreads ≡ true) ↔ ((t : ℕ) → t < maxThreads → FilledRow tb (thread s t))
   filled-iff s r =
@@ -71,35 +67,7 @@ module _ (tb : Table) (a : Passed tb) where
         λ f. every-intro (λ t. slotsFilled tb (thread s t)) maxThreads (λ t l. row-filled-iff (thread s t) (range t l) .1 (f t l)),
       )
 
-  -- so in a sound state
+  -- in a sound state they are
   pub sound-filled : (s : State) → sound tb s ≡ true → (t : ℕ) → t < maxThreads → FilledRow tb (thread s t)
   unfolding sound
   sound-filled s e = filled-iff s (search parts depth 12) .0 (search parts depth 12)
-
--- of the bytes of a table that is accepted
-pub accepted-filled : (b : List ℕ) → accepted b ≡ true → ((i : ℕ) → getD b i 0 < 256) → (s : State) → every (λ t. rowInRange (tableOf b) (thread s t)) maxThreads ≡ true
-    → (every (λ t. slotsFilled (tableOf b) (thread s t)) maxThreads ≡ true) ↔ ((t : ℕ) → t < maxThreads → FilledRow (tableOf b) (thread s t))
-accepted-filled b e fit = filled-iff (tableOf b) (accepted-passed b e fit)
-
--- ---- the listing's program: node 0 makes a channel in slot 0, and node 1 is next
-
-abbrev listing : Table
-listing = inputRows header definition setting
-
-listing-passed : Passed listing
-unfolding verdicts
-listing-passed = judged-passed listing 16 refl
-
--- a thread that stands at node n with no channel in slot 0
-abbrev lacking : ℕ → List ℕ
-lacking n = 1 ∷ n ∷ minusOne ∷ []
-
--- at node 0 it may lack it
-pub listing-may-lack : FilledIfSure listing (lacking 0) 0
-unfolding verdicts channelSlot slotFilled
-listing-may-lack = slot-filled-iff listing listing-passed (lacking 0) 0 (omega arith) (omega arith) .0 refl
-
--- at node 1 no more
-pub listing-must-hold : ¬ FilledIfSure listing (lacking 1) 0
-unfolding verdicts channelSlot slotFilled
-listing-must-hold f = contra (slot-filled-iff listing listing-passed (lacking 1) 0 (omega arith) (omega arith) .1 f) refl

@@ -16,8 +16,8 @@ use Rattle.numbers.specs.Search.Laws.{caseB}
 use Rattle.numbers.specs.Tests.{and-left, and-right}
 use Rattle.table.specs.Table.{Table, maxRows, rowNumbers, tableOf, lineTotal}
 use Rattle.table.specs.Form.{kindWrong, sumsAgree}
-use Rattle.checks.specs.Ranges.{outOfRange}
-use Rattle.checks.specs.Types.{typesDisagree}
+use Rattle.ranges.specs.Ranges.{outOfRange}
+use Rattle.types.specs.Types.{typesDisagree}
 use Rattle.flow.specs.Flow.{readsUnwritten, unreachable}
 use Rattle.loader.specs.File.{lineCount}
 use Rattle.loader.specs.Verdict.{atFault, judgedFlow, judgedRows, judged}

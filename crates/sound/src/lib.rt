@@ -6,7 +6,7 @@ ghost use Rattle.numbers.specs.Search.{every, tabulate};
 ghost use Rattle.table.specs.Table.{tableOf, ports};
 ghost use Rattle.table.specs.Layout.{definitionOf};
 ghost use Rattle.table.specs.Index.{Indexed};
-ghost use Rattle.flow.specs.Flow.{flow, marked};
+ghost use Rattle.flow.specs.Flow.{flow};
 ghost use Rattle.flow.specs.Marks.{marksOf};
 ghost use Rattle.state.specs.State.{stateOf, maxThreads, maxChannels, threadWords, rowSlots, thread, standsAt};
 ghost use Rattle.rules.specs.Holding.{countOf, holders, waiters};
@@ -20,9 +20,6 @@ const CHANNELS: u32 = 128;
 const THREAD_WORDS: u32 = 18;
 
 const ROW_SLOTS: u32 = 16;
-
-// Marks 0 to 15 of a node are slots, mark 16 is the path itself.
-const MARKS: u32 = 17;
 
 const MINUS_ONE: u32 = 4294967295;
 
@@ -38,16 +35,6 @@ fn marks_in_range(state: &[u32; state::WORDS]) -> bool
         if state::mark(state, 1) < CHANNELS {
             return state::mark(state, 2) < THREADS;
         }
-    }
-    false
-}
-
-// Whether node n has mark k: some path to it leaves slot k unwritten.
-fn is_marked(marks: &[u32], n: usize, k: u32) -> bool
-    ensures { λ r. ⌜ r ≡ marked (marksOf (now (marks .entry))) n k ⌝ }
-{
-    if k < MARKS {
-        return (numbers::cell_at(marks, n) >> k) % 2 == 1;
     }
     false
 }
@@ -71,12 +58,12 @@ fn slot_sound(
 {
     let v = program::slot(state, t, k);
     if k < table::slot_count_of(table, index, d) {
-        let ty = program::slot_type(table, index, d, k);
+        let ty = table::slot_type(table, index, d, k);
         if ty == 0 {
             return true;
         }
         if v == MINUS_ONE {
-            return is_marked(marks, n as usize, k);
+            return flow::is_marked(marks, n as usize, k);
         }
         if v < CHANNELS {
             return state::channel_word(state, v as usize, 0) == ty;
@@ -86,6 +73,7 @@ fn slot_sound(
     v == 0
 }
 
+// Whether each slot of thread t, which is in use and stands at node n of definition d, is 0 if it is spare, typed, and filled if it must be.
 fn slots_sound(
     table: &[u8],
     index: &[u32],
@@ -121,7 +109,7 @@ fn row_is_zero(state: &[u32; state::WORDS], t: u32) -> bool
     true
 }
 
-// All tests of thread t's row.
+// Whether thread t's row passes all its tests.
 fn row_sound(
     table: &[u8],
     index: &[u32],
@@ -155,6 +143,7 @@ fn row_sound(
     false
 }
 
+// Whether every thread row passes all its tests, by the marks of the flow.
 fn rows_sound(table: &[u8], index: &[u32], marks: &[u32], state: &[u32; state::WORDS]) -> bool
     requires { ⌜ Indexed (tableOf (now table)) (now index) ⌝ }
     requires { ⌜ marksOf (now marks) ≡ flow (tableOf (now table)) ⌝ }
@@ -168,13 +157,13 @@ fn rows_sound(table: &[u8], index: &[u32], marks: &[u32], state: &[u32; state::W
     true
 }
 
-// All tests of all thread rows.
+// Whether every thread row passes all its tests.
 fn threads_sound(table: &[u8], index: &[u32], state: &[u32; state::WORDS]) -> bool
     requires { ⌜ Indexed (tableOf (now table)) (now index) ⌝ }
     ensures { λ r. ⌜ r ≡ every (λ t. rowSound (tableOf (now (table .entry))) (stateOf (now (state .entry))) (thread (stateOf (now (state .entry))) t)) maxThreads ⌝ }
 {
     let mut marks = [0u32; 192];
-    loader::mark_flow(table, index, &mut marks);
+    flow::mark_flow(table, index, &mut marks);
     rows_sound(table, index, &marks, state)
 }
 
@@ -217,6 +206,7 @@ fn channel_sound(
     0 < count
 }
 
+// Whether the counts of all channels are those that were counted.
 fn channels_sound(table: &[u8], state: &[u32; state::WORDS], held: &[u8], waiting: &[u8]) -> bool
     requires { ⌜ now held ≡ tabulate maxChannels (holders (tableOf (now table)) (stateOf (now state) .threads)) ⌝ }
     requires { ⌜ now waiting ≡ tabulate maxChannels (waiters (tableOf (now table)) (stateOf (now state) .threads)) ⌝ }
@@ -254,7 +244,7 @@ fn ports_sound(table: &[u8], state: &[u32; state::WORDS]) -> bool
     true
 }
 
-// Ground 10.
+// Whether a state is sound for a table: ground 10.
 pub fn is_sound(table: &[u8], index: &[u32], state: &[u32; state::WORDS]) -> bool
     requires { ⌜ Indexed (tableOf (now table)) (now index) ⌝ }
     ensures { λ r. ⌜ r ≡ sound (tableOf (now (table .entry))) (stateOf (now (state .entry))) ⌝ }

@@ -12,8 +12,6 @@ const THREADS: u32 = 64;
 
 const CHANNELS: u32 = 128;
 
-const ROW_SLOTS: usize = 16;
-
 // Every thread row is free.
 fn free_threads(state: &mut [u32; state::WORDS])
     ensures { λ _. ⌜ stateOf (now (state .exit)) ≡ freed (stateOf (now (state .entry))) ⌝ }
@@ -82,9 +80,9 @@ pub fn write_started(table: &[u8], index: &[u32], state: &mut [u32; state::WORDS
     requires { ⌜ Indexed (tableOf (now table)) (now index) ⌝ }
     ensures { λ _. ⌜ stateOf (now (state .exit)) ≡ started (tableOf (now (table .entry))) ⌝ }
 {
-    let mut old = [0u8; ROW_SLOTS];
+    let mut old = [0u8; holding::LIST];
     write_unstarted(table, state);
-    let waits = upkeep::take_down(table, index, state, 0, &mut old);
+    let waits = upkeep::note_held(table, index, state, 0, &mut old);
     thread_rows::write_start(table, index, state);
     upkeep::settle_one(table, index, state, 0, &old, waits);
 }

@@ -1,4 +1,3 @@
 pub mod Cells
 pub mod Arms
-pub mod Sums
 pub mod Places

@@ -1,6 +1,5 @@
 -- The index of a table: where each block starts, the definition of each node, the node of each branch and the first row of each kind, in one list, so that
 -- a look-up is one read.
-pub mod Laying
 pub mod Laws
 use Prim.Native.Nat.{ℕ, _+_, _-_, _<_}
 use mathlib.Core.Bool.{true, cond}

@@ -1,36 +1,18 @@
-// Reading a loaded table: its rows, how its blocks lie, the index of it, and ground 3. Rows and numbers are counted from 0.
+// Reading a loaded table: its numbers, the rows of each kind of line, how its blocks lie, and all of that by the table's index. Rows and numbers are
+// counted from 0.
 ghost use mathlib.Core.Path.{_≡_};
-ghost use mathlib.Core.Bool.{true};
 ghost use Prim.Native.Nat.{_+_, _-_, _≤_, _<_};
-ghost use mathlib.Core.List.{[], _∷_};
-ghost use lib.ListN.{getD, replicate};
-ghost use Rattle.numbers.specs.Bytes.{little};
 ghost use Rattle.numbers.specs.Rows.{at};
-ghost use Rattle.numbers.specs.Search.{first};
 ghost use Rattle.table.specs.Table.{tableOf, definitionRow, slotRow, nodeRow, branchRow, lineTotal, parameters, slotCount, nodeCount};
-ghost use Rattle.table.specs.Layout.{blocks, lines, branchCount, size, start, owner, endsPast, definitionOf, nodeOf};
-ghost use Rattle.table.specs.Index.{startsFrom, startsRoom, ownersFrom, ownersRoom, indexLength, indexOf, entry, Starts, Indexed};
-ghost use Rattle.numbers.specs.Laid.{laid};
-ghost use Rattle.table.specs.Form.{within, headerInRange, kindDue, kindWrong, gain, loss, sumAgrees, sumsAgree};
-ghost use Rattle.table.specs.Roles.{guardRole, actionRole, operandPlace, operand, operandRole, reads, writes};
+ghost use Rattle.table.specs.Layout.{blocks, lines, branchCount, size, start, owner, definitionOf, nodeOf, slotType};
+ghost use Rattle.table.specs.Index.{startsFrom, startsRoom, ownersFrom, ownersRoom, Indexed};
+ghost use Rattle.table.specs.Form.{within};
 
 const MAX_ROWS: usize = 865;
 
 const ROW_NUMBERS: usize = 12;
 
-const MAX_TYPES: u32 = 16;
-
-const MAX_DEFINITIONS: u32 = 16;
-
-const MAX_SLOTS: u32 = 256;
-
-const MAX_NODES: u32 = 192;
-
-const MAX_BRANCHES: u32 = 384;
-
-const MAX_PORTS: u32 = 8;
-
-// The places of the first rows in an index.
+// The places in an index of the first row of each kind of line.
 const DEFINITION_ROW: usize = 803;
 
 const SLOT_ROW: usize = 804;
@@ -58,14 +40,6 @@ pub enum Role {
     WriteCarried,
 }
 
-// The number of two bytes, the lower first.
-fn pair(a: u8, b: u8) -> u32
-    ensures { λ r. ⌜ r ≡ little (a ∷ b ∷ []) ⌝ }
-    ensures { λ r. ⌜ r < 65536 ⌝ }
-{
-    a as u32 + b as u32 * 256
-}
-
 // Number k of a row; 0 outside the table.
 pub fn cell(table: &[u8], row: usize, k: usize) -> u32
     ensures { λ r. ⌜ r ≡ at (tableOf (now (table .entry))) row k ⌝ }
@@ -79,7 +53,7 @@ pub fn cell(table: &[u8], row: usize, k: usize) -> u32
     0
 }
 
-// The first row of each kind of line.
+// The row of the first definition: it follows the header and the types.
 pub fn definition_row(table: &[u8]) -> usize
     ensures { λ r. ⌜ r ≡ definitionRow (tableOf (now (table .entry))) ⌝ }
     ensures { λ r. ⌜ r ≤ 65536 ⌝ }
@@ -87,6 +61,7 @@ pub fn definition_row(table: &[u8]) -> usize
     1 + cell(table, 0, 1) as usize
 }
 
+// The row of the first slot.
 pub fn slot_row(table: &[u8]) -> usize
     ensures { λ r. ⌜ r ≡ slotRow (tableOf (now (table .entry))) ⌝ }
     ensures { λ r. ⌜ r ≤ 131072 ⌝ }
@@ -94,6 +69,7 @@ pub fn slot_row(table: &[u8]) -> usize
     definition_row(table) + cell(table, 0, 2) as usize
 }
 
+// The row of the first node.
 pub fn node_row(table: &[u8]) -> usize
     ensures { λ r. ⌜ r ≡ nodeRow (tableOf (now (table .entry))) ⌝ }
     ensures { λ r. ⌜ r ≤ 196608 ⌝ }
@@ -101,6 +77,7 @@ pub fn node_row(table: &[u8]) -> usize
     slot_row(table) + cell(table, 0, 3) as usize
 }
 
+// The row of the first branch.
 pub fn branch_row(table: &[u8]) -> usize
     ensures { λ r. ⌜ r ≡ branchRow (tableOf (now (table .entry))) ⌝ }
     ensures { λ r. ⌜ r ≤ 262144 ⌝ }
@@ -115,7 +92,7 @@ pub fn line_total(table: &[u8]) -> usize
     branch_row(table) + cell(table, 0, 5) as usize
 }
 
-// Of definition d: its parameters, slots and nodes.
+// The number of parameters of definition d.
 pub fn parameters_of(table: &[u8], d: u32) -> u32
     ensures { λ r. ⌜ r ≡ parameters (tableOf (now (table .entry))) d ⌝ }
     ensures { λ r. ⌜ r < 65536 ⌝ }
@@ -123,6 +100,7 @@ pub fn parameters_of(table: &[u8], d: u32) -> u32
     cell(table, definition_row(table) + d as usize, 1)
 }
 
+// The number of slots of definition d.
 pub fn slots_of(table: &[u8], d: u32) -> u32
     ensures { λ r. ⌜ r ≡ slotCount (tableOf (now (table .entry))) d ⌝ }
     ensures { λ r. ⌜ r < 65536 ⌝ }
@@ -130,6 +108,7 @@ pub fn slots_of(table: &[u8], d: u32) -> u32
     cell(table, definition_row(table) + d as usize, 2)
 }
 
+// The number of nodes of definition d.
 pub fn nodes_of(table: &[u8], d: u32) -> u32
     ensures { λ r. ⌜ r ≡ nodeCount (tableOf (now (table .entry))) d ⌝ }
     ensures { λ r. ⌜ r < 65536 ⌝ }
@@ -137,7 +116,7 @@ pub fn nodes_of(table: &[u8], d: u32) -> u32
     cell(table, definition_row(table) + d as usize, 3)
 }
 
-// How many blocks a part has, how many lines the header gives to it, and how large block i is.
+// How many blocks a part has.
 pub fn blocks_of(table: &[u8], part: Part) -> u32
     ensures { λ r. ⌜ r ≡ blocks (tableOf (now (table .entry))) part ⌝ }
     ensures { λ r. ⌜ r < 65536 ⌝ }
@@ -149,6 +128,7 @@ pub fn blocks_of(table: &[u8], part: Part) -> u32
     }
 }
 
+// How many lines the header gives to a part.
 pub fn lines_of(table: &[u8], part: Part) -> u32
     ensures { λ r. ⌜ r ≡ lines (tableOf (now (table .entry))) part ⌝ }
     ensures { λ r. ⌜ r < 65536 ⌝ }
@@ -160,6 +140,7 @@ pub fn lines_of(table: &[u8], part: Part) -> u32
     }
 }
 
+// How many branches a node has: a choice says it, and other nodes have none.
 pub fn branch_count(table: &[u8], node: u32) -> u32
     ensures { λ r. ⌜ r ≡ branchCount (tableOf (now (table .entry))) node ⌝ }
     ensures { λ r. ⌜ r < 65536 ⌝ }
@@ -171,7 +152,8 @@ pub fn branch_count(table: &[u8], node: u32) -> u32
     0
 }
 
-fn block_size(table: &[u8], part: Part, i: u32) -> u32
+// How many lines block i of a part has.
+pub fn block_size(table: &[u8], part: Part, i: u32) -> u32
     ensures { λ r. ⌜ r ≡ size (tableOf (now (table .entry))) part i ⌝ }
     ensures { λ r. ⌜ r < 65536 ⌝ }
 {
@@ -192,237 +174,8 @@ pub fn is_within(least: u32, most: u32, v: u32) -> bool
     v <= most
 }
 
-// Ground 3: whether the header's counts are in range.
-pub fn header_in_range(table: &[u8]) -> bool
-    ensures { λ r. ⌜ r ≡ headerInRange (tableOf (now (table .entry))) ⌝ }
-{
-    if !is_within(0, MAX_TYPES, cell(table, 0, 1)) {
-        return false;
-    }
-    if !is_within(1, MAX_DEFINITIONS, cell(table, 0, 2)) {
-        return false;
-    }
-    if !is_within(0, MAX_SLOTS, cell(table, 0, 3)) {
-        return false;
-    }
-    if !is_within(1, MAX_NODES, cell(table, 0, 4)) {
-        return false;
-    }
-    if !is_within(0, MAX_BRANCHES, cell(table, 0, 5)) {
-        return false;
-    }
-    is_within(0, MAX_PORTS, cell(table, 0, 6))
-}
-
-// The kind that the header's counts give a row.
-fn kind_due(table: &[u8], row: usize) -> u32
-    ensures { λ r. ⌜ r ≡ kindDue (tableOf (now (table .entry))) row ⌝ }
-{
-    if row < 1 {
-        return 1;
-    }
-    if row < definition_row(table) {
-        return 2;
-    }
-    if row < slot_row(table) {
-        return 3;
-    }
-    if row < node_row(table) {
-        return 4;
-    }
-    if row < branch_row(table) {
-        return 5;
-    }
-    6
-}
-
-fn kind_wrong(table: &[u8], row: usize) -> bool
-    ensures { λ r. ⌜ r ≡ kindWrong (tableOf (now (table .entry))) row ⌝ }
-{
-    cell(table, row, 0) != kind_due(table, row)
-}
-
-// The first of n rows whose kind is wrong; n where there is none.
-pub fn first_kind_wrong(table: &[u8], n: usize) -> usize
-    ensures { λ r. ⌜ r ≡ first (kindWrong (tableOf (now (table .entry)))) n ⌝ }
-{
-    for row in 0..n {
-        if kind_wrong(table, row) {
-            return row;
-        }
-    }
-    n
-}
-
-fn gain_of(v: u32) -> u32
-    requires { ⌜ v < 65536 ⌝ }
-    ensures { λ r. ⌜ r ≡ gain v ⌝ }
-    ensures { λ r. ⌜ r < 65536 ⌝ }
-{
-    if v < 32768 {
-        return v;
-    }
-    0
-}
-
-fn loss_of(v: u32) -> u32
-    requires { ⌜ v < 65536 ⌝ }
-    ensures { λ r. ⌜ r ≡ loss v ⌝ }
-    ensures { λ r. ⌜ r < 65536 ⌝ }
-{
-    if v < 32768 {
-        return 0;
-    }
-    65536 - v
-}
-
-// Whether the sizes of a part's blocks, which nothing has bounded yet, add up to the header's count.
-fn sum_agrees(table: &[u8], part: Part) -> bool
-    ensures { λ r. ⌜ r ≡ sumAgrees (tableOf (now (table .entry))) part ⌝ }
-{
-    let n = blocks_of(table, part);
-    let mut gains: u32 = 0;
-    let mut losses: u32 = 0;
-    for i in 0..n {
-        let v = block_size(table, part, i);
-        gains += gain_of(v);
-        losses += loss_of(v);
-    }
-    gains as usize == lines_of(table, part) as usize + losses as usize
-}
-
-pub fn sums_agree(table: &[u8]) -> bool
-    ensures { λ r. ⌜ r ≡ sumsAgree (tableOf (now (table .entry))) ⌝ }
-{
-    if !sum_agrees(table, Part::Slots) {
-        return false;
-    }
-    if !sum_agrees(table, Part::Nodes) {
-        return false;
-    }
-    sum_agrees(table, Part::Branches)
-}
-
-// The role of operand k of guard g, and of operand k of action a.
-pub fn guard_role(g: u32, k: u32) -> Role
-    ensures { λ r. ⌜ r ≡ guardRole g k ⌝ }
-{
-    if g == 0 {
-        return Role::Unused;
-    }
-    if g < 3 {
-        if k == 0 {
-            return Role::ReadNumber;
-        }
-        return Role::Constant;
-    }
-    Role::ReadNumber
-}
-
-pub fn action_role(a: u32, k: u32) -> Role
-    ensures { λ r. ⌜ r ≡ actionRole a k ⌝ }
-{
-    if a == 1 {
-        if k == 0 {
-            return Role::ReadChannel;
-        }
-        if k == 1 {
-            return Role::ReadCarried;
-        }
-        return Role::Unused;
-    }
-    if a == 2 {
-        if k == 0 {
-            return Role::ReadChannel;
-        }
-        if k == 1 {
-            return Role::WriteCarried;
-        }
-        return Role::Unused;
-    }
-    if a == 3 {
-        if k == 0 {
-            return Role::WriteChannel;
-        }
-        return Role::Unused;
-    }
-    if a == 5 {
-        if k == 0 {
-            return Role::WriteNumber;
-        }
-        if k == 1 {
-            return Role::Constant;
-        }
-        return Role::Unused;
-    }
-    if 5 < a {
-        if k == 0 {
-            return Role::WriteNumber;
-        }
-        return Role::ReadNumber;
-    }
-    Role::Unused
-}
-
-fn operand_place(k: u32) -> usize
-    requires { ⌜ k < 5 ⌝ }
-    ensures { λ r. ⌜ r ≡ operandPlace k ⌝ }
-{
-    if k < 2 {
-        return 2 + k as usize;
-    }
-    3 + k as usize
-}
-
-// Operand k of the branch in a row, and its role.
-pub fn operand_of(table: &[u8], row: usize, k: u32) -> u32
-    requires { ⌜ k < 5 ⌝ }
-    ensures { λ r. ⌜ r ≡ operand (tableOf (now (table .entry))) row k ⌝ }
-    ensures { λ r. ⌜ r < 65536 ⌝ }
-{
-    cell(table, row, operand_place(k))
-}
-
-pub fn role_of(table: &[u8], row: usize, k: u32) -> Role
-    ensures { λ r. ⌜ r ≡ operandRole (tableOf (now (table .entry))) row k ⌝ }
-{
-    if k < 2 {
-        return guard_role(cell(table, row, 1), k);
-    }
-    action_role(cell(table, row, 4), k - 2)
-}
-
-pub fn is_read(role: Role) -> bool
-    ensures { λ r. ⌜ r ≡ reads role ⌝ }
-{
-    match role {
-        Role::Unused => false,
-        Role::Constant => false,
-        Role::ReadNumber => true,
-        Role::ReadChannel => true,
-        Role::ReadCarried => true,
-        Role::WriteNumber => false,
-        Role::WriteChannel => false,
-        Role::WriteCarried => false,
-    }
-}
-
-pub fn is_written(role: Role) -> bool
-    ensures { λ r. ⌜ r ≡ writes role ⌝ }
-{
-    match role {
-        Role::Unused => false,
-        Role::Constant => false,
-        Role::ReadNumber => false,
-        Role::ReadChannel => false,
-        Role::ReadCarried => false,
-        Role::WriteNumber => true,
-        Role::WriteChannel => true,
-        Role::WriteCarried => true,
-    }
-}
-
-fn starts_from(part: Part) -> usize
+// The place in an index where the starts of a part begin.
+pub fn starts_from(part: Part) -> usize
     ensures { λ r. ⌜ r ≡ startsFrom part ⌝ }
     ensures { λ r. ⌜ r ≤ 34 ⌝ }
 {
@@ -433,7 +186,8 @@ fn starts_from(part: Part) -> usize
     }
 }
 
-fn owners_from(part: Part) -> usize
+// The place in an index where the owners of a part begin.
+pub fn owners_from(part: Part) -> usize
     ensures { λ r. ⌜ r ≡ ownersFrom part ⌝ }
     ensures { λ r. ⌜ r ≤ 419 ⌝ }
 {
@@ -444,7 +198,7 @@ fn owners_from(part: Part) -> usize
     }
 }
 
-// How many places a part has for its starts, and how many for its owners.
+// How many places an index has for the starts of a part.
 fn starts_room(part: Part) -> u32
     ensures { λ r. ⌜ r ≡ startsRoom part ⌝ }
 {
@@ -455,6 +209,7 @@ fn starts_room(part: Part) -> u32
     }
 }
 
+// How many places an index has for the owners of a part.
 fn owners_room(part: Part) -> usize
     ensures { λ r. ⌜ r ≡ ownersRoom part ⌝ }
     ensures { λ r. ⌜ r ≤ 384 ⌝ }
@@ -464,13 +219,6 @@ fn owners_room(part: Part) -> usize
         Part::Nodes => 192,
         Part::Branches => 384,
     }
-}
-
-// The place of a part's start i in an index, read.
-fn start_at(index: &[u32], part: Part, i: u32) -> u32
-    ensures { λ r. ⌜ r ≡ getD (now (index .entry)) (startsFrom part + i) 0 ⌝ }
-{
-    numbers::cell_at(index, starts_from(part) + i as usize)
 }
 
 // Where block i of a part starts; 0 past the end of the last block.
@@ -485,7 +233,7 @@ pub fn start_of(table: &[u8], index: &[u32], part: Part, i: u32) -> u32
     0
 }
 
-// The same for a block that is there, and for the end of the last.
+// Where block i of a part starts, for a block that is there or one past the last.
 pub fn start_within(table: &[u8], index: &[u32], part: Part, i: u32) -> u32
     requires { ⌜ Indexed (tableOf (now table)) (now index) ⌝ }
     requires { ⌜ i ≤ blocks (tableOf (now table)) part ⌝ }
@@ -508,7 +256,7 @@ pub fn owner_of(table: &[u8], index: &[u32], part: Part, x: usize) -> u32
     0
 }
 
-// The first row of each kind of line, from the index.
+// The row of the first definition, from the index.
 pub fn definition_row_of(table: &[u8], index: &[u32]) -> usize
     requires { ⌜ Indexed (tableOf (now table)) (now index) ⌝ }
     ensures { λ r. ⌜ r ≡ definitionRow (tableOf (now (table .entry))) ⌝ }
@@ -517,6 +265,7 @@ pub fn definition_row_of(table: &[u8], index: &[u32]) -> usize
     index[DEFINITION_ROW] as usize
 }
 
+// The row of the first slot, from the index.
 pub fn slot_row_of(table: &[u8], index: &[u32]) -> usize
     requires { ⌜ Indexed (tableOf (now table)) (now index) ⌝ }
     ensures { λ r. ⌜ r ≡ slotRow (tableOf (now (table .entry))) ⌝ }
@@ -525,6 +274,7 @@ pub fn slot_row_of(table: &[u8], index: &[u32]) -> usize
     index[SLOT_ROW] as usize
 }
 
+// The row of the first node, from the index.
 pub fn node_row_of(table: &[u8], index: &[u32]) -> usize
     requires { ⌜ Indexed (tableOf (now table)) (now index) ⌝ }
     ensures { λ r. ⌜ r ≡ nodeRow (tableOf (now (table .entry))) ⌝ }
@@ -533,6 +283,7 @@ pub fn node_row_of(table: &[u8], index: &[u32]) -> usize
     index[NODE_ROW] as usize
 }
 
+// The row of the first branch, from the index.
 pub fn branch_row_of(table: &[u8], index: &[u32]) -> usize
     requires { ⌜ Indexed (tableOf (now table)) (now index) ⌝ }
     ensures { λ r. ⌜ r ≡ branchRow (tableOf (now (table .entry))) ⌝ }
@@ -550,13 +301,13 @@ pub fn cell_of(table: &[u8], index: &[u32], row: usize, k: usize) -> u32
     if row < MAX_ROWS {
         if k < ROW_NUMBERS {
             let place = (row * ROW_NUMBERS + k) * 2;
-            return pair(table[place], table[place + 1]);
+            return numbers::pair(table[place], table[place + 1]);
         }
     }
     0
 }
 
-// Of definition d its parameters and slots, and of a node its branches, read with the index.
+// The number of parameters of definition d, read with the index.
 pub fn parameter_count_of(table: &[u8], index: &[u32], d: u32) -> u32
     requires { ⌜ Indexed (tableOf (now table)) (now index) ⌝ }
     ensures { λ r. ⌜ r ≡ parameters (tableOf (now (table .entry))) d ⌝ }
@@ -570,6 +321,7 @@ pub fn parameter_count_of(table: &[u8], index: &[u32], d: u32) -> u32
     )
 }
 
+// The number of slots of definition d, read with the index.
 pub fn slot_count_of(table: &[u8], index: &[u32], d: u32) -> u32
     requires { ⌜ Indexed (tableOf (now table)) (now index) ⌝ }
     ensures { λ r. ⌜ r ≡ slotCount (tableOf (now (table .entry))) d ⌝ }
@@ -583,6 +335,7 @@ pub fn slot_count_of(table: &[u8], index: &[u32], d: u32) -> u32
     )
 }
 
+// How many branches a node has, read with the index.
 pub fn branch_count_of(table: &[u8], index: &[u32], node: u32) -> u32
     requires { ⌜ Indexed (tableOf (now table)) (now index) ⌝ }
     ensures { λ r. ⌜ r ≡ branchCount (tableOf (now (table .entry))) node ⌝ }
@@ -595,7 +348,17 @@ pub fn branch_count_of(table: &[u8], index: &[u32], node: u32) -> u32
     0
 }
 
-// The node in a row and the branch in a row, counted over the whole file; 0 for the rows before them.
+// The type of slot k of definition d.
+pub fn slot_type(table: &[u8], index: &[u32], d: u32, k: u32) -> u32
+    requires { ⌜ Indexed (tableOf (now table)) (now index) ⌝ }
+    ensures { λ r. ⌜ r ≡ slotType (tableOf (now (table .entry))) d k ⌝ }
+    ensures { λ r. ⌜ r < 65536 ⌝ }
+{
+    let place = start_of(table, index, Part::Slots, d) as usize + k as usize;
+    cell_of(table, index, slot_row_of(table, index) + place, 1)
+}
+
+// The node in a row, counted over the whole file; 0 for the rows before the first node.
 pub fn node_in(table: &[u8], row: usize) -> usize
     ensures { λ r. ⌜ r ≡ row - nodeRow (tableOf (now (table .entry))) ⌝ }
 {
@@ -606,6 +369,7 @@ pub fn node_in(table: &[u8], row: usize) -> usize
     row - from
 }
 
+// The branch in a row, counted over the whole file; 0 for the rows before the first branch.
 pub fn branch_in(table: &[u8], row: usize) -> usize
     ensures { λ r. ⌜ r ≡ row - branchRow (tableOf (now (table .entry))) ⌝ }
 {
@@ -616,7 +380,7 @@ pub fn branch_in(table: &[u8], row: usize) -> usize
     row - from
 }
 
-// The definition of the node in a row, and the node of the branch in a row.
+// The definition of the node in a row.
 pub fn definition_at(table: &[u8], index: &[u32], row: usize) -> u32
     requires { ⌜ Indexed (tableOf (now table)) (now index) ⌝ }
     ensures { λ r. ⌜ r ≡ definitionOf (tableOf (now (table .entry))) (row - nodeRow (tableOf (now (table .entry)))) ⌝ }
@@ -624,84 +388,10 @@ pub fn definition_at(table: &[u8], index: &[u32], row: usize) -> u32
     owner_of(table, index, Part::Nodes, node_in(table, row))
 }
 
+// The node of the branch in a row.
 pub fn node_at(table: &[u8], index: &[u32], row: usize) -> u32
     requires { ⌜ Indexed (tableOf (now table)) (now index) ⌝ }
     ensures { λ r. ⌜ r ≡ nodeOf (tableOf (now (table .entry))) (row - branchRow (tableOf (now (table .entry)))) ⌝ }
 {
     owner_of(table, index, Part::Branches, branch_in(table, row))
-}
-
-// The first block that ends past x, where none below `from` does.
-fn seek(table: &[u8], index: &[u32], part: Part, from: u32, x: u32) -> u32
-    requires { ⌜ headerInRange (tableOf (now table)) ≡ true ⌝ }
-    requires { ⌜ Starts (tableOf (now table)) part (now index) ⌝ }
-    requires { ⌜ from ≤ blocks (tableOf (now table)) part ⌝ }
-    requires { ⌜ first (endsPast (tableOf (now table)) part x) from ≡ from ⌝ }
-    ensures { λ r. ⌜ r ≡ first (endsPast (tableOf (now (table .entry))) part x) (blocks (tableOf (now (table .entry))) part) ⌝ }
-{
-    let n = blocks_of(table, part);
-    let mut i = from;
-    while i < n {
-        if x < start_at(index, part, i + 1) {
-            return i;
-        }
-        i += 1;
-    }
-    i
-}
-
-// A part's starts are laid behind what the index has already.
-fn lay_starts(table: &[u8], index: &mut [u32], part: Part)
-    requires { ⌜ headerInRange (tableOf (now table)) ≡ true ⌝ }
-    requires { ⌜ now index ≡ laid (entry (tableOf (now table))) (startsFrom part) indexLength ⌝ }
-    ensures { λ _. ⌜ now (index .exit) ≡ laid (entry (tableOf (now (table .entry)))) (startsFrom part + startsRoom part) indexLength ⌝ }
-{
-    let n = blocks_of(table, part);
-    let from = starts_from(part);
-    let mut sum: u32 = 0;
-    for i in 0..n {
-        sum += block_size(table, part, i);
-        numbers::put_cell(index, from + i as usize + 1, sum);
-    }
-}
-
-// A part's owners are laid behind what the index has already, all starts among it.
-fn lay_owners(table: &[u8], index: &mut [u32], part: Part)
-    requires { ⌜ headerInRange (tableOf (now table)) ≡ true ⌝ }
-    requires { ⌜ 0 < ownersRoom part ⌝ }
-    requires { ⌜ now index ≡ laid (entry (tableOf (now table))) (ownersFrom part) indexLength ⌝ }
-    ensures { λ _. ⌜ now (index .exit) ≡ laid (entry (tableOf (now (table .entry)))) (ownersFrom part + ownersRoom part) indexLength ⌝ }
-{
-    let n = lines_of(table, part);
-    let from = owners_from(part);
-    let mut block: u32 = 0;
-    for x in 0..n {
-        block = seek(table, index, part, block, x);
-        numbers::put_cell(index, from + x as usize, block);
-    }
-}
-
-// The first rows are laid behind what the index has already.
-fn lay_rows(table: &[u8], index: &mut [u32])
-    requires { ⌜ now index ≡ laid (entry (tableOf (now table))) 803 indexLength ⌝ }
-    ensures { λ _. ⌜ now (index .exit) ≡ laid (entry (tableOf (now (table .entry)))) indexLength indexLength ⌝ }
-{
-    numbers::put_cell(index, DEFINITION_ROW, definition_row(table) as u32);
-    numbers::put_cell(index, SLOT_ROW, slot_row(table) as u32);
-    numbers::put_cell(index, NODE_ROW, node_row(table) as u32);
-    numbers::put_cell(index, BRANCH_ROW, branch_row(table) as u32);
-}
-
-// The index of a table whose header is in range, into a slice of zeros.
-pub fn fill_index(table: &[u8], index: &mut [u32])
-    requires { ⌜ headerInRange (tableOf (now table)) ≡ true ⌝ }
-    requires { ⌜ now index ≡ replicate indexLength 0 ⌝ }
-    ensures { λ _. ⌜ now (index .exit) ≡ indexOf (tableOf (now (table .entry))) ⌝ }
-{
-    lay_starts(table, index, Part::Slots);
-    lay_starts(table, index, Part::Nodes);
-    lay_starts(table, index, Part::Branches);
-    lay_owners(table, index, Part::Nodes);
-    lay_owners(table, index, Part::Branches);
-    lay_rows(table, index);
 }

@@ -24,7 +24,7 @@ use Rattle.rules.specs.declared.Direction.{Direction}
 use Rattle.rules.specs.declared.Direction.the-variants.{Out, In}
 use Rattle.rules.specs.declared.Act.{Act}
 use Rattle.rules.specs.declared.Act.the-variants.{Tau, Meeting, New, Spawn, Assignment}
-use Rattle.upkeep.specs.Own.{ownList}
+use Rattle.holding.specs.Own.{ownList}
 use Rattle.upkeep.specs.Shift.{settledOne}
 use Rattle.upkeep.specs.Upkeep.{one-settled, settled-again}
 use Rattle.threads.specs.Threads.{offersMarked, withHeld}

@@ -120,10 +120,10 @@ fn mark_channel(marks: &mut [bool; 128], c: u8)
 }
 
 // The channels of a list are marked.
-fn set_marks(marks: &mut [bool; 128], list: &[u8; upkeep::LIST])
+fn set_marks(marks: &mut [bool; 128], list: &[u8; holding::LIST])
     ensures { λ _. ⌜ now (marks .exit) ≡ raisedTo (now (marks .entry)) (now (list .entry)) 16 ⌝ }
 {
-    for i in 0..upkeep::LIST {
+    for i in 0..holding::LIST {
         mark_channel(marks, list[i]);
     }
 }
@@ -141,8 +141,8 @@ pub fn mark_held(
 {
     // as a slice the marks tell their number
     let all: &[bool] = marks;
-    let mut list = [0u8; upkeep::LIST];
-    upkeep::take_down(table, index, words, t, &mut list);
+    let mut list = [0u8; holding::LIST];
+    holding::own_channels(table, index, words, t, &mut list);
     set_marks(marks, &list);
 }
 
@@ -154,8 +154,8 @@ pub fn release(table: &[u8], index: &[u32], words: &mut [u32; state::WORDS], t: 
     ensures { λ _. ⌜ stateOf (now (words .exit)) ≡ settled (tableOf (now (table .entry))) (withThread (stateOf (now (words .entry))) t freeRow) ⌝ }
     ensures { λ _. ⌜ settled (tableOf (now (table .entry))) (stateOf (now (words .exit))) ≡ stateOf (now (words .exit)) ⌝ }
 {
-    let mut old = [0u8; upkeep::LIST];
-    let waits = upkeep::take_down(table, index, words, t, &mut old);
+    let mut old = [0u8; holding::LIST];
+    let waits = upkeep::note_held(table, index, words, t, &mut old);
     thread_rows::write_free(words, t);
     upkeep::settle_one(table, index, words, t, &old, waits);
 }

@@ -47,8 +47,8 @@ fn make_end(table: &[u8], index: &[u32], state: &mut [u32; state::WORDS], t: u32
     ensures { λ _. ⌜ settled (tableOf (now (table .entry))) (stateOf (now (state .exit))) ≡ perform (tableOf (now (table .entry))) (settled (tableOf (now (table .entry))) (stateOf (now (state .entry)))) t Ends ⌝ }
     ensures { λ _. ⌜ Counted (tableOf (now (table .entry))) (stateOf (now (state .exit))) ⌝ }
 {
-    let mut old = [0u8; upkeep::LIST];
-    let waits = upkeep::take_down(table, index, state, t, &mut old);
+    let mut old = [0u8; holding::LIST];
+    let waits = upkeep::note_held(table, index, state, t, &mut old);
     thread_rows::write_free(state, t);
     upkeep::settle_one(table, index, state, t, &old, waits);
 }
@@ -69,8 +69,8 @@ fn make_channel(
     ensures { λ _. ⌜ settled (tableOf (now (table .entry))) (stateOf (now (state .exit))) ≡ perform (tableOf (now (table .entry))) (settled (tableOf (now (table .entry))) (stateOf (now (state .entry)))) t (Creates i c) ⌝ }
     ensures { λ _. ⌜ Counted (tableOf (now (table .entry))) (stateOf (now (state .exit))) ⌝ }
 {
-    let mut old = [0u8; upkeep::LIST];
-    let waits = upkeep::take_down(table, index, state, t, &mut old);
+    let mut old = [0u8; holding::LIST];
+    let waits = upkeep::note_held(table, index, state, t, &mut old);
     acts::write_creation(table, index, state, t, i, c);
     upkeep::settle_new(table, index, state, t, c, &old, waits);
 }
@@ -85,10 +85,10 @@ fn make_child(table: &[u8], index: &[u32], state: &mut [u32; state::WORDS], t: u
     ensures { λ _. ⌜ settled (tableOf (now (table .entry))) (stateOf (now (state .exit))) ≡ perform (tableOf (now (table .entry))) (settled (tableOf (now (table .entry))) (stateOf (now (state .entry)))) t (Spawns i u) ⌝ }
     ensures { λ _. ⌜ Counted (tableOf (now (table .entry))) (stateOf (now (state .exit))) ⌝ }
 {
-    let mut old = [0u8; upkeep::LIST];
-    let mut other = [0u8; upkeep::LIST];
-    let waits = upkeep::take_down(table, index, state, t, &mut old);
-    let awaits = upkeep::take_down(table, index, state, u, &mut other);
+    let mut old = [0u8; holding::LIST];
+    let mut other = [0u8; holding::LIST];
+    let waits = upkeep::note_held(table, index, state, t, &mut old);
+    let awaits = upkeep::note_held(table, index, state, u, &mut other);
     acts::write_spawn(table, index, state, t, i, u);
     upkeep::settle_two(table, index, state, t, u, &old, waits, &other, awaits);
 }
@@ -124,8 +124,8 @@ fn make_called(
     ensures { λ _. ⌜ settled (tableOf (now (table .entry))) (stateOf (now (state .exit))) ≡ perform (tableOf (now (table .entry))) (settled (tableOf (now (table .entry))) (stateOf (now (state .entry)))) t Calls ⌝ }
     ensures { λ _. ⌜ Counted (tableOf (now (table .entry))) (stateOf (now (state .exit))) ⌝ }
 {
-    let mut old = [0u8; upkeep::LIST];
-    let waits = upkeep::take_down(table, index, state, t, &mut old);
+    let mut old = [0u8; holding::LIST];
+    let waits = upkeep::note_held(table, index, state, t, &mut old);
     thread_rows::enter_call(table, index, state, t, slots);
     upkeep::settle_one(table, index, state, t, &old, waits);
 }
@@ -224,10 +224,10 @@ fn make_joined(
     ensures { λ _. ⌜ settled (tableOf (now (table .entry))) (stateOf (now (state .exit))) ≡ perform (tableOf (now (table .entry))) (settled (tableOf (now (table .entry))) (stateOf (now (state .entry)))) t (Meets i u j) ⌝ }
     ensures { λ _. ⌜ Counted (tableOf (now (table .entry))) (stateOf (now (state .exit))) ⌝ }
 {
-    let mut old = [0u8; upkeep::LIST];
-    let mut other = [0u8; upkeep::LIST];
-    let waits = upkeep::take_down(table, index, state, t, &mut old);
-    let awaits = upkeep::take_down(table, index, state, u, &mut other);
+    let mut old = [0u8; holding::LIST];
+    let mut other = [0u8; holding::LIST];
+    let waits = upkeep::note_held(table, index, state, t, &mut old);
+    let awaits = upkeep::note_held(table, index, state, u, &mut other);
     write_joined(table, index, state, t, i, u, j);
     upkeep::settle_two(table, index, state, t, u, &old, waits, &other, awaits);
 }

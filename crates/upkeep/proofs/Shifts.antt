@@ -4,20 +4,17 @@ use native.Mathlib.Omega.{arith}
 use native.Mathlib.Numerals.{add-one}
 use mathlib.Core.Path.{_≡_, refl, _∙_}
 use mathlib.Core.List.{List, [], _∷_}
-use lib.Dec.{eqb}
 use lib.ListN.{length, getD, set}
 use lib.Seq.{set-out, set-set, getD-set-same}
 use Rattle.numbers.specs.Count.{bit}
 use Rattle.numbers.specs.Rows.{at}
 use Rattle.numbers.specs.Signed.{sum, difference}
 use Rattle.table.specs.Table.{Table}
-use Rattle.state.specs.State.{State, stateOf, stateWords, thread, channel, withChannel, withChannels}
+use Rattle.state.specs.State.{State, stateOf, stateWords, minusOne, thread, channel, isWaiting, withChannel, withChannels}
 use Rattle.state.specs.State.Laws.{length-channels, length-channel, three-stored}
 use Rattle.rules.specs.Holding.{channelRow}
-use Rattle.upkeep.specs.Own.{ownList}
-use Rattle.upkeep.specs.Own.Listing.{ownRoom}
-use Rattle.upkeep.specs.Own.Rest.{rest-shifted}
-use Rattle.upkeep.specs.Shift.{rowCounted, shiftRow, shiftTo, channelShifted, shiftedTo, shifted, rowEntered, rowLeft, settledOne, settledTwo, settledNew}
+use Rattle.holding.specs.Own.{ownList, ownRoom}
+use Rattle.upkeep.specs.Shift.{rowCounted, shiftRow, shiftTo, channelShifted, shiftedTo, rowEntered, rowLeft, settledOne, settledTwo, settledNew}
 
 -- put_counts: two stores make a row of one that has its type
 two : (r : List ℕ) (n w : ℕ) → length r ≡ 3 → set (set r 1 n) 2 w ≡ getD r 0 0 ∷ n ∷ w ∷ []
@@ -60,59 +57,27 @@ unfolding channelShifted shiftRow withChannels
 shift-out b c dn dw h =
     rw (set-out (stateOf b .channels) c (channelRow (at (stateOf b .channels) c 0) (sum (at (stateOf b .channels) c 1) dn) (sum (at (stateOf b .channels) c 2) dw)) (omega (arith, length-channels b)))
 
--- shift_all
+-- shift_listed
 module _ (s : State) (l : List ℕ) (dn dw : ℕ) where
   pub shifts-none : s ≡ shiftedTo s l dn dw 0
   unfolding shiftedTo shiftTo withChannels
   shifts-none = refl
 
-  pub shifts-more : (s₁ s₂ : State) (k c : ℕ) → s₁ ≡ shiftedTo s l dn dw k → s₂ ≡ channelShifted s₁ c dn dw → c ≡ getD l k 0 → s₂ ≡ shiftedTo s l dn dw (k + 1)
-  unfolding shiftedTo shiftTo channelShifted withChannels
-  shifts-more s₁ s₂ k c e f g = rw (f, g, e, add-one k)
+  module _ (s₁ : State) (k : ℕ) (e : s₁ ≡ shiftedTo s l dn dw k) where
+    pub shifts-more : (s₂ : State) (c : ℕ) → s₂ ≡ channelShifted s₁ c dn dw → c ≡ getD l k 0 → s₂ ≡ shiftedTo s l dn dw (k + 1)
+    unfolding shiftedTo shiftTo channelShifted withChannels
+    shifts-more s₂ c f g = rw (f, g, e, add-one k)
 
-  pub shifts-all : (s₁ : State) (k : ℕ) → s₁ ≡ shiftedTo s l dn dw k → k ≤ length l → length l ≤ k → s₁ ≡ shifted s l dn dw
-  unfolding shifted
-  shifts-all s₁ k e h i = let q : k ≡ length l = omega arith in rw q at e
+    pub shifts-all : (n : ℕ) → k ≤ n → n ≤ k → s₁ ≡ shiftedTo s l dn dw n
+    shifts-all n h i = let q : k ≡ n = omega arith in rw q at e
 
-  -- shift_first
-  pub first-shifted : (s₁ : State) (k n : ℕ) → s₁ ≡ shiftedTo s l dn dw k → k ≤ n → n ≤ k → s₁ ≡ shiftedTo s l dn dw n
-  first-shifted s₁ k n e h i = let q : k ≡ n = omega arith in rw q at e
-
-pub ruleset shifts = (shifts-none, shifts-more, shifts-all)
-
--- shift_own
-pub own-shifted : (tb : Table) (b : List ℕ) (s₂ : State) (t dn dw n : ℕ) (l : List ℕ) → s₂ ≡ shiftedTo (stateOf b) l dn dw n → l ≡ ownList tb (thread (stateOf b) t) → n ≡ ownRoom tb (thread (stateOf b) t)
-    → s₂ ≡ shifted (stateOf b) (ownList tb (thread (stateOf b) t)) dn dw
-unfolding shifted shiftedTo withChannels
-own-shifted tb b s₂ t dn dw n l f e g =
-    f ∙ rw (e, g, rest-shifted tb (thread (stateOf b) t) dn dw (stateOf b .channels) (length-channels b))
-
--- enter, leave
-pub enter-is : (tb : Table) (s s₂ : State) (t w x : ℕ) → s₂ ≡ shifted s (ownList tb (thread s t)) 1 w → w ≡ bit (eqb x 2) → x ≡ at (s .threads) t 0 → s₂ ≡ rowEntered tb s t
+-- enter
+pub enter-is : (tb : Table) (s s₂ : State) (t w n : ℕ) (l : List ℕ) → s₂ ≡ shiftedTo s l 1 w n → l ≡ ownList tb (thread s t) → n ≡ ownRoom tb (thread s t) → w ≡ bit (isWaiting (thread s t))
+    → s₂ ≡ rowEntered tb s t
 unfolding rowEntered
-enter-is tb s s₂ t w x g f e = rw (g, f, e)
+enter-is tb s s₂ t w n l f e g h = rw (f, e, g, h)
 
-pub leave-is : (s s₂ : State) (w d : ℕ) (l : List ℕ) → s₂ ≡ shifted s l 4294967295 d → d ≡ difference 0 w → s₂ ≡ rowLeft s l w
+-- leave
+pub leave-is : (s s₂ : State) (w d : ℕ) (l : List ℕ) → s₂ ≡ shiftedTo s l minusOne d 16 → d ≡ difference 0 w → s₂ ≡ rowLeft s l w
 unfolding rowLeft
 leave-is s s₂ w d l f e = rw (f, e)
-
--- enter_both, leave_both
-pub entered-both : (tb : Table) (s s₁ s₂ : State) (t u : ℕ) → s₁ ≡ rowEntered tb s t → s₂ ≡ rowEntered tb s₁ u → s₂ ≡ rowEntered tb (rowEntered tb s t) u
-entered-both tb s s₁ s₂ t u e f = rw (f, e)
-
-pub left-both : (s s₁ s₂ : State) (l : List ℕ) (w : ℕ) (l′ : List ℕ) (w′ : ℕ) → s₁ ≡ rowLeft s l w → s₂ ≡ rowLeft s₁ l′ w′ → s₂ ≡ rowLeft (rowLeft s l w) l′ w′
-left-both s s₁ s₂ l w l′ w′ e f = rw (f, e)
-
--- settle_one, settle_new, settle_two
-module _ (tb : Table) (s s₁ s₂ : State) (t : ℕ) (l : List ℕ) (w : ℕ) where
-  pub settle-one-is : s₁ ≡ rowEntered tb s t → s₂ ≡ rowLeft s₁ l w → s₂ ≡ settledOne tb s t l w
-  unfolding settledOne
-  settle-one-is e f = rw (f, e)
-
-  pub settle-new-is : (s₃ : State) (c : ℕ) → s₁ ≡ rowEntered tb s t → s₂ ≡ channelShifted s₁ c 0 0 → s₃ ≡ rowLeft s₂ l w → s₃ ≡ settledNew tb s t c l w
-  unfolding settledNew
-  settle-new-is s₃ c e f g = rw (g, f, e)
-
-  pub settle-two-is : (u : ℕ) (l′ : List ℕ) (w′ : ℕ) → s₁ ≡ rowEntered tb (rowEntered tb s t) u → s₂ ≡ rowLeft (rowLeft s₁ l w) l′ w′ → s₂ ≡ settledTwo tb s t u l w l′ w′
-  unfolding settledTwo
-  settle-two-is u l′ w′ e f = rw (f, e)

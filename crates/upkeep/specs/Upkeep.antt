@@ -19,8 +19,8 @@ use Rattle.table.specs.Table.{Table, ports}
 use Rattle.state.specs.State.{State, thread, isWaiting, typeIn, withMark, withThread, withChannel, withChannels}
 use Rattle.rules.specs.Holding.{holds, holders, waiters, countOf, channelRow, recount, settled}
 use Rattle.rules.specs.Moves.{typed}
-use Rattle.upkeep.specs.Own.{ownList}
-use Rattle.upkeep.specs.Shift.{shiftRow, channelShifted, shiftedTo, shifted, rowEntered, rowLeft, settledOne, settledTwo, settledNew}
+use Rattle.holding.specs.Own.{ownList}
+use Rattle.upkeep.specs.Shift.{shiftRow, channelShifted, shiftedTo, rowEntered, rowLeft, settledOne, settledTwo, settledNew}
 use Rattle.upkeep.specs.Shift.Laws.{Raw, Settled, Low, entering, leaving, enter-law, settle, freed-law, leave-law}
 
 -- ---- counts
@@ -142,23 +142,23 @@ module _ (tb : Table) (ths : List (List ℕ)) (long : length ths ≡ 64) (chs : 
       (low-entered tb ths long row)
       (λ c l n z. (rw (there c n) (free-start tb ths chs e c l (omega arith)), omega (arith, z, waiting-le tb ths row c))))
 
-  two-moved : (u : ℕ) → u < 64 → u ≢ t → (mate : List ℕ)
-      → leaving tb (getD ths u []) (leaving tb (getD ths t []) (entering tb mate (entering tb row chs))) ≡ recount tb (set (set ths t row) u mate) (λ c. at chs c 0)
-  two-moved u i d mate =
+  two-moved : (u : ℕ) → u < 64 → u ≢ t → (other : List ℕ)
+      → leaving tb (getD ths u []) (leaving tb (getD ths t []) (entering tb other (entering tb row chs))) ≡ recount tb (set (set ths t row) u other) (λ c. at chs c 0)
+  two-moved u i d other =
       let ty : ℕ → ℕ = λ c. at chs c 0 in
-      let both = entering tb mate (entering tb row chs) in
-      let N : ℕ → ℕ = λ c. entered tb ths row c + bit (holds tb mate c) in
-      let W : ℕ → ℕ = λ c. enteredWaiting tb ths row c + bit (isWaiting mate && holds tb mate c) in
+      let both = entering tb other (entering tb row chs) in
+      let N : ℕ → ℕ = λ c. entered tb ths row c + bit (holds tb other c) in
+      let W : ℕ → ℕ = λ c. enteredWaiting tb ths row c + bit (isWaiting other && holds tb other c) in
       let low : Low N W = λ c l. (
-        omega (arith, entered-le tb ths row c long, bit-le (holds tb mate c)),
-        omega (arith, entered-le tb ths row c long, waiting-le tb ths row c, bit-le (isWaiting mate && holds tb mate c)),
+        omega (arith, entered-le tb ths row c long, bit-le (holds tb other c)),
+        omega (arith, entered-le tb ths row c long, waiting-le tb ths row c, bit-le (isWaiting other && holds tb other c)),
       ) in
       let says : Settled both ty N W =
-      settle both ty N W (enter-law (entering tb row chs) ty (entered tb ths row) (enteredWaiting tb ths row) tb mate raw-entered (low-entered tb ths long row))
-      (λ c l z. (free-start tb ths chs e c l (omega arith), omega (arith, z, waiting-le tb ths row c, bit-and-le (isWaiting mate) (holds tb mate c)))) in
+      settle both ty N W (enter-law (entering tb row chs) ty (entered tb ths row) (enteredWaiting tb ths row) tb other raw-entered (low-entered tb ths long row))
+      (λ c l z. (free-start tb ths chs e c l (omega arith), omega (arith, z, waiting-le tb ths row c, bit-and-le (isWaiting other) (holds tb other c)))) in
       let there : getD (set ths t row) u [] ≡ getD ths u [] = getD-set-other ths t u row [] d in
-      rw (← there) (last-left tb (set ths t row) (length-set ths t row ∙ long) mate (leaving tb (getD ths t []) both) ty u i
-      (leave-law both ty (entered tb (set ths t row) mate) (enteredWaiting tb (set ths t row) mate) tb (getD ths t []) N W says
+      rw (← there) (last-left tb (set ths t row) (length-set ths t row ∙ long) other (leaving tb (getD ths t []) both) ty u i
+      (leave-law both ty (entered tb (set ths t row) other) (enteredWaiting tb (set ths t row) other) tb (getD ths t []) N W says
       (λ c l. (omega (arith, counts-move tb ths t (omega arith) row c), omega (arith, waiters-move tb ths t (omega arith) row c))) low))
 
 -- ---- states
@@ -189,11 +189,11 @@ module _ (tb : Table) (s : State) where
     settled-mark = refl
 
     pub two-mark : (t u : ℕ) (l : List ℕ) (w : ℕ) (l′ : List ℕ) (w′ : ℕ) → settledTwo tb (withMark s i v) t u l w l′ w′ ≡ withMark (settledTwo tb s t u l w l′ w′) i v
-    unfolding settledTwo rowEntered rowLeft shifted shiftedTo withMark withChannels
+    unfolding settledTwo rowEntered rowLeft shiftedTo withMark withChannels
     two-mark t u l w l′ w′ = refl
 
     pub new-mark : (t c : ℕ) (l : List ℕ) (w : ℕ) → settledNew tb (withMark s i v) t c l w ≡ withMark (settledNew tb s t c l w) i v
-    unfolding settledNew channelShifted rowEntered rowLeft shifted shiftedTo withMark withChannels
+    unfolding settledNew channelShifted rowEntered rowLeft shiftedTo withMark withChannels
     new-mark t c l w = refl
 
 -- ---- the upkeep comes to the recount
@@ -208,7 +208,7 @@ module _ (tb : Table) (s : State) (long : length (s .threads) ≡ 64) (e : settl
     written = getD-set-same (s .threads) t row [] (omega arith)
 
     pub one-settled : settledOne tb (withThread s t row) t (ownList tb (thread s t)) (bit (isWaiting (thread s t))) ≡ settled tb (withThread s t row)
-    unfolding settledOne rowEntered rowLeft shifted shiftedTo withThread withChannels settled
+    unfolding settledOne rowEntered rowLeft shiftedTo withThread withChannels settled
     one-settled =
         rw written
         (ap {B = State} (λ (y : List (List ℕ)). record { marks = s .marks; threads = set (s .threads) t row; channels = y })
@@ -216,19 +216,19 @@ module _ (tb : Table) (s : State) (long : length (s .threads) ≡ 64) (e : settl
 
     pub new-settled : (c ty : ℕ) → c < 128
         → settledNew tb (typed (withThread s t row) c ty) t c (ownList tb (thread s t)) (bit (isWaiting (thread s t))) ≡ settled tb (typed (withThread s t row) c ty)
-    unfolding settledNew channelShifted rowEntered rowLeft shifted shiftedTo typed withThread withChannel withChannels settled
+    unfolding settledNew channelShifted rowEntered rowLeft shiftedTo typed withThread withChannel withChannels settled
     new-settled c ty i =
         rw written
         (ap {B = State} (λ (y : List (List ℕ)). record { marks = s .marks; threads = set (s .threads) t row; channels = y })
         (new-moved tb (s .threads) long (s .channels) counted t h row c ty i))
 
-    pub two-settled : (u : ℕ) → u < 64 → u ≢ t → (mate : List ℕ)
-        → settledTwo tb (withThread (withThread s t row) u mate) t u (ownList tb (thread s t)) (bit (isWaiting (thread s t))) (ownList tb (thread s u)) (bit (isWaiting (thread s u)))
-        ≡ settled tb (withThread (withThread s t row) u mate)
-    unfolding settledTwo rowEntered rowLeft shifted shiftedTo withThread withChannels settled
-    two-settled u i d mate =
-        let here : getD (set (set (s .threads) t row) u mate) t [] ≡ row = getD-set-other (set (s .threads) t row) u t mate [] (λ q. d (sym q)) ∙ written in
-        let there : getD (set (set (s .threads) t row) u mate) u [] ≡ mate = getD-set-same (set (s .threads) t row) u mate [] (omega (arith, length-set (s .threads) t row)) in
+    pub two-settled : (u : ℕ) → u < 64 → u ≢ t → (other : List ℕ)
+        → settledTwo tb (withThread (withThread s t row) u other) t u (ownList tb (thread s t)) (bit (isWaiting (thread s t))) (ownList tb (thread s u)) (bit (isWaiting (thread s u)))
+        ≡ settled tb (withThread (withThread s t row) u other)
+    unfolding settledTwo rowEntered rowLeft shiftedTo withThread withChannels settled
+    two-settled u i d other =
+        let here : getD (set (set (s .threads) t row) u other) t [] ≡ row = getD-set-other (set (s .threads) t row) u t other [] (λ q. d (sym q)) ∙ written in
+        let there : getD (set (set (s .threads) t row) u other) u [] ≡ other = getD-set-same (set (s .threads) t row) u other [] (omega (arith, length-set (s .threads) t row)) in
         rw (here, there)
-        (ap {B = State} (λ (y : List (List ℕ)). record { marks = s .marks; threads = set (set (s .threads) t row) u mate; channels = y })
-        (two-moved tb (s .threads) long (s .channels) counted t h row u i d mate))
+        (ap {B = State} (λ (y : List (List ℕ)). record { marks = s .marks; threads = set (set (s .threads) t row) u other; channels = y })
+        (two-moved tb (s .threads) long (s .channels) counted t h row u i d other))

@@ -17,9 +17,9 @@ use Rattle.rules.specs.Holding.{settled}
 use Rattle.rules.specs.Start.{freeRow}
 use Rattle.rules.specs.Offers.{offers}
 use Rattle.rules.specs.declared.Direction.{Direction}
-use Rattle.collector.specs.Enabled.{Enabled, is-ready, by-bench, enabledSet}
-use Rattle.collector.specs.Enabled.Laws.{enabled-in, enabled-iff}
-use Rattle.collector.specs.Collect.{nobody, taken, remaining, collected, takenCount}
+use Rattle.marking.specs.Enabled.{nobody, Enabled, is-ready, by-bench, enabledSet}
+use Rattle.marking.specs.Enabled.Laws.{enabled-in, enabled-iff}
+use Rattle.collector.specs.Collect.{taken, remaining, collected, takenCount}
 
 sum-cong : (f g : ℕ → ℕ) (n : ℕ) → ((i : ℕ) → i < n → f i ≡ g i) → sumTo f n ≡ sumTo g n
 sum-cong f g zero h = sum-none f ∙ sym (sum-none g)

@@ -20,8 +20,8 @@ use Rattle.table.specs.Table.{Table}
 use Rattle.state.specs.State.{State, thread, typeIn, withThread, withChannels}
 use Rattle.rules.specs.Holding.{holds, holders, waiters, countOf, channelRow, recount, settled}
 use Rattle.rules.specs.Start.{freeRow}
-use Rattle.collector.specs.Enabled.{enabledSet}
-use Rattle.collector.specs.Collect.{nobody, taken, remaining, collected, takenCount}
+use Rattle.marking.specs.Enabled.{nobody, enabledSet}
+use Rattle.collector.specs.Collect.{taken, remaining, collected, takenCount}
 use Rattle.collector.specs.Freeing.{leaves, freedBy, rowTo, rowsTo, collectedTo, takenTo}
 
 -- ---- a row freed where the channel rows were settled before

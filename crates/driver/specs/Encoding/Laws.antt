@@ -12,12 +12,12 @@ use borrow.Author.Tests.{ne-eqb}
 use Rattle.numbers.specs.Bytes.{words}
 use Rattle.numbers.specs.Bytes.Laws.{length-numbers}
 use Rattle.engine_laws.specs.Lists.{step, give, take, run}
-use Rattle.pithread.specs.Interface.{StateResult, stepResult, giveResult, takeResult, runResult, collectResult}
-use Rattle.pithread.specs.declared.StepAnswer.{StepAnswer}
-use Rattle.pithread.specs.declared.GiveAnswer.{GiveAnswer}
-use Rattle.pithread.specs.declared.TakeAnswer.{TakeAnswer}
-use Rattle.pithread.specs.declared.RunAnswer.{RunAnswer}
-use Rattle.pithread.specs.declared.CollectAnswer.{CollectAnswer}
+use Rattle.interface.specs.Interface.{StateResult, stepResult, giveResult, takeResult, runResult, collectResult}
+use Rattle.interface.specs.declared.StepAnswer.{StepAnswer}
+use Rattle.interface.specs.declared.GiveAnswer.{GiveAnswer}
+use Rattle.interface.specs.declared.TakeAnswer.{TakeAnswer}
+use Rattle.interface.specs.declared.RunAnswer.{RunAnswer}
+use Rattle.interface.specs.declared.CollectAnswer.{CollectAnswer}
 use Rattle.guarantee.specs.Claim.{Any, on, collect, afterAny, afterList}
 use Rattle.guarantee.specs.Exported.{left, left-so}
 use Rattle.driver.specs.Encoding.{pattern, pattern-small, callBy, calledBy, callAt, callsOf, stepped, given, taken, ran, collected, answerTo, wordsOf, answersTo, writtenFrom}

@@ -16,7 +16,8 @@ use Rattle.numbers.specs.Count.Laws.{bit-le}
 use Rattle.numbers.specs.Search.{sumTo}
 use Rattle.numbers.specs.Search.Laws.{caseB, contra, sum-none, sum-suc}
 use Rattle.table.specs.Table.{Table, tableOf}
-use Rattle.loader.specs.Load.{loaded, accepted}
+use Rattle.loader.specs.Load.{accepted}
+use Rattle.loader_laws.specs.Yields.{loaded-small, loaded-accepted}
 use Rattle.state.specs.State.{State, maxThreads, stateLength, view, thread, inUse, isWaiting}
 use Rattle.rules.specs.Moves.{move}
 use Rattle.rules.specs.Calls.{Outcome, outcome, After, startAdmission, onBuffers, startOn, startCall, stepAnswer, canStep, stepOn, stepCall, bench, giveOn, giveCall, takeOn, takeCall, runOn, runCall}
@@ -48,12 +49,11 @@ use Rattle.engine_laws.specs.Movers.{ranMovers}
 use Rattle.engine_laws.specs.Buffers.{SoundBuffer}
 use Rattle.engine_laws.specs.SoundCalls.{start-done, call-made}
 use Rattle.engine_laws.specs.Lists.{Call, step, give, take, run, after, afterAll, after-sound}
-use Rattle.engine_laws.specs.ListInstance.{loaded-small, loaded-accepted}
 use Rattle.collector.specs.Collect.{taken, takenCount, collectOn, collectCall}
 use Rattle.collector.specs.Collect.Laws.{count-says}
 use Rattle.collector.specs.declared.Collected.{Collected}
 use Rattle.collector.specs.declared.Collected.the-variants as Collected
-use Rattle.pithread.specs.Interface.{loadResult, inNumbers, startFields, startNumbers, startResult, stepFields, stepNumbers, stepResult, giveFields, giveNumbers, giveResult, takeFields, takeNumbers, takeResult, runFields, runNumbers, runResult, collectFields, collectNumbers, collectResult}
+use Rattle.interface.specs.Interface.{loadResult, inNumbers, startFields, startNumbers, startResult, stepFields, stepNumbers, stepResult, giveFields, giveNumbers, giveResult, takeFields, takeNumbers, takeResult, runFields, runNumbers, runResult, collectFields, collectNumbers, collectResult}
 use Rattle.guarantee.specs.Claim.{Any, on, collect, afterAny, afterList, reachedBy, unlessRefused, metByGive, metByTake, inTurns, moving, movingAll, takenBy, Untouched, Linked, NeverTen}
 use Rattle.guarantee.specs.Exported.{ground-signed, left, refusal, given-so, started-so, left-so, refused-so, load-so, table-so}
 use Rattle.guarantee.specs.InNumbers.{leftAll, leftFrom, isZero, ifDone, named, waitingIn, moved, movedAll, takes, NoTen, InNumbers}

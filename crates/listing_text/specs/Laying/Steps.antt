@@ -3,7 +3,7 @@ use Prim.Native.Nat.{ℕ, suc, _+_, _*_, _<_, _≤_}
 use native.Mathlib.Omega.{arith}
 use native.Mathlib.Numerals.{add-one}
 use mathlib.Core.Path.{_≡_, refl, sym, _∙_, ap}
-use mathlib.Core.List.{List, [], _∷_, _++_}
+use mathlib.Core.List.{List, _++_}
 use lib.Dec.{ltb}
 use lib.ListN.{length, length-append}
 use lib.Seq.{sets}
@@ -18,10 +18,7 @@ use Rattle.rules.specs.Moves.{move}
 use Rattle.rules.specs.Calls.{stepAnswer, nextReady, turnFor, turnBy, Course, course, Turned, turned, turnEnd, takeTurn, courseOf}
 use Rattle.rules.specs.declared.Move.{Move}
 use Rattle.rules.specs.declared.Move.the-variants.{Ends, Calls, Waits, Goes, Creates, Spawns, Meets, LacksThread, LacksChannel}
-use Rattle.rules.specs.declared.Deed.{Deed}
 use Rattle.rules.specs.declared.Stepped.{Stepped}
-use Rattle.rules.specs.declared.Stepped.the-variants.{Done, Refused}
-use Rattle.rules.specs.declared.Refusal.{Refusal}
 use Rattle.rules.specs.declared.Reason.{Reason}
 use Rattle.rules.specs.declared.Reason.the-variants.{AllDone, NoneReady}
 use Rattle.rules.specs.declared.Turn.{Turn}
@@ -32,23 +29,11 @@ use Rattle.rules_laws.specs.Soundness.Laws.{sound-settled}
 use Rattle.turns.specs.Made.Laws.{next-turn}
 use Rattle.turns.specs.Counted.{Counted}
 use Rattle.turns.specs.Counted.Laws.{counted-start}
-use Rattle.engine.specs.Numbers.{actNumber, branchNumber, partnerNumber}
-use Rattle.listing_text.specs.Listing.{line, stepLine, maxSteps, turnLine, stepLines}
+use Rattle.listing_lines.specs.Lines.{stepLine}
+use Rattle.listing_lines.specs.Laid.Laws.{sets-append, joined-snoc, length-line}
+use Rattle.listing_text.specs.Listing.{maxSteps, turnLine, stepLines}
 use Rattle.listing_text.specs.Laying.{shown, Come, linesTo}
 use Rattle.listing_text.specs.Laying.Turns.{course-none, course-more, course-stopped, course-all}
-use Rattle.listing_text.specs.Laying.Lines.{sets-append, joined-snoc, length-line}
-
--- ---- a step
-
-module _ (l : List ℕ) (at k t : ℕ) (x : Stepped) where
-  pub step-laid : (l₁ : List ℕ) (n a b p : ℕ) (d : Deed) → l₁ ≡ sets l at (line (k ∷ t ∷ n ∷ a ∷ b ∷ p ∷ [])) → a ≡ actNumber d → b ≡ branchNumber d → p ≡ partnerNumber d → x ≡ Done n d
-      → l₁ ≡ sets l at (stepLine k t x)
-  unfolding stepLine
-  step-laid l₁ n a b p d e f g h i = e ∙ rw (f, g, h, i)
-
-  pub step-left : (r : Refusal) → x ≡ Refused r → l ≡ sets l at (stepLine k t x)
-  unfolding stepLine
-  step-left r i = rw i
 
 -- ---- a turn
 

@@ -1,10 +1,10 @@
 -- A run seen from a turn in its midst, whoever's it is. Assumes nothing.
 use Prim.Native.Nat.{ℕ, suc, _+_, _-_, _<_}
 use native.Mathlib.Omega.{arith}
-use mathlib.Core.Path.{_≡_, refl, sym, _∙_, ap}
+use mathlib.Core.Path.{_≡_, sym, _∙_, ap}
 use Rattle.table.specs.Table.{Table}
 use Rattle.state.specs.State.{State}
-use Rattle.rules.specs.Calls.{Course, course, oneMore, onward, Turned, turned, takeTurn, courseOf}
+use Rattle.rules.specs.Calls.{course, oneMore, onward, Turned, turned, takeTurn, courseOf}
 use Rattle.rules.specs.declared.Reason.{Reason}
 use Rattle.rules.specs.declared.Reason.the-variants.{AllDone}
 use Rattle.rules.specs.declared.Turn.{Turn}

@@ -42,9 +42,10 @@ use Rattle.rules_laws.specs.Codes.{clash}
 use Rattle.rules_laws.specs.Soundness as Sound
 use Rattle.rules_laws.specs.Started.{started-sound}
 use Rattle.collector.specs.Collect.{taken}
-use Rattle.listing_text.specs.Listing.{characters, line, heading, stepLine, maxSteps, turnLine, stepLines, closingLine, takenLine, takenLines, runLines, listingBy, listing}
+use Rattle.listing_lines.specs.Lines.{characters, line, heading, stepLine}
+use Rattle.listing_lines.specs.Laid.Laws.{sets-append, joined-snoc, take-sets, drop-sets, length-line}
+use Rattle.listing_text.specs.Listing.{maxSteps, turnLine, stepLines, closingLine, takenLine, takenLines, runLines, listingBy, listing}
 use Rattle.listing_text.specs.Laying.{longest, endLines}
-use Rattle.listing_text.specs.Laying.Lines.{sets-append, joined-snoc, take-sets, drop-sets, length-line}
 
 -- ---- an accepted table
 

@@ -15,7 +15,7 @@ use lib.Bits.{bitOr, or-add-and, and-le-l, and-le-r, or-zero-l}
 use Rattle.numbers.specs.Search.{every}
 use Rattle.numbers.specs.Search.Laws.{caseB, contra, every-elim, every-intro}
 use Rattle.table.specs.Table.{tableOf, lineTotal}
-use Rattle.checks.specs.Ranges.{unusedFrom, restUnused}
+use Rattle.ranges.specs.Ranges.{unusedFrom, restUnused}
 use Rattle.loader.specs.Verdict.{restZero}
 
 -- the bytes of b from place p on

@@ -65,7 +65,7 @@ module _ (tb : Table) (g : Edges tb) where
       let o = g .same n i t (omega arith) d in
       (follow p i d, unwritten (rowOf tb n i) k l u (y .1), rw o q)) (flow-iff tb t k h l n .0 e)
 
-  -- and a path brings its mark, when the nodes below its end have been passed
+  -- a path brings its mark, when the nodes below its end have been passed
   brought : {t : ℕ} (p : Path tb t) (k m : ℕ) → k < markCount → t ≤ m → ¬ Wrote tb k p → parameters tb (definitionOf tb t) ≤ k → mark (flowTo tb m) t k ≡ true
   unfolding Wrote begins
   brought {t} (begin b e) k m l z w q =

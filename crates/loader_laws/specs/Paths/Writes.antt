@@ -28,7 +28,7 @@ one-written a =
     (λ x. caseB (eqb a 5) (λ w. rw (y, z, x, w) (inr refl))
     (λ w. caseB (ltb 5 a) (λ v. rw (y, z, x, w, v) (inr refl)) (λ v. rw (y, z, x, w, v) (inl refl))))))
 
--- and never c
+-- an action never writes c
 third-unwritten : (a : ℕ) → writes (actionRole a 2) ≡ false
 unfolding actionRole writes
 third-unwritten a =

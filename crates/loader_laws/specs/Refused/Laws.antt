@@ -14,8 +14,8 @@ use Rattle.numbers.specs.Search.Laws.{caseB, contra, first-void}
 use Rattle.numbers.specs.Tests.{and-left, and-right}
 use Rattle.table.specs.Table.{nodes, nodeRow, lineTotal}
 use Rattle.table.specs.Form.{headerInRange, kindWrong, sumsAgree}
-use Rattle.checks.specs.Ranges.{outOfRange}
-use Rattle.checks.specs.Types.{typesDisagree}
+use Rattle.ranges.specs.Ranges.{outOfRange}
+use Rattle.types.specs.Types.{typesDisagree}
 use Rattle.flow.specs.Flow.{readsUnwritten, unreachable}
 use Rattle.loader.specs.File.{lineCount, notLines, malformed, fileTable}
 use Rattle.loader.specs.Verdict.{groundNumber, verdict}
@@ -173,14 +173,14 @@ module _ (file : List ℕ) where
         (λ s. let (h, m, e) = s in let (p, q) = lowest-one (Refused file) h g m l (refused-by h m e) w in e ∙ cc) (either (verdict file)),
   )
 
-  -- and is in order exactly when it is refused on none
+  -- a file is in order exactly when it is refused on no ground
   pub in-order-iff : (verdict file ≡ Sound) ↔ ((g : Ground) (l : ℕ) → ¬ Refused file g l)
   in-order-iff = (
     none-refused,
     λ f. ⊎-elim (λ e. e) (λ s. let (h, m, e) = s in absurd (f h m (refused-by h m e .0))) (either (verdict file)),
   )
 
-  -- so load answers, whatever the table's buffer holds
+  -- load answers with the lowest ground, whatever the table's buffer holds
   pub answer-iff : (t : List ℕ) (g : Ground) (l : ℕ) → (loaded file t .answer ≡ FileRefused g l) ↔ LowestOf (Refused file) g l
   unfolding loaded
   answer-iff t g l = let r = refused-iff g l in (λ e. r .0 (refused-answer (verdict file) t g l .0 e), λ w. refused-answer (verdict file) t g l .1 (r .1 w))
@@ -205,7 +205,7 @@ module _ (file : List ℕ) where
         let r = nodeRow (fileTable file) + n in
         unreachable-iff (fileTable file) sound-formed n h .0 (row-fine (unreachable (fileTable file)) (lineCount file) r (omega (arith, total-fine (clear Total))) (clear Unreachable (suc r)))
 
-    -- and a slot that is read is a parameter or is written on every path to there
+    -- a slot that is read is a parameter or is written on every path to there
     pub all-written : (n k : ℕ) → n < nodes (fileTable file) → IsRead (fileTable file) n k → SurelyWritten (fileTable file) n k
     unfolding faultAt
     all-written n k h s = ⊎-elim

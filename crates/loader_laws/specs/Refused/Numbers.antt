@@ -52,7 +52,7 @@ pub from-iff : (v lo hi : ℕ) → hi < 32768 → Within (from lo hi) (toZ w16 v
 unfolding from
 from-iff = between-iff
 
--- the same where the upper limit is one below s
+-- a number is within limits whose upper one is one below s exactly where its pattern is
 pub below-iff : (v lo s : ℕ) → s < 32768 → ((pos lo ≤ℤ toZ w16 v) × (toZ w16 v ≤ℤ predℤ (pos s))) ↔ ((lo ≤ v) × (v < s))
 below-iff v lo zero f = (
   λ w. absurd (

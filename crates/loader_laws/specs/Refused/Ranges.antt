@@ -22,7 +22,7 @@ use Rattle.table.specs.Roles.{operandPlace, operand, operandRole}
 use Rattle.table.specs.declared.Part.the-variants.{Nodes, Branches}
 use Rattle.table.specs.declared.Role.{Role}
 use Rattle.table.specs.declared.Role.the-variants.{Unused, Constant, ReadNumber, ReadChannel, ReadCarried, WriteNumber, WriteChannel, WriteCarried}
-use Rattle.checks.specs.Ranges.{roleInRange, ahead, unusedFrom, restUnused, typeInRange, definitionInRange, argumentInRange, callInRange, nodeInRange, operandInRange, targetsInRange, branchInRange, rowInRange, outOfRange}
+use Rattle.ranges.specs.Ranges.{roleInRange, ahead, unusedFrom, restUnused, typeInRange, definitionInRange, argumentInRange, callInRange, nodeInRange, operandInRange, targetsInRange, branchInRange, rowInRange, outOfRange}
 use Rattle.loader_laws.specs.Blocks.{owner-stands}
 use Rattle.loader_laws.specs.FormedRows.{FormedTo, kind-is, node-row, branch-row, parameters-few, slots-few, nodes-few, definition-of, branches-filled}
 use Rattle.loader_laws.specs.Yields.{Shaped}

@@ -15,8 +15,8 @@ use Rattle.table.specs.Layout.{start, branchCount, definitionOf, slotType}
 use Rattle.table.specs.Form.Laws.{within-most, header-counts}
 use Rattle.table.specs.Roles.{guardRole, actionRole, operandPlace, operand, operandRole}
 use Rattle.table.specs.declared.Part.the-variants.{Branches}
-use Rattle.checks.specs.Ranges.{branchInRange}
-use Rattle.checks.specs.Types.{roleTyped, portTyped, portsTyped, argumentTyped, nodeTyped, operandTyped, branchTyped, rowTyped, typesDisagree}
+use Rattle.ranges.specs.Ranges.{branchInRange}
+use Rattle.types.specs.Types.{roleTyped, portTyped, portsTyped, argumentTyped, nodeTyped, operandTyped, branchTyped, rowTyped, typesDisagree}
 use Rattle.loader_laws.specs.Paths.{rowOf}
 use Rattle.loader_laws.specs.Grounds.{Formed, node-kind, branch-kind, node-row, branch-row-of, node-of, branch-below, own-branch-in-range}
 use Rattle.loader_laws.specs.Refused.{PortsAgree, CallAgrees, BranchAgrees, TypesDisagree}

@@ -4,12 +4,12 @@ use native.Mathlib.Omega.{arith}
 use native.Mathlib.Numerals.{add-one}
 use native.Mathlib.Decide.{le-ind}
 use mathlib.Core.Path.{_≡_, refl, sym, _∙_, ap}
-use mathlib.Core.Bool.{Bool, true, false, _&&_, cond}
+use mathlib.Core.Bool.{Bool, true, false, not, _&&_, cond}
 use mathlib.Core.List.{List, [], _∷_, _++_}
 use lib.Dec.{ltb}
 use lib.ListN.{length, getD}
 use lib.Seq.{ext-getD}
-use borrow.Author.Tests.{lt-ltb, le-ltb, ltb-true, ltb-false}
+use borrow.Author.Tests.{lt-ltb, le-ltb, ltb-true, ltb-false, not-true, not-false}
 use Rattle.numbers.specs.Tests.{and-left, and-right}
 use Rattle.numbers.specs.Search.{every, first, some, sumTo, listFrom, tabulate}
 
@@ -50,6 +50,14 @@ module _ (p : ℕ → Bool) where
       step : (t : Bool) → cond t (p i) false ≡ false
       step true = sym f ∙ g
       step false = refl
+
+  -- a call answered for one of them, and its answer was turned
+  module _ (i : ℕ) (r : Bool) (f : r ≡ p i) where
+    pub every-passed : every p i ≡ true → not r ≡ false → every p (i + 1) ≡ true
+    every-passed e g = every-more i r e f (not-false r g)
+
+    pub every-failed : (n : ℕ) → not r ≡ true → i < n → false ≡ every p n
+    every-failed n g h = every-not i n r f (not-true r g) h
 
   pub every-elim : (n i : ℕ) → every p n ≡ true → i < n → p i ≡ true
   every-elim n i e h = caseB (p i) (λ t. t) (λ f. contra e (sym (every-not i n (p i) refl f h)))

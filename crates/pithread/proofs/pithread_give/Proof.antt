@@ -1,4 +1,4 @@
-use Rattle.pithread.specs.Interface.Calls.{give-answered}
+use Rattle.pithread.proofs.Answered.{give-answered}
 use borrow.Author.Needs.{needs}
 use Rattle.pithread.proofs.pithread_give.Statement.{statement}
 use Rattle.pithread.proofs.pithread_give.Tie as tie

@@ -1,4 +1,4 @@
-use Rattle.pithread.specs.Interface.Laws.{line-fits, load-answered}
+use Rattle.pithread.proofs.Answered.{line-fits, load-answered}
 use borrow.Author.Needs.{needs}
 use Rattle.pithread.proofs.pithread_load.Statement.{statement}
 use Rattle.pithread.proofs.pithread_load.Tie as tie

@@ -1,5 +1,5 @@
 use borrow.Author.Needs.{needs}
-use Rattle.recount.proofs.Ways.{definition-is, row-free, row-held, row-waiting}
+use Rattle.recount.proofs.Ways.{row-held, row-waiting}
 use Rattle.recount.proofs.add_row.Statement.{statement}
 use Rattle.recount.proofs.add_row.Tie as tie
 
@@ -8,12 +8,8 @@ add-row-spec =
     tie.close
     (tie.spec
     (λ c κs. search needs)
-    (λ c. (search row-free, search row-free))
     (λ c κs. search needs)
     (λ c κs. search needs)
-    (λ c κs. search needs)
-    (λ c κs. search needs)
-    (λ c κs. (search, search definition-is))
     (λ c. search needs)
     (λ c. search needs)
     (λ c. (search row-held, search row-waiting)))

@@ -1,5 +1,5 @@
 -- One pass over the rows counts the holders of each channel. Assumes nothing.
-use Prim.Native.Nat.{ℕ, zero, suc, _+_, _*_, _%_, _<_}
+use Prim.Native.Nat.{ℕ, zero, suc, _+_, _*_, _%_, _≤_, _<_}
 use native.Mathlib.Omega.{arith}
 use native.Mathlib.Nat.{add-mul}
 use mathlib.Core.Path.{_≡_, refl, sym, _∙_}
@@ -8,18 +8,17 @@ use mathlib.Core.List.{List, []}
 use lib.Dec.{eqb}
 use lib.ListN.{length, getD, length-set, replicate, length-replicate}
 use lib.Seq.{getD-set-same, getD-set-other}
-use borrow.Author.Tests.{eqb-true, eqb-false, lt-ltb}
+use borrow.Author.Tests.{eqb-true, eqb-false}
 use Rattle.numbers.specs.Count.{bit, count}
 use Rattle.numbers.specs.Count.Laws.{count-le, count-index}
 use Rattle.numbers.specs.Laid.Laws.{zeros-at}
 use Rattle.numbers.specs.Search.{sumTo, tabulate}
-use Rattle.numbers.specs.Search.Laws.{caseB, sum-none, sum-suc, some-zero, is-tabulate}
+use Rattle.numbers.specs.Search.Laws.{caseB, sum-none, sum-suc, is-tabulate}
 use Rattle.table.specs.Table.{Table}
-use Rattle.table.specs.Layout.{definitionOf}
-use Rattle.state.specs.State.{standsAt, inUse, isWaiting}
-use Rattle.rules.specs.Holding.{hasAt, holds, holders, waiters}
-use Rattle.recount.specs.Fresh.{ownSlots, hasTo, freshOf}
-use Rattle.recount.specs.Fresh.Laws.{has-own, fresh-law}
+use Rattle.state.specs.State.{isWaiting}
+use Rattle.rules.specs.Holding.{holds, holders, waiters}
+use Rattle.holding.specs.Own.{ownOf, ownList, ownRoom, holdsTo}
+use Rattle.holding.specs.Own.Laws.{room-le, own-at, holds-none, own-counts, holds-room}
 use Rattle.recount.specs.Tally.{added, addedTo, rowAdded, addedBelow}
 
 -- ---- entries
@@ -38,31 +37,32 @@ sums : (x a b w : ℕ) → ((x + a * w) % 256 + b * w) % 256 ≡ (x + (a + b) * 
 sums x a b w = let q : (a + b) * w ≡ a * w + b * w = add-mul a b w in rw q (omega arith)
 
 module _ (tb : Table) where
-  -- ---- the slots of a row
+  -- ---- the channels of a row
 
   module _ (row : List ℕ) (w : ℕ) (l : List ℕ) where
-    length-addedTo : (n : ℕ) → length (addedTo tb row w l n) ≡ length l
+    length-addedTo : (n : ℕ) → length (addedTo (ownList tb row) w l n) ≡ length l
     unfolding addedTo
     length-addedTo zero = refl
-    length-addedTo (suc n) = length-added (addedTo tb row w l n) (freshOf tb row n) w ∙ length-addedTo n
+    length-addedTo (suc n) = length-added (addedTo (ownList tb row) w l n) (getD (ownList tb row) n 0) w ∙ length-addedTo n
 
-    addedTo-law : (c n : ℕ) → length l ≡ 128 → c < 128 → getD l c 0 < 256 → getD (addedTo tb row w l n) c 0 ≡ (getD l c 0 + bit (hasTo tb row c n) * w) % 256
-    unfolding addedTo hasTo bit
-    addedTo-law c zero e h b = rw (some-zero (hasAt tb row c)) (omega arith)
-    addedTo-law c (suc n) e h b =
-        let m = addedTo-law c n e h b in
-        let long : length (addedTo tb row w l n) ≡ 128 = length-addedTo n ∙ e in
-        let byte : getD (addedTo tb row w l n) c 0 < 256 = rw m (omega arith) in
-        rw (added-law (addedTo tb row w l n) (freshOf tb row n) w c (omega arith) byte, m, fresh-law tb row c n h)
-        (sums (getD l c 0) (bit (hasTo tb row c n)) (bit (eqb (freshOf tb row n) c)) w)
+    addedTo-law : (c n : ℕ) → length l ≡ 128 → c < 128 → getD l c 0 < 256 → n ≤ 16
+        → getD (addedTo (ownList tb row) w l n) c 0 ≡ (getD l c 0 + bit (holdsTo tb row c n) * w) % 256
+    unfolding addedTo bit
+    addedTo-law c zero e h b i = rw (holds-none tb row c h) (omega arith)
+    addedTo-law c (suc n) e h b i =
+        let prev = addedTo (ownList tb row) w l n in
+        let m = addedTo-law c n e h b (omega arith) in
+        let long : length prev ≡ 128 = length-addedTo n ∙ e in
+        let byte : getD prev c 0 < 256 = rw m (omega arith) in
+        rw (own-at tb row n i, added-law prev (ownOf tb row n) w c (omega arith) byte, m, own-counts tb row c h n)
+        (sums (getD l c 0) (bit (holdsTo tb row c n)) (bit (eqb (ownOf tb row n) c)) w)
 
   -- ---- rows
 
   module _ (row : List ℕ) (b : Bool) (l : List ℕ) where
     length-rowAdded : length (rowAdded tb row (bit b) l) ≡ length l
     unfolding rowAdded
-    length-rowAdded = caseB (inUse row)
-        (λ y. rw y (length-addedTo row (bit b) l (ownSlots tb (definitionOf tb (standsAt row))))) (λ n. rw n)
+    length-rowAdded = length-addedTo row (bit b) l (ownRoom tb row)
 
     bit-and : (x y : Bool) → bit x * bit y ≡ bit (y && x)
     unfolding bit
@@ -72,14 +72,9 @@ module _ (tb : Table) where
     bit-and false false = refl
 
     rowAdded-law : (c : ℕ) → length l ≡ 128 → c < 128 → getD l c 0 < 256 → getD (rowAdded tb row (bit b) l) c 0 ≡ (getD l c 0 + bit (b && holds tb row c)) % 256
-    unfolding rowAdded holds bit
-    rowAdded-law c e h y = rw (lt-ltb c 128 h, has-own tb row c) (caseB (inUse row)
-        (λ t. rw (t, addedTo-law row (bit b) l c (ownSlots tb (definitionOf tb (standsAt row))) e h y, bit-and (hasTo tb row c (ownSlots tb (definitionOf tb (standsAt row)))) b))
-        (λ f. rw f (free b)))
-      where
-        free : (b : Bool) → getD l c 0 ≡ (getD l c 0 + bit (b && false)) % 256
-        free true = omega arith
-        free false = omega arith
+    unfolding rowAdded
+    rowAdded-law c e h y =
+        rw (← bit-and (holds tb row c) b, ← holds-room tb row c h) (addedTo-law row (bit b) l c (ownRoom tb row) e h y (room-le tb row))
 
   module _ (p : List ℕ → Bool) (ths : List (List ℕ)) where
     abbrev passed : ℕ → ℕ → ℕ
@@ -110,7 +105,7 @@ module _ (tb : Table) where
         below-law (replicate 128 0) c 64 (length-replicate {A = ℕ} 128 0) h (omega (arith, zeros-at 128 c))
         ∙ omega (arith, zeros-at 128 c))
 
-  -- those that hold a channel, and those of them that wait
+  -- the rows that hold a channel, and the waiting ones among them
   pub holders-counted : (ths : List (List ℕ)) → length ths ≡ 64 → addedBelow tb (λ row. true) ths (replicate 128 0) 64 ≡ tabulate 128 (holders tb ths)
   unfolding holders
   holders-counted ths long = counted (λ row. true) ths long

@@ -4,7 +4,7 @@ use mathlib.Core.Path.{_≡_}
 use mathlib.Core.Bool.{true}
 use borrow.Author.Needs.{needs}
 use Rattle.numbers.specs.Search.{every}
-use Rattle.numbers.specs.Search.Laws.{every-laws}
+use Rattle.numbers.specs.Search.Laws.{every-none}
 use Rattle.table.specs.Table.{tableOf}
 use Rattle.state.specs.State.{stateOf}
 use Rattle.rules.specs.Sound.{portTyped}
@@ -26,7 +26,7 @@ ports-sound-spec =
     Inv-loop
     μ-loop
     (λ c κs. search needs)
-    (λ c. search (every-laws, needs))
+    (λ c. (search needs, search every-none))
     (λ c. search needs)
     (λ c κs. search needs)
     (λ c. search port-untyped)

@@ -4,7 +4,7 @@ use mathlib.Core.Path.{_≡_}
 use mathlib.Core.Bool.{true}
 use borrow.Author.Needs.{needs}
 use Rattle.numbers.specs.Search.{every}
-use Rattle.numbers.specs.Search.Laws.{every-laws}
+use Rattle.numbers.specs.Search.Laws.{every-none, every-all}
 use Rattle.state.specs.State.{stateOf, thread}
 use Rattle.sound.specs.SoundRows.{wordZero}
 use Rattle.sound.proofs.Ways.{word-zero, word-other}
@@ -24,11 +24,11 @@ row-is-zero-spec =
     (tie.spec
     Inv-loop
     μ-loop
-    (λ c. search (every-laws, needs))
+    (λ c. (search needs, search every-none))
     (λ c. search needs)
     (λ c κs. search needs)
     (λ c. search word-other)
     (λ c. search needs)
     (λ c. search needs)
     (λ c. (search needs, search word-zero))
-    (λ c. search every-laws))
+    (λ c. search every-all))

@@ -18,7 +18,7 @@ use Rattle.state.specs.State.{State, stateOf, stateWords, thread, channel, isWa
 use Rattle.state.specs.State.Laws.{length-marks, length-threads, length-channels, length-channel, three-stored}
 use Rattle.rules.specs.Holding.{holds, holders, waiters, countOf, channelRow, recount, settled}
 use Rattle.rules.specs.Start.{freeRow, entered, portRow, started}
-use Rattle.upkeep.specs.Own.{ownList}
+use Rattle.holding.specs.Own.{ownList}
 use Rattle.upkeep.specs.Shift.{settledOne}
 use Rattle.upkeep.specs.Upkeep.{one-settled, settled-again}
 use Rattle.starts.specs.FilledRows.{filledTo}

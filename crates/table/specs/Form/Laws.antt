@@ -1,9 +1,8 @@
 -- What a header in range says of its counts. Assumes nothing.
 use Prim.Native.Nat.{ℕ, _≤_}
-use mathlib.Core.Path.{_≡_, refl}
-use mathlib.Core.Bool.{Bool, true, false, _&&_}
+use mathlib.Core.Path.{_≡_}
+use mathlib.Core.Bool.{true}
 use lib.Dec.{leb}
-use native.Mathlib.Omega.{arith}
 use borrow.Author.Tests.{leb-true}
 use Rattle.numbers.specs.Tests.{and-left, and-right, parts}
 use Rattle.table.specs.Table.{Table, types, definitions, slots, nodes, branches, ports}

@@ -1,5 +1,5 @@
 -- What stands in the places of an index. Assumes nothing.
-use Prim.Native.Nat.{ℕ, _+_, _-_, _*_, _/_, _≤_, _<_}
+use Prim.Native.Nat.{ℕ, _+_, _-_, _≤_, _<_}
 use native.Mathlib.Omega.{arith}
 use native.Mathlib.Nat.{min-le-right}
 use mathlib.Core.Path.{_≡_, refl, sym, _∙_}
@@ -12,7 +12,7 @@ use Rattle.numbers.specs.Rows.Laws.{row-in, length-row}
 use Rattle.numbers.specs.Search.Laws.{getD-tabulate, length-tabulate}
 use Rattle.table.specs.Table.{Table, tableOf, definitionRow, slotRow, nodeRow, branchRow}
 use Rattle.table.specs.Layout.{blocks, lines, start, owner}
-use Rattle.table.specs.Form.Laws.{Counts, header-counts}
+use Rattle.table.specs.Form.Laws.{Counts}
 use Rattle.table.specs.Index.{indexLength, startsFrom, startsRoom, ownersFrom, ownersRoom, entry, indexOf, Indexed}
 use Rattle.table.specs.declared.Part.{Part}
 use Rattle.table.specs.declared.Part.the-variants.{Slots, Nodes, Branches}

@@ -10,7 +10,7 @@ use lib.ListN.{length, getD, length-set}
 use lib.Seq.{getD-set-same, getD-set-other}
 use borrow.Author.Tests.{ltb-true, lt-ltb, eqb-true, eqb-false, eq-eqb}
 use Rattle.numbers.specs.Search.{some}
-use Rattle.numbers.specs.Search.Laws.{caseB, contra, same-truth, some-elim, some-intro, some-void, getD-tabulate, is-tabulate}
+use Rattle.numbers.specs.Search.Laws.{caseB, contra, same-truth, some-elim, some-intro, some-void, is-tabulate}
 use Rattle.numbers.specs.Tests.{parts}
 use Rattle.table.specs.Table.{Table}
 use Rattle.table.specs.Layout.{branchCount}
@@ -20,9 +20,8 @@ use Rattle.rules.specs.Holding.{holds}
 use Rattle.rules.specs.Offers.{meets?, offersIn, offersAt, offers}
 use Rattle.rules.specs.declared.Direction.{Direction}
 use Rattle.rules.specs.declared.Direction.the-variants.{Out, In}
-use Rattle.upkeep.specs.Own.{ownOf, ownList}
-use Rattle.upkeep.specs.Own.Listing.{holdsTo}
-use Rattle.upkeep.specs.Own.Laws.{holds-none, own-suc, holds-all}
+use Rattle.holding.specs.Own.{ownOf, ownList, holdsTo}
+use Rattle.holding.specs.Own.Laws.{own-at, holds-none, own-suc, holds-all}
 use Rattle.threads.specs.Threads.{offersMarked, withHeld}
 use Rattle.threads.specs.Threads.Laws.{one-way, this-way, marked-offer, offer-marked}
 use Rattle.threads.specs.Looking.{raisedTo, isMarked, reachesBy, reachesAt}
@@ -46,10 +45,6 @@ module _ (tb : Table) (row : List ℕ) (k : List Bool) (e : length k ≡ 128) wh
   raised-long zero = e
   raised-long (suc n) = length-set (raisedTo k (ownList tb row) n) (getD (ownList tb row) n 0) true ∙ raised-long n
 
-  own-at : (n : ℕ) → n < 16 → getD (ownList tb row) n 0 ≡ ownOf tb row n
-  unfolding ownList
-  own-at n h = getD-tabulate 16 n (ownOf tb row) 0 h
-
   raised-to : (n c : ℕ) → n ≤ 16 → c < 128 → getD (raisedTo k (ownList tb row) n) c false ≡ (getD k c false || holdsTo tb row c n)
   unfolding raisedTo
   raised-to zero c h l = rw (holds-none tb row c l) (or-none (getD k c false))
@@ -60,7 +55,7 @@ module _ (tb : Table) (row : List ℕ) (k : List Bool) (e : length k ≡ 128) wh
   raised-to (suc n) c h l =
       let o = ownOf tb row n in
       let r = raisedTo k (ownList tb row) n in
-      rw (own-at n (omega arith), own-suc tb row c l n, or-next (getD k c false) (holdsTo tb row c n) (eqb o c), ← raised-to n c (omega arith) l)
+      rw (own-at tb row n (omega arith), own-suc tb row c l n, or-next (getD k c false) (holdsTo tb row c n) (eqb o c), ← raised-to n c (omega arith) l)
       (caseB (eqb o c)
       (λ y. let q : o ≡ c = eqb-true o c y in rw (y, q) (getD-set-same r c true false (omega (arith, raised-long n))))
       (λ y. rw y (getD-set-other r o c true false (λ q. eqb-false o c y (sym q)))))

@@ -16,5 +16,5 @@ make-end-spec =
     (λ c κs. search needs)
     (λ c.
     let pre = c .before .before .before .before .before .before .before .before .before .before .pre in
-    let old = c .before .before .before .before .before .take-down .ensures in
+    let old = c .before .before .before .before .before .note-held .ensures in
     (alone-made _ _ (pre .1 .1) _ (pre .1 .0) Ends _ _ _ _ (c .before .before .before .write-free .ensures) (old .0) (old .1) (c .settle-one .ensures) tt, alone-counted _ _ (pre .1 .1) _ (pre .1 .0) Ends _ _ _ _ (c .before .before .before .write-free .ensures) (old .0) (old .1) (c .settle-one .ensures) tt)))

@@ -27,8 +27,8 @@ use Rattle.rules.specs.Offers.{answers, answering, partnerOf}
 use Rattle.rules.specs.Moves.{firstFrom, around, isFreeThread, isFreeChannel, freeThread, freeChannel, creation, goesAhead, actMove, branchMove, ahead, choice, move, typed, oneUp, spawnedBy, written, perform}
 use Rattle.rules.specs.declared.Move.{Move}
 use Rattle.rules.specs.declared.Move.the-variants.{Ends, Calls, Waits, Goes, Creates, Spawns, Meets, LacksThread, LacksChannel}
-use Rattle.upkeep.specs.Own.{ownList}
-use Rattle.upkeep.specs.Shift.{shiftRow, shiftTo, shiftedTo, shifted, channelShifted, rowEntered, rowLeft, settledOne, settledTwo, settledNew}
+use Rattle.holding.specs.Own.{ownList}
+use Rattle.upkeep.specs.Shift.{shiftRow, shiftTo, shiftedTo, channelShifted, rowEntered, rowLeft, settledOne, settledTwo, settledNew}
 use Rattle.upkeep.specs.Upkeep.{waiters-le, counts-move, settled-again, settled-length, settled-mark}
 use Rattle.rules_laws.specs.Granted.{Granted}
 use Rattle.rules_laws.specs.Soundness.{Sound}
@@ -109,19 +109,19 @@ module _ (tb : Table) (x : State) (chs : List (List ℕ)) (e : Alike (x .channel
   one-alike : (t : ℕ) (l : List ℕ) (w : ℕ)
       → (withChannels (settledOne tb x t l w) (settledOne tb (withChannels x chs) t l w .channels) ≡ settledOne tb (withChannels x chs) t l w)
       × Alike (settledOne tb x t l w .channels) (settledOne tb (withChannels x chs) t l w .channels)
-  unfolding settledOne rowEntered rowLeft shifted shiftedTo withChannels
+  unfolding settledOne rowEntered rowLeft shiftedTo withChannels
   one-alike t l w = (refl, shift-alike l _ _ _ _ (shift-alike _ _ _ _ _ e _) _)
 
   two-alike : (t u : ℕ) (l : List ℕ) (w : ℕ) (l′ : List ℕ) (w′ : ℕ)
       → (withChannels (settledTwo tb x t u l w l′ w′) (settledTwo tb (withChannels x chs) t u l w l′ w′ .channels) ≡ settledTwo tb (withChannels x chs) t u l w l′ w′)
       × Alike (settledTwo tb x t u l w l′ w′ .channels) (settledTwo tb (withChannels x chs) t u l w l′ w′ .channels)
-  unfolding settledTwo rowEntered rowLeft shifted shiftedTo withChannels
+  unfolding settledTwo rowEntered rowLeft shiftedTo withChannels
   two-alike t u l w l′ w′ = (refl, shift-alike l′ _ _ _ _ (shift-alike l _ _ _ _ (shift-alike _ _ _ _ _ (shift-alike _ _ _ _ _ e _) _) _) _)
 
   new-alike : (t c : ℕ) (l : List ℕ) (w : ℕ)
       → (withChannels (settledNew tb x t c l w) (settledNew tb (withChannels x chs) t c l w .channels) ≡ settledNew tb (withChannels x chs) t c l w)
       × Alike (settledNew tb x t c l w .channels) (settledNew tb (withChannels x chs) t c l w .channels)
-  unfolding settledNew channelShifted rowEntered rowLeft shifted shiftedTo withChannels
+  unfolding settledNew channelShifted rowEntered rowLeft shiftedTo withChannels
   new-alike t c l w = (refl, shift-alike l _ _ _ _ (row-alike _ _ (shift-alike _ _ _ _ _ e _) c 0 0) _)
 
   -- ---- what both stand for

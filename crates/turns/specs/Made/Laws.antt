@@ -23,7 +23,7 @@ use Rattle.rules.specs.declared.Turn.{Turn}
 use Rattle.rules.specs.declared.Turn.the-variants.{Went, Stopped}
 use Rattle.decision.specs.Around.{next-ready-in}
 use Rattle.decision.specs.Decided.{spawns-free}
-use Rattle.upkeep.specs.Own.{ownList}
+use Rattle.holding.specs.Own.{ownList}
 use Rattle.upkeep.specs.Shift.{settledOne, settledTwo, settledNew}
 use Rattle.upkeep.specs.Upkeep.{one-settled, two-settled, new-settled, settled-mark, two-mark, new-mark}
 use Rattle.rules_laws.specs.Granted.{Granted}

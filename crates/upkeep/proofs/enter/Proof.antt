@@ -1,5 +1,5 @@
-use Rattle.upkeep.proofs.Shifts.{enter-is}
 use borrow.Author.Needs.{needs}
+use Rattle.upkeep.proofs.Shifts.{enter-is}
 use Rattle.upkeep.proofs.enter.Statement.{statement}
 use Rattle.upkeep.proofs.enter.Tie as tie
 
@@ -9,5 +9,6 @@ enter-spec =
     (tie.spec
     (λ c κs. search needs)
     (λ c κs. search needs)
+    (λ c. search needs)
     (λ c κs. search needs)
     (λ c. search enter-is))

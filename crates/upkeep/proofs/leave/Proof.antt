@@ -1,5 +1,5 @@
-use Rattle.upkeep.proofs.Shifts.{leave-is}
 use borrow.Author.Needs.{needs}
+use Rattle.upkeep.proofs.Shifts.{leave-is}
 use Rattle.upkeep.proofs.leave.Statement.{statement}
 use Rattle.upkeep.proofs.leave.Tie as tie
 

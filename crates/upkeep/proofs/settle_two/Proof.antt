@@ -1,7 +1,11 @@
-use Rattle.upkeep.proofs.Shifts.{settle-two-is}
 use borrow.Author.Needs.{needs}
+use Rattle.upkeep.specs.Shift.{settledTwo}
 use Rattle.upkeep.proofs.settle_two.Statement.{statement}
 use Rattle.upkeep.proofs.settle_two.Tie as tie
+
+returns : tie.Need-returns
+unfolding settledTwo
+returns c = cc
 
 pub settle-two-spec : {M : Type 1} → statement M
 settle-two-spec =
@@ -9,4 +13,6 @@ settle-two-spec =
     (tie.spec
     (λ c κs. search needs)
     (λ c κs. search needs)
-    (λ c. search settle-two-is))
+    (λ c κs. search needs)
+    (λ c κs. search needs)
+    returns)

@@ -1,5 +1,5 @@
-use Rattle.upkeep.proofs.Shifts.{shift-in, shift-out}
 use borrow.Author.Needs.{needs}
+use Rattle.upkeep.proofs.Shifts.{shift-in, shift-out}
 use Rattle.upkeep.proofs.shift.Statement.{statement}
 use Rattle.upkeep.proofs.shift.Tie as tie
 
@@ -7,7 +7,6 @@ pub shift-spec : {M : Type 1} → statement M
 shift-spec =
     tie.close
     (tie.spec
-    (λ c. search needs)
     (λ c κs. search needs)
     (λ c κs. search needs)
     (λ c κs. search needs)

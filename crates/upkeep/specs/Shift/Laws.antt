@@ -12,21 +12,20 @@ use borrow.Author.Tests.{eqb-true, eqb-false}
 use Rattle.numbers.specs.Count.{bit}
 use Rattle.numbers.specs.Count.Laws.{bit-le}
 use Rattle.numbers.specs.Rows.{at}
-use Rattle.numbers.specs.Search.Laws.{caseB, getD-tabulate}
+use Rattle.numbers.specs.Search.Laws.{caseB}
 use Rattle.numbers.specs.Signed.{sum, difference}
 use Rattle.table.specs.Table.{Table}
-use Rattle.state.specs.State.{minusOne, isWaiting}
+use Rattle.state.specs.State.{minusOne, rowSlots, isWaiting}
 use Rattle.rules.specs.Holding.{holds, channelRow}
-use Rattle.upkeep.specs.Own.{ownOf, ownList}
-use Rattle.upkeep.specs.Own.Laws.{holds-none, own-again, own-suc, holds-all, length-own}
-use Rattle.upkeep.specs.Own.Listing.{holdsTo}
+use Rattle.holding.specs.Own.{ownOf, ownList, ownRoom, holdsTo}
+use Rattle.holding.specs.Own.Laws.{room-le, own-at, holds-none, own-again, own-suc, holds-all, holds-room}
 use Rattle.upkeep.specs.Shift.{shiftRow, shiftTo}
 
 -- each channel row says a type, a count and a count of waiting holders
 abbrev pub Raw : List (List ℕ) → (ℕ → ℕ) → (ℕ → ℕ) → (ℕ → ℕ) → Type 0
 Raw chs ty n w = (length chs ≡ 128) × ((c : ℕ) → c < 128 → getD chs c [] ≡ ty c ∷ n c ∷ w c ∷ [])
 
--- ... and is free where the count is 0
+-- each channel row says so, and is free where its count is 0
 abbrev pub Settled : List (List ℕ) → (ℕ → ℕ) → (ℕ → ℕ) → (ℕ → ℕ) → Type 0
 Settled chs ty n w = (length chs ≡ 128) × ((c : ℕ) → c < 128 → getD chs c [] ≡ channelRow (ty c) (n c) (w c))
 
@@ -55,13 +54,13 @@ module _ (tb : Table) (row : List ℕ) (dn dw : ℕ) (chs : List (List ℕ)) (lo
 
   -- a channel is touched once at most
   shift-law : (c k : ℕ) → c < 128 → k ≤ 16 → getD (shiftTo (ownList tb row) dn dw chs k) c [] ≡ cond (holdsTo tb row c k) (rowShifted chs c dn dw) (getD chs c [])
-  unfolding shiftTo ownList
+  unfolding shiftTo
   shift-law c zero h l = rw (holds-none tb row c h)
   shift-law c (suc k) h l =
       let m = shift-law c k h (omega arith) in
       let prev = shiftTo (ownList tb row) dn dw chs k in
       let len : c < length prev = omega (arith, length-shiftTo k, h) in
-      rw (getD-tabulate 16 k (ownOf tb row) 0 l, own-suc tb row c h k)
+      rw (own-at tb row k l, own-suc tb row c h k)
       (caseB (holdsTo tb row c k)
       (λ y. rw y (shift-other prev (ownOf tb row k) dn dw c (own-again tb row c h k y) ∙ (rw y at m)))
       (λ n. let same : getD prev c [] ≡ getD chs c [] = rw n at m in
@@ -69,11 +68,12 @@ module _ (tb : Table) (row : List ℕ) (dn dw : ℕ) (chs : List (List ℕ)) (lo
       (λ e. rw e (shift-same prev (ownOf tb row k) dn dw c len e ∙ rw same))
       (λ e. rw e (shift-other prev (ownOf tb row k) dn dw c e ∙ same)))))
 
-  pub length-shifted : length (shiftTo (ownList tb row) dn dw chs (length (ownList tb row))) ≡ 128
-  length-shifted = length-shiftTo (length (ownList tb row))
+  -- so for the slots of the row's definition, and for the whole list
+  pub room-shifted : (c : ℕ) → c < 128 → getD (shiftTo (ownList tb row) dn dw chs (ownRoom tb row)) c [] ≡ cond (holds tb row c) (rowShifted chs c dn dw) (getD chs c [])
+  room-shifted c h = rw (← holds-room tb row c h) (shift-law c (ownRoom tb row) h (room-le tb row))
 
-  pub row-shifted : (c : ℕ) → c < 128 → getD (shiftTo (ownList tb row) dn dw chs (length (ownList tb row))) c [] ≡ cond (holds tb row c) (rowShifted chs c dn dw) (getD chs c [])
-  row-shifted c h = rw (length-own tb row, ← holds-all tb row c h) (shift-law c 16 h (omega arith))
+  pub list-shifted : (c : ℕ) → c < 128 → getD (shiftTo (ownList tb row) dn dw chs rowSlots) c [] ≡ cond (holds tb row c) (rowShifted chs c dn dw) (getD chs c [])
+  list-shifted c h = rw (← holds-all tb row c h) (shift-law c 16 h (omega arith))
 
 -- ---- one channel row, in plain numbers
 
@@ -110,12 +110,12 @@ free-row ty (suc n) w f = refl
 
 -- ---- all channel rows
 
--- once a row is entered, and once it is left
+-- the channel rows once a thread's row is entered, and once it is left
 abbrev pub entering : Table → List ℕ → List (List ℕ) → List (List ℕ)
-entering tb row chs = shiftTo (ownList tb row) 1 (bit (isWaiting row)) chs (length (ownList tb row))
+entering tb row chs = shiftTo (ownList tb row) 1 (bit (isWaiting row)) chs (ownRoom tb row)
 
 abbrev pub leaving : Table → List ℕ → List (List ℕ) → List (List ℕ)
-leaving tb row chs = shiftTo (ownList tb row) minusOne (difference 0 (bit (isWaiting row))) chs (length (ownList tb row))
+leaving tb row chs = shiftTo (ownList tb row) minusOne (difference 0 (bit (isWaiting row))) chs rowSlots
 
 -- no count comes near the end of the 32-bit numbers
 abbrev pub Low : (ℕ → ℕ) → (ℕ → ℕ) → Type 0
@@ -125,9 +125,9 @@ module _ (chs : List (List ℕ)) (ty n w : ℕ → ℕ) where
   pub enter-law : (tb : Table) (row : List ℕ) → Raw chs ty n w → Low n w → Raw (entering tb row chs) ty (λ c. n c + bit (holds tb row c)) (λ c. w c + bit (isWaiting row && holds tb row c))
   unfolding bit
   enter-law tb row (long, raw) low = (
-    length-shifted tb row 1 (bit (isWaiting row)) chs long,
+    length-shiftTo tb row 1 (bit (isWaiting row)) chs long (ownRoom tb row),
     λ c h.
-        row-shifted tb row 1 (bit (isWaiting row)) chs long c h ∙ rw (raw c h) (caseB (holds tb row c)
+        room-shifted tb row 1 (bit (isWaiting row)) chs long c h ∙ rw (raw c h) (caseB (holds tb row c)
         (λ y. let (a, b) = low c h in rw (bit-both (isWaiting row) (holds tb row c) y, y) (enter-row (ty c) (n c) (w c) (isWaiting row) a b))
         (λ z. let a : n c + 0 ≡ n c = omega arith in let b : w c + 0 ≡ w c = omega arith in rw (bit-neither (isWaiting row) (holds tb row c) z, z, a, b))),
   )
@@ -154,9 +154,9 @@ module _ (chs : List (List ℕ)) (ty n w : ℕ → ℕ) where
       → Low N W → Settled (leaving tb row chs) ty n w
   unfolding bit
   leave-law tb row N W (long, says) more low = (
-    length-shifted tb row minusOne (difference 0 (bit (isWaiting row))) chs long,
+    length-shiftTo tb row minusOne (difference 0 (bit (isWaiting row))) chs long rowSlots,
     λ c h.
-        row-shifted tb row minusOne (difference 0 (bit (isWaiting row))) chs long c h ∙ caseB (holds tb row c)
+        list-shifted tb row minusOne (difference 0 (bit (isWaiting row))) chs long c h ∙ caseB (holds tb row c)
         (λ y. let (a, b) = low c h in let (p, q) = more c h in
         let p′ : N c ≡ n c + 1 = rw y at p in
         let q′ : W c ≡ w c + bit (isWaiting row) = rw (bit-both (isWaiting row) (holds tb row c) y) at q in

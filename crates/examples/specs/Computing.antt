@@ -1,0 +1,45 @@
+-- Each of these names opens what examples of one kind compute with.
+use Rattle.numbers.specs.Count.{bit, count}
+use Rattle.numbers.specs.Search.{some, computing}
+use Rattle.numbers.specs.Signed.{residue, lower, sum, widened}
+use Rattle.table.specs.Layout.{blocks, lines, branchCount, size, start, endsPast, owner}
+use Rattle.table.specs.Form.{gain, loss, within, headerInRange, kindDue, kindWrong, gainOf, lossOf, sumAgrees, sumsAgree}
+use Rattle.table.specs.Roles.{guardRole, actionRole, operandPlace, operand, operandRole, reads, writes}
+use Rattle.ranges.specs.Ranges as Ranges
+use Rattle.ranges.specs.Ranges.{roleInRange, unusedFrom, restUnused, typeInRange, definitionInRange, argumentInRange, callInRange, nodeInRange, operandInRange, targetsInRange, branchInRange, outOfRange}
+use Rattle.types.specs.Types as Types
+use Rattle.types.specs.Types.{roleTyped, portsTyped, argumentTyped, nodeTyped, operandTyped, branchTyped, rowTyped, typesDisagree}
+use Rattle.flow.specs.Flow.{slotWritten, pastWrite, either, arrive, begins, beginning, branchFollowed, branchesFollowed, flowTo, flow, mayLack, argumentWritten, callWritten, operandWritten, rowWritten, readsUnwritten, unreachable, marked}
+use Rattle.loader.specs.Verdict.{atFault, judgedFlow, judgedRows, judged, isSound}
+use Rattle.state.specs.State.{withMark, withThread, withChannel, withChannels}
+use Rattle.rules.specs.Program.{wrappedSum, wrappedDifference, typeAt, channelSlot, blank, branchAt, nextOf, childOf, actOf, guardHolds, assigned, opposite, same}
+use Rattle.rules.specs.Holding.{hasAt, holds, holders, waiters, countOf, channelRow, recount, settled}
+use Rattle.rules.specs.Start.{entered, portRow, started}
+use Rattle.rules.specs.Offers.{meets?, offersIn, offersAt, offeringBranch, offers, answers, answering, partnerOf}
+use Rattle.rules.specs.Moves.{firstFrom, around, oneUp, isFreeThread, isFreeChannel, freeThread, freeChannel, meeting, creation, spawning, goesAhead, actMove, branchMove, ahead, choice, move, resumed, waitingRow, stored, met, gone, sideOf, typed, goneBy, createdBy, metBy, valueBy, typeBy, spawnedBy, written, perform}
+use Rattle.rules.specs.Calls.{stepAnswer, isReadyThread, nextReady, pastTurn, reasonFor, turnFor, turnBy, turnEnd, takeTurn, oneMore, onward, courseOf}
+use Rattle.rules.specs.Sound.{marksInRange, freeZero, rowInRange, spareZero, slotTyped, slotsTyped, slotFilled, slotsFilled, countTrue, portTyped, waitsRightly, sound}
+use Rattle.marking.specs.Enabled as Enabled
+use Rattle.marking.specs.Enabled.{known, reaches, joins, rounds, enabledSet}
+use Rattle.collector.specs.Collect.{taken, remaining, collected, takenCount}
+use Rattle.marking.specs.Enabled.{nobody}
+
+-- the tests of a table
+unfoldable pub judging : Unit {0}
+unfolding computing blocks lines branchCount size start endsPast owner gain loss within headerInRange kindDue kindWrong gainOf lossOf sumAgrees sumsAgree guardRole actionRole operandPlace operand operandRole reads writes roleInRange Ranges.ahead unusedFrom restUnused typeInRange definitionInRange argumentInRange callInRange nodeInRange operandInRange targetsInRange branchInRange Ranges.rowInRange outOfRange roleTyped Types.portTyped portsTyped argumentTyped nodeTyped operandTyped branchTyped rowTyped typesDisagree slotWritten pastWrite either arrive begins beginning branchFollowed branchesFollowed flowTo flow marked mayLack argumentWritten callWritten operandWritten rowWritten readsUnwritten unreachable atFault judgedFlow judgedRows judged isSound
+judging = tt
+
+-- runs
+unfoldable pub running : Unit {0}
+unfolding computing some bit count residue lower sum widened blocks lines branchCount size start endsPast owner withMark withThread withChannel withChannels wrappedSum wrappedDifference typeAt channelSlot blank branchAt nextOf childOf actOf guardHolds assigned opposite same hasAt holds holders waiters countOf channelRow recount settled entered portRow started meets? offersIn offersAt offeringBranch offers answers answering partnerOf firstFrom around oneUp isFreeThread isFreeChannel freeThread freeChannel meeting creation spawning goesAhead actMove branchMove ahead choice move resumed waitingRow stored met gone sideOf typed goneBy createdBy metBy valueBy typeBy spawnedBy written perform stepAnswer isReadyThread nextReady pastTurn reasonFor turnFor turnBy turnEnd takeTurn oneMore onward courseOf
+running = tt
+
+-- runs and collections
+unfoldable pub collecting : Unit {0}
+unfolding running known reaches joins Enabled.begins rounds enabledSet nobody taken remaining collected takenCount
+collecting = tt
+
+-- the test of a sound state
+unfoldable pub testing : Unit {0}
+unfolding judging running marksInRange freeZero rowInRange spareZero slotTyped slotsTyped slotFilled slotsFilled countTrue portTyped waitsRightly sound
+testing = tt

@@ -1,4 +1,0 @@
-pub mod WorkedListing
-pub mod Shown
-pub mod Cut
-pub mod WorkedReasons

@@ -1,0 +1,134 @@
+// The channels that a thread's row holds, each once, and what the row adds to their counts of waiting holders.
+ghost use mathlib.Core.Path.{_≡_};
+ghost use Prim.Native.Nat.{_+_, _≤_, _<_};
+ghost use lib.ListN.{replicate};
+ghost use Rattle.numbers.specs.Count.{bit};
+ghost use Rattle.table.specs.Table.{tableOf};
+ghost use Rattle.table.specs.Index.{Indexed};
+ghost use Rattle.state.specs.State.{stateOf, thread, isWaiting};
+ghost use Rattle.holding.specs.Own.{room, ownList, ownRoom};
+ghost use Rattle.holding.specs.Own.Listing.{listed, ownBy, listedTo};
+
+// The entries of a list of channels, one for each slot of a row.
+pub const LIST: usize = 16;
+
+const ROW_SLOTS: u32 = 16;
+
+const CHANNELS: u32 = 128;
+
+// The entry of a slot by which the row holds no channel that it does not hold by a slot before: the first number past the channels.
+const NO_CHANNEL: u8 = 128;
+
+const WAITING: u32 = 2;
+
+// Whether one of the first n entries of a list is c.
+fn is_listed(list: &[u8; LIST], n: u32, c: u8) -> bool
+    requires { ⌜ n ≤ 16 ⌝ }
+    ensures { λ r. ⌜ r ≡ listed (now (list .entry)) n c ⌝ }
+{
+    for i in 0..n {
+        if list[i as usize] == c {
+            return true;
+        }
+    }
+    false
+}
+
+// The channel that slot k of thread t is the first to hold; 128 where there is none. The types of the slots stand from a row of the table on, and the
+// list has the channels of the slots before.
+fn own_at(
+    table: &[u8],
+    index: &[u32],
+    from: usize,
+    state: &[u32; state::WORDS],
+    t: u32,
+    list: &[u8; LIST],
+    k: u32,
+) -> u8
+    requires { ⌜ Indexed (tableOf (now table)) (now index) ⌝ }
+    requires { ⌜ from ≤ 12713792 ⌝ }
+    requires { ⌜ k ≤ 16 ⌝ }
+    ensures { λ r. ⌜ r ≡ ownBy (tableOf (now (table .entry))) from (thread (stateOf (now (state .entry))) t) (now (list .entry)) k ⌝ }
+{
+    let c = program::slot(state, t, k);
+    if c < CHANNELS {
+        if table::cell_of(table, index, from + k as usize, 1) == 0 {
+            return NO_CHANNEL;
+        }
+        if is_listed(list, k, c as u8) {
+            return NO_CHANNEL;
+        }
+        return c as u8;
+    }
+    NO_CHANNEL
+}
+
+// The channels of thread t's first n slots are written into a list, each once.
+fn list_own(
+    table: &[u8],
+    index: &[u32],
+    from: usize,
+    state: &[u32; state::WORDS],
+    t: u32,
+    n: u32,
+    list: &mut [u8; LIST],
+)
+    requires { ⌜ Indexed (tableOf (now table)) (now index) ⌝ }
+    requires { ⌜ from ≤ 12713792 ⌝ }
+    requires { ⌜ n ≤ 16 ⌝ }
+    ensures { λ _. ⌜ now (list .exit) ≡ listedTo (tableOf (now (table .entry))) from (thread (stateOf (now (state .entry))) t) (now (list .entry)) n ⌝ }
+{
+    for k in 0..n {
+        let c = own_at(table, index, from, state, t, list, k);
+        list[k as usize] = c;
+    }
+}
+
+// How many slots a row of this status and definition has: none where it is free.
+fn own_room(table: &[u8], index: &[u32], status: u32, d: u32) -> u32
+    requires { ⌜ Indexed (tableOf (now table)) (now index) ⌝ }
+    ensures { λ r. ⌜ r ≡ room (tableOf (now (table .entry))) status d ⌝ }
+    ensures { λ r. ⌜ r ≤ 16 ⌝ }
+{
+    if status == 0 {
+        return 0;
+    }
+    let n = table::slot_count_of(table, index, d);
+    if n < ROW_SLOTS {
+        return n;
+    }
+    ROW_SLOTS
+}
+
+// The channels that thread t holds are listed, each once at the first slot that has it. Answers how many entries its slots fill: past them there is
+// no channel.
+pub fn own_channels(
+    table: &[u8],
+    index: &[u32],
+    state: &[u32; state::WORDS],
+    t: u32,
+    list: &mut [u8; LIST],
+) -> u32
+    requires { ⌜ Indexed (tableOf (now table)) (now index) ⌝ }
+    ensures { λ _. ⌜ now (list .exit) ≡ ownList (tableOf (now (table .entry))) (thread (stateOf (now (state .entry))) t) ⌝ }
+    ensures { λ r. ⌜ r ≡ ownRoom (tableOf (now (table .entry))) (thread (stateOf (now (state .entry))) t) ⌝ }
+    ensures { λ r. ⌜ r ≤ 16 ⌝ }
+{
+    *list = [NO_CHANNEL; LIST];
+    let status = state::thread_word(state, t as usize, 0);
+    let d = program::definition_of(table, index, state::thread_word(state, t as usize, 1));
+    let from = program::types_from(table, index, d);
+    let n = own_room(table, index, status, d);
+    list_own(table, index, from, state, t, n, list);
+    n
+}
+
+// What thread t adds to the count of waiting holders of each channel that it holds: 1 where it waits.
+pub fn weight(state: &[u32; state::WORDS], t: u32) -> u8
+    ensures { λ r. ⌜ r ≡ bit (isWaiting (thread (stateOf (now (state .entry))) t)) ⌝ }
+{
+    if state::thread_word(state, t as usize, 0) == WAITING {
+        return 1;
+    }
+    0
+}

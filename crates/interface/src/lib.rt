@@ -1,0 +1,220 @@
+// The answers of the exported calls, in the numbers that C sees: a record for each, and the functions that fill it.
+ghost use mathlib.Core.Path.{_≡_};
+ghost use Prim.Native.Nat.{_≤_};
+ghost use Rattle.loader.specs.Load.{refusalNumber, lineNumber};
+ghost use Rattle.interface.specs.Interface.{startFields, startNumbers, stepFields, stepNumbers, giveFields, giveNumbers};
+ghost use Rattle.interface.specs.Interface.{takeFields, takeNumbers, runFields, runNumbers, collectFields, collectNumbers};
+use collector::Collected;
+use loader::Loaded;
+use rules::Given;
+use rules::Ran;
+use rules::Started;
+use rules::Stepped;
+use rules::Taken;
+
+// The answer of a load: the refusal, 0 for none, and the line at fault, 0 for none.
+#[repr(C)]
+pub struct LoadAnswer {
+    pub refusal: i32,
+    pub line: i32,
+}
+
+// The refusal of a load, 0 for none.
+pub fn refusal_number(answer: Loaded) -> u32
+    ensures { λ r. ⌜ r ≡ refusalNumber answer ⌝ }
+    ensures { λ r. ⌜ r ≤ 8 ⌝ }
+{
+    match answer {
+        Loaded::Done => 0,
+        Loaded::FileRefused(ground, _) => answers::ground_number(ground),
+        Loaded::WrongLength => 8,
+    }
+}
+
+// The line at fault that a load names, 0 for none.
+pub fn line_number(answer: Loaded) -> usize
+    ensures { λ r. ⌜ r ≡ lineNumber answer ⌝ }
+{
+    match answer {
+        Loaded::Done => 0,
+        Loaded::FileRefused(_, line) => line,
+        Loaded::WrongLength => 0,
+    }
+}
+
+// The answers of the calls on a state. Each has the refusal, 0 for none, and then what was done, 0 where the call was refused.
+#[repr(C)]
+pub struct StartAnswer {
+    pub refusal: i32,
+}
+
+#[repr(C)]
+pub struct StepAnswer {
+    pub refusal: i32,
+    pub node: i32,
+    pub act: i32,
+    pub branch: i32,
+    pub partner: i32,
+}
+
+#[repr(C)]
+pub struct GiveAnswer {
+    pub refusal: i32,
+    pub thread: i32,
+}
+
+#[repr(C)]
+pub struct TakeAnswer {
+    pub refusal: i32,
+    pub thread: i32,
+    pub number: i32,
+}
+
+#[repr(C)]
+pub struct RunAnswer {
+    pub refusal: i32,
+    pub steps: i32,
+    pub reason: i32,
+    pub thread: i32,
+}
+
+#[repr(C)]
+pub struct CollectAnswer {
+    pub refusal: i32,
+    pub threads: i32,
+}
+
+// The pattern of -1.
+const MINUS_ONE: u32 = 4294967295;
+
+// The functions `start_fields` to `collect_fields` make an answer of the patterns of its numbers.
+fn start_fields(refusal: u32) -> StartAnswer
+    ensures { λ r. ⌜ r ≡ startFields refusal ⌝ }
+{
+    StartAnswer {
+        refusal: numbers::signed(refusal),
+    }
+}
+
+fn step_fields(refusal: u32, node: u32, act: u32, branch: u32, partner: u32) -> StepAnswer
+    ensures { λ r. ⌜ r ≡ stepFields refusal node act branch partner ⌝ }
+{
+    StepAnswer {
+        refusal: numbers::signed(refusal),
+        node: numbers::signed(node),
+        act: numbers::signed(act),
+        branch: numbers::signed(branch),
+        partner: numbers::signed(partner),
+    }
+}
+
+fn give_fields(refusal: u32, thread: u32) -> GiveAnswer
+    ensures { λ r. ⌜ r ≡ giveFields refusal thread ⌝ }
+{
+    GiveAnswer {
+        refusal: numbers::signed(refusal),
+        thread: numbers::signed(thread),
+    }
+}
+
+fn take_fields(refusal: u32, thread: u32, number: u32) -> TakeAnswer
+    ensures { λ r. ⌜ r ≡ takeFields refusal thread number ⌝ }
+{
+    TakeAnswer {
+        refusal: numbers::signed(refusal),
+        thread: numbers::signed(thread),
+        number: numbers::signed(number),
+    }
+}
+
+fn run_fields(refusal: u32, steps: u32, reason: u32, thread: u32) -> RunAnswer
+    ensures { λ r. ⌜ r ≡ runFields refusal steps reason thread ⌝ }
+{
+    RunAnswer {
+        refusal: numbers::signed(refusal),
+        steps: numbers::signed(steps),
+        reason: numbers::signed(reason),
+        thread: numbers::signed(thread),
+    }
+}
+
+fn collect_fields(refusal: u32, threads: u32) -> CollectAnswer
+    ensures { λ r. ⌜ r ≡ collectFields refusal threads ⌝ }
+{
+    CollectAnswer {
+        refusal: numbers::signed(refusal),
+        threads: numbers::signed(threads),
+    }
+}
+
+// The functions `start_numbers` to `collect_numbers` give the answer of a call in the numbers of document 01.
+pub fn start_numbers(answer: Started) -> StartAnswer
+    ensures { λ r. ⌜ r ≡ startNumbers answer ⌝ }
+{
+    match answer {
+        Started::Done => start_fields(0),
+        Started::Refused(ground) => start_fields(answers::refusal_of(ground)),
+    }
+}
+
+pub fn step_numbers(answer: Stepped) -> StepAnswer
+    ensures { λ r. ⌜ r ≡ stepNumbers answer ⌝ }
+{
+    match answer {
+        Stepped::Done(node, deed) => {
+            step_fields(
+                0,
+                node,
+                answers::act_number(deed),
+                answers::branch_number(deed),
+                answers::partner_number(deed),
+            )
+        }
+        Stepped::Refused(ground) => step_fields(answers::refusal_of(ground), 0, 0, 0, 0),
+    }
+}
+
+pub fn give_numbers(answer: Given) -> GiveAnswer
+    ensures { λ r. ⌜ r ≡ giveNumbers answer ⌝ }
+{
+    match answer {
+        Given::Met(thread) => give_fields(0, thread),
+        Given::Nobody => give_fields(0, MINUS_ONE),
+        Given::Refused(ground) => give_fields(answers::refusal_of(ground), 0),
+    }
+}
+
+pub fn take_numbers(answer: Taken) -> TakeAnswer
+    ensures { λ r. ⌜ r ≡ takeNumbers answer ⌝ }
+{
+    match answer {
+        Taken::Met(thread, number) => take_fields(0, thread, number),
+        Taken::Nobody => take_fields(0, MINUS_ONE, 0),
+        Taken::Refused(ground) => take_fields(answers::refusal_of(ground), 0, 0),
+    }
+}
+
+pub fn run_numbers(answer: Ran) -> RunAnswer
+    ensures { λ r. ⌜ r ≡ runNumbers answer ⌝ }
+{
+    match answer {
+        Ran::Done(steps, reason) => {
+            run_fields(
+                0,
+                steps,
+                answers::reason_number(reason),
+                answers::held_up_number(reason),
+            )
+        }
+        Ran::Refused(ground) => run_fields(answers::refusal_of(ground), 0, 0, 0),
+    }
+}
+
+pub fn collect_numbers(answer: Collected) -> CollectAnswer
+    ensures { λ r. ⌜ r ≡ collectNumbers answer ⌝ }
+{
+    match answer {
+        Collected::Done(threads) => collect_fields(0, threads),
+        Collected::Refused(ground) => collect_fields(answers::refusal_of(ground), 0),
+    }
+}

@@ -1,0 +1,131 @@
+// What the operands of a branch are: the role that each guard and each action gives to each of its fields.
+ghost use mathlib.Core.Path.{_≡_};
+ghost use Prim.Native.Nat.{_<_};
+ghost use Rattle.table.specs.Table.{tableOf};
+ghost use Rattle.table.specs.Roles.{guardRole, actionRole, operandPlace, operand, operandRole, reads, writes};
+use table::Role;
+use table::cell;
+
+// The role of operand k of guard g.
+pub fn guard_role(g: u32, k: u32) -> Role
+    ensures { λ r. ⌜ r ≡ guardRole g k ⌝ }
+{
+    if g == 0 {
+        return Role::Unused;
+    }
+    if g < 3 {
+        if k == 0 {
+            return Role::ReadNumber;
+        }
+        return Role::Constant;
+    }
+    Role::ReadNumber
+}
+
+// The role of operand k of action a, k being 0, 1, 2 for its fields a, b, c.
+pub fn action_role(a: u32, k: u32) -> Role
+    ensures { λ r. ⌜ r ≡ actionRole a k ⌝ }
+{
+    if a == 1 {
+        if k == 0 {
+            return Role::ReadChannel;
+        }
+        if k == 1 {
+            return Role::ReadCarried;
+        }
+        return Role::Unused;
+    }
+    if a == 2 {
+        if k == 0 {
+            return Role::ReadChannel;
+        }
+        if k == 1 {
+            return Role::WriteCarried;
+        }
+        return Role::Unused;
+    }
+    if a == 3 {
+        if k == 0 {
+            return Role::WriteChannel;
+        }
+        return Role::Unused;
+    }
+    if a == 5 {
+        if k == 0 {
+            return Role::WriteNumber;
+        }
+        if k == 1 {
+            return Role::Constant;
+        }
+        return Role::Unused;
+    }
+    if 5 < a {
+        if k == 0 {
+            return Role::WriteNumber;
+        }
+        return Role::ReadNumber;
+    }
+    Role::Unused
+}
+
+// The number of a branch's row that operand k is: two operands are its guard's, then three its action's.
+fn operand_place(k: u32) -> usize
+    requires { ⌜ k < 5 ⌝ }
+    ensures { λ r. ⌜ r ≡ operandPlace k ⌝ }
+{
+    if k < 2 {
+        return 2 + k as usize;
+    }
+    3 + k as usize
+}
+
+// Operand k of the branch in a row.
+pub fn operand_of(table: &[u8], row: usize, k: u32) -> u32
+    requires { ⌜ k < 5 ⌝ }
+    ensures { λ r. ⌜ r ≡ operand (tableOf (now (table .entry))) row k ⌝ }
+    ensures { λ r. ⌜ r < 65536 ⌝ }
+{
+    cell(table, row, operand_place(k))
+}
+
+// The role of operand k of the branch in a row.
+pub fn role_of(table: &[u8], row: usize, k: u32) -> Role
+    ensures { λ r. ⌜ r ≡ operandRole (tableOf (now (table .entry))) row k ⌝ }
+{
+    if k < 2 {
+        return guard_role(cell(table, row, 1), k);
+    }
+    action_role(cell(table, row, 4), k - 2)
+}
+
+// Whether a role reads its slot.
+pub fn is_read(role: Role) -> bool
+    ensures { λ r. ⌜ r ≡ reads role ⌝ }
+{
+    match role {
+        Role::Unused => false,
+        Role::Constant => false,
+        Role::ReadNumber => true,
+        Role::ReadChannel => true,
+        Role::ReadCarried => true,
+        Role::WriteNumber => false,
+        Role::WriteChannel => false,
+        Role::WriteCarried => false,
+    }
+}
+
+// Whether a role writes its slot.
+pub fn is_written(role: Role) -> bool
+    ensures { λ r. ⌜ r ≡ writes role ⌝ }
+{
+    match role {
+        Role::Unused => false,
+        Role::Constant => false,
+        Role::ReadNumber => false,
+        Role::ReadChannel => false,
+        Role::ReadCarried => false,
+        Role::WriteNumber => true,
+        Role::WriteChannel => true,
+        Role::WriteCarried => true,
+    }
+}

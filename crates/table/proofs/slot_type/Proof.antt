@@ -1,0 +1,15 @@
+use borrow.Author.Needs.{needs}
+use Rattle.table.proofs.slot_type.Statement.{statement}
+use Rattle.table.proofs.slot_type.Tie as tie
+
+pub slot-type-spec : {M : Type 1} → statement M
+slot-type-spec =
+    tie.close
+    (tie.spec
+    (λ c κs. search needs)
+    (λ c. search needs)
+    (λ c. search needs)
+    (λ c κs. search needs)
+    (λ c. search needs)
+    (λ c κs. search needs)
+    (λ c. (cc, search needs)))

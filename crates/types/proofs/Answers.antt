@@ -1,0 +1,88 @@
+-- The ways out of the tests of a row's types, by what the calls answered. Assumes nothing.
+use Prim.Native.Nat.{ℕ, _+_, _-_, _≤_, _<_}
+use mathlib.Core.Path.{_≡_, _∙_}
+use mathlib.Core.Bool.{Bool, true, false, not}
+use lib.Dec.{eqb}
+use borrow.Author.Tests.{not-true, not-false, le-leb, lt-leb, eq-eqb, ne-eqb}
+use Rattle.numbers.specs.Rows.{at}
+use Rattle.numbers.specs.Search.{every, first}
+use Rattle.numbers.specs.Search.Laws.{first-more, first-hit}
+use Rattle.table.specs.Table.{Table, types, ports, definitionRow, nodeRow, branchRow, parameters, carried}
+use Rattle.table.specs.Layout.{definitionOf, nodeOf, slotType}
+use Rattle.table.specs.declared.Role.{Role}
+use Rattle.types.specs.Types.{roleTyped, portTyped, portsTyped, argumentTyped, nodeTyped, branchTyped, rowTyped, typesDisagree}
+
+-- the type t of a port's slot is n
+pub port-read : (tb : Table) (k t n : ℕ) → t ≡ slotType tb 0 k → n ≡ 1 → eqb t n ≡ portTyped tb k
+unfolding portTyped
+port-read tb k t n e f = rw (e, f)
+
+-- the arm of a role
+pub role-arm : (a b : Role) (t u : ℕ) (r : Bool) → a ≡ b → r ≡ roleTyped b t u → r ≡ roleTyped a t u
+role-arm a b t u r e f = rw e f
+
+-- a node: f is its form, a the definition that it calls
+module _ (tb : Table) (r d f : ℕ) (e : f ≡ at tb r 1) where
+  pub call-typed : (a n : ℕ) (t : Bool) → f ≡ 2 → a ≡ at tb r 2 → n ≡ parameters tb a → t ≡ every (argumentTyped tb r d) n → t ≡ nodeTyped tb r d
+  unfolding nodeTyped
+  call-typed a n t h i j k = k ∙ rw (← e, h, j, i)
+
+  pub no-call : (f ≡ 2 → ⊥) → true ≡ nodeTyped tb r d
+  unfolding nodeTyped
+  no-call h = rw (← e, ne-eqb f 2 h)
+
+-- a row: p is the row of definition 0
+module _ (tb : Table) (r p : ℕ) (e : p ≡ definitionRow tb) where
+  pub row-ports : (t : Bool) → t ≡ portsTyped tb → r ≡ p → t ≡ rowTyped tb r
+  unfolding rowTyped
+  row-ports t f g = rw (← e, eq-eqb r p g) f
+
+  -- k is its kind
+  module _ (f : r ≡ p → ⊥) (k : ℕ) (g : k ≡ at tb r 0) where
+    pub row-node : (d : ℕ) (t : Bool) → k ≡ 5 → d ≡ definitionOf tb (r - nodeRow tb) → t ≡ nodeTyped tb r d → t ≡ rowTyped tb r
+    unfolding rowTyped
+    row-node d t h i j = j ∙ rw (i, ← g, h, ← e, ne-eqb r p f)
+
+    pub row-branch : (n d : ℕ) (t : Bool) → k ≡ 6 → n ≡ nodeOf tb (r - branchRow tb) → d ≡ definitionOf tb n → t ≡ branchTyped tb r d → t ≡ rowTyped tb r
+    unfolding rowTyped
+    row-branch n d t h i j l = l ∙ rw (j, i, ← g, h, ← e, ne-eqb r p f)
+
+    pub row-other : (k ≡ 5 → ⊥) → (k ≡ 6 → ⊥) → true ≡ rowTyped tb r
+    unfolding rowTyped
+    row-other h i = rw (← g, ne-eqb k 5 h, ne-eqb k 6 i, ← e, ne-eqb r p f)
+
+-- the first row where types disagree
+module _ (tb : Table) (i : ℕ) (t : Bool) (e : t ≡ rowTyped tb i) (f : first (typesDisagree tb) i ≡ i) where
+  disagree-is : not t ≡ typesDisagree tb i
+  unfolding typesDisagree
+  disagree-is = rw e
+
+  pub disagree-hit : (n : ℕ) → not t ≡ true → i < n → i ≡ first (typesDisagree tb) n
+  disagree-hit n g h = first-hit (typesDisagree tb) i n (not t) f disagree-is g h
+
+  pub disagree-more : not t ≡ false → first (typesDisagree tb) (i + 1) ≡ i + 1
+  disagree-more g = first-more (typesDisagree tb) i (not t) f disagree-is g
+
+-- the ways out of the ports' test
+module _ (tb : Table) (a n : ℕ) (e : n ≡ ports tb) (f : a ≡ parameters tb 0) where
+  pub ports-differ : (a ≡ n → ⊥) → false ≡ portsTyped tb
+  unfolding portsTyped
+  ports-differ h = rw (← e, ← f, ne-eqb a n h)
+
+  module _ (t : Bool) (h : a ≡ n) (g : t ≡ every (portTyped tb) n) where
+    pub ports-not : not t ≡ true → false ≡ portsTyped tb
+    unfolding portsTyped
+    ports-not i = rw (← e, ← f, eq-eqb a n h, ← g, not-true t i)
+
+    pub ports-none : not t ≡ false → n ≡ 0 → true ≡ portsTyped tb
+    unfolding portsTyped
+    ports-none i j = rw (← e, ← f, eq-eqb a n h, ← g, not-false t i, eq-eqb n 0 j)
+
+    module _ (m : ℕ) (i : not t ≡ false) (j : n ≡ 0 → ⊥) (k : m ≡ types tb) where
+      pub ports-untyped : m < 1 → false ≡ portsTyped tb
+      unfolding portsTyped
+      ports-untyped l = rw (← e, ← f, eq-eqb a n h, ← g, not-false t i, ne-eqb n 0 j, ← k, lt-leb 1 m l)
+
+      pub ports-carry : (v : ℕ) → 1 ≤ m → v ≡ carried tb 1 → eqb v 0 ≡ portsTyped tb
+      unfolding portsTyped
+      ports-carry v l q = rw (← e, ← f, eq-eqb a n h, ← g, not-false t i, ne-eqb n 0 j, ← k, le-leb 1 m l, ← q)
