@@ -16,7 +16,7 @@ const ROW_SLOTS: u32 = 16;
 
 const CHANNELS: u32 = 128;
 
-// The entry of a slot by which the row holds no channel that it does not hold by a slot before: the first number past the channels.
+// The entry of a slot that brings no channel, or one that a slot before it has: the first number past the channels.
 const NO_CHANNEL: u8 = 128;
 
 const WAITING: u32 = 2;
