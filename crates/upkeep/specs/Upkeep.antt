@@ -25,7 +25,7 @@ use Rattle.upkeep.specs.Shift.Laws.{Raw, Settled, Low, entering, leaving
 
 -- ---- counts
 
-pub count-and-le {ℓ} : {A : Type ℓ} (p q : A → Bool) (xs : List A) → count (λ x. p x && q x) xs ≤ count q xs
+count-and-le {ℓ} : {A : Type ℓ} (p q : A → Bool) (xs : List A) → count (λ x. p x && q x) xs ≤ count q xs
 unfolding count
 count-and-le p q [] = omega arith
 count-and-le p q (x ∷ xs) = omega (arith, count-and-le p q xs, bit-and-le (p x) (q x))
@@ -45,11 +45,11 @@ module _ (tb : Table) (ths : List (List ℕ)) where
     unfolding countOf holders
     counts-move = omega (arith, replaced (λ r. holds tb r c) ths t row [] h)
 
-    pub waiters-move : waiters tb (set ths t row) c + bit (isWaiting (getD ths t []) && holds tb (getD ths t []) c) ≡ waiters tb ths c + bit (isWaiting row && holds tb row c)
+    waiters-move : waiters tb (set ths t row) c + bit (isWaiting (getD ths t []) && holds tb (getD ths t []) c) ≡ waiters tb ths c + bit (isWaiting row && holds tb row c)
     unfolding waiters
     waiters-move = replaced (λ r. isWaiting r && holds tb r c) ths t row [] h
 
-  pub settled-rows : (chs : List (List ℕ)) (ty : ℕ → ℕ) → Settled chs ty (countOf tb ths) (waiters tb ths) → chs ≡ recount tb ths ty
+  settled-rows : (chs : List (List ℕ)) (ty : ℕ → ℕ) → Settled chs ty (countOf tb ths) (waiters tb ths) → chs ≡ recount tb ths ty
   unfolding recount
   settled-rows chs ty (long, says) = is-tabulate chs 128 (λ c. channelRow (ty c) (countOf tb ths c) (waiters tb ths c)) [] long says
 
@@ -70,14 +70,14 @@ module _ (tb : Table) (ths chs : List (List ℕ)) (e : chs ≡ recount tb ths (�
   counted-row c h =
       ap (λ (l : List (List ℕ)). getD l c []) e ∙ getD-tabulate 128 c (λ i. channelRow (at chs i 0) (countOf tb ths i) (waiters tb ths i)) [] h
 
-  pub raw-start : Raw chs (λ c. at chs c 0) (countOf tb ths) (waiters tb ths)
+  raw-start : Raw chs (λ c. at chs c 0) (countOf tb ths) (waiters tb ths)
   unfolding recount
   raw-start = (
     ap (λ (l : List (List ℕ)). length l) e ∙ length-tabulate 128 (λ c. channelRow (at chs c 0) (countOf tb ths c) (waiters tb ths c)),
     λ c h. raw-row (getD chs c []) (countOf tb ths c) (waiters tb ths c) (counted-row c h) (waiters-le tb ths c),
   )
 
-  pub free-start : (c : ℕ) → c < 128 → countOf tb ths c ≡ 0 → at chs c 0 ≡ 0
+  free-start : (c : ℕ) → c < 128 → countOf tb ths c ≡ 0 → at chs c 0 ≡ 0
   free-start c h z = free-type (getD chs c []) (countOf tb ths c) (waiters tb ths c) (counted-row c h) z
 
 -- ---- the channel rows after one thread row is replaced, after two are, and after one is and a channel's type is written
@@ -97,7 +97,7 @@ module _ (tb : Table) (ths : List (List ℕ)) (row : List ℕ) (c : ℕ) where
   entered-le long = omega (arith, few tb ths long c, bit-le (holds tb row c))
 
 module _ (tb : Table) (ths : List (List ℕ)) (long : length ths ≡ 64) where
-  pub low-start : Low (countOf tb ths) (waiters tb ths)
+  low-start : Low (countOf tb ths) (waiters tb ths)
   low-start c h = (omega (arith, few tb ths long c), omega (arith, few tb ths long c, waiters-le tb ths c))
 
   low-entered : (row : List ℕ) → Low (entered tb ths row) (enteredWaiting tb ths row)

@@ -30,7 +30,7 @@ abbrev pub Settled : List (List ℕ) → (ℕ → ℕ) → (ℕ → ℕ) → (�
 Settled chs ty n w = (length chs ≡ 128) × ((c : ℕ) → c < 128 → getD chs c [] ≡ channelRow (ty c) (n c) (w c))
 
 -- the row of channel c, shifted
-abbrev pub rowShifted : List (List ℕ) → ℕ → ℕ → ℕ → List ℕ
+abbrev rowShifted : List (List ℕ) → ℕ → ℕ → ℕ → List ℕ
 rowShifted chs c dn dw = channelRow (at chs c 0) (sum (at chs c 1) dn) (sum (at chs c 2) dw)
 
 module _ (chs : List (List ℕ)) (v dn dw : ℕ) where
@@ -47,7 +47,7 @@ module _ (chs : List (List ℕ)) (v dn dw : ℕ) where
   shift-other c e = getD-set-other chs v c (rowShifted chs v dn dw) [] (λ q. eqb-false v c e (sym q))
 
 module _ (tb : Table) (row : List ℕ) (dn dw : ℕ) (chs : List (List ℕ)) (long : length chs ≡ 128) where
-  pub length-shiftTo : (k : ℕ) → length (shiftTo (ownList tb row) dn dw chs k) ≡ 128
+  length-shiftTo : (k : ℕ) → length (shiftTo (ownList tb row) dn dw chs k) ≡ 128
   unfolding shiftTo
   length-shiftTo zero = long
   length-shiftTo (suc k) = length-shiftRow (shiftTo (ownList tb row) dn dw chs k) (getD (ownList tb row) k 0) dn dw ∙ length-shiftTo k
@@ -69,10 +69,10 @@ module _ (tb : Table) (row : List ℕ) (dn dw : ℕ) (chs : List (List ℕ)) (lo
       (λ e. rw e (shift-other prev (ownOf tb row k) dn dw c e ∙ same)))))
 
   -- so for the slots of the row's definition, and for the whole list
-  pub room-shifted : (c : ℕ) → c < 128 → getD (shiftTo (ownList tb row) dn dw chs (ownRoom tb row)) c [] ≡ cond (holds tb row c) (rowShifted chs c dn dw) (getD chs c [])
+  room-shifted : (c : ℕ) → c < 128 → getD (shiftTo (ownList tb row) dn dw chs (ownRoom tb row)) c [] ≡ cond (holds tb row c) (rowShifted chs c dn dw) (getD chs c [])
   room-shifted c h = rw (← holds-room tb row c h) (shift-law c (ownRoom tb row) h (room-le tb row))
 
-  pub list-shifted : (c : ℕ) → c < 128 → getD (shiftTo (ownList tb row) dn dw chs rowSlots) c [] ≡ cond (holds tb row c) (rowShifted chs c dn dw) (getD chs c [])
+  list-shifted : (c : ℕ) → c < 128 → getD (shiftTo (ownList tb row) dn dw chs rowSlots) c [] ≡ cond (holds tb row c) (rowShifted chs c dn dw) (getD chs c [])
   list-shifted c h = rw (← holds-all tb row c h) (shift-law c 16 h (omega arith))
 
 -- ---- one channel row, in plain numbers
@@ -94,16 +94,16 @@ leave-row ty N W n w u r e f g h j =
     let b : (W + (0 + (4294967296 - bit u)) % 4294967296) % 4294967296 ≡ w = omega (arith, bit-le u) in
     rw (q, a, b)
 
-pub bit-both : (u h : Bool) → h ≡ true → bit (u && h) ≡ bit u
+bit-both : (u h : Bool) → h ≡ true → bit (u && h) ≡ bit u
 bit-both true h e = rw e
 bit-both false h e = refl
 
-pub bit-neither : (u h : Bool) → h ≡ false → bit (u && h) ≡ 0
+bit-neither : (u h : Bool) → h ≡ false → bit (u && h) ≡ 0
 unfolding bit
 bit-neither true h e = rw e
 bit-neither false h e = refl
 
-pub free-row : (ty n w : ℕ) → (n ≡ 0 → (ty ≡ 0) × (w ≡ 0)) → ty ∷ n ∷ w ∷ [] ≡ channelRow ty n w
+free-row : (ty n w : ℕ) → (n ≡ 0 → (ty ≡ 0) × (w ≡ 0)) → ty ∷ n ∷ w ∷ [] ≡ channelRow ty n w
 unfolding channelRow
 free-row ty zero w f = let (a, b) = f refl in rw (a, b)
 free-row ty (suc n) w f = refl
