@@ -38,15 +38,11 @@ change() {
     mv "$scratch/changed" "$calls"
 }
 
-proved() {
-    (cd "$scratch" && rt check driver) >"$log" 2>&1
-}
-
 refused() {
-    ! proved && grep -q '^rt: driver NOT PROVED' "$log"
+    ! (cd "$scratch" && rt check driver) >"$log" 2>&1 && grep -q '^rt: driver NOT PROVED' "$log"
 }
 
-# What the last check said: that this crate is proved, and that the proof of this function of the driver is refused.
+# What that check said: that this crate is proved, that the proof of this function of the driver is refused, and that another is proved.
 proved_there() {
     grep -q "^rt: $1 proved" "$log"
 }
@@ -55,7 +51,9 @@ refused_at() {
     grep -q "crates/driver/proofs/$1/Proof.antt:.*error" "$log"
 }
 
-check "the copy is proved as it is" proved
+still_proved() {
+    grep -q "^fn driver::$1: proved" "$log"
+}
 
 both='(now (table .entry)) (now (state .entry))'
 
@@ -136,4 +134,5 @@ check "the calls themselves are proved with them" proved_there pithread
 for call in step give take run collect; do
     check "it is refused at the call $call" refused_at "$call"
 done
+check "what lays the answers down is proved as before" still_proved put_answer
 close_checks
