@@ -8,10 +8,10 @@ ghost use Rattle.table.specs.Layout.{definitionOf};
 ghost use Rattle.table.specs.Index.{Indexed};
 ghost use Rattle.flow.specs.Flow.{flow};
 ghost use Rattle.flow.specs.Marks.{marksOf};
-ghost use Rattle.state.specs.State.{stateOf, maxThreads, maxChannels, threadWords, rowSlots, thread, standsAt};
+ghost use Rattle.state.specs.State.{stateOf, maxChannels, threadWords, rowSlots, thread, standsAt};
 ghost use Rattle.rules.specs.Holding.{countOf, holders, waiters};
 ghost use Rattle.rules.specs.Sound.{marksInRange, countTrue, portTyped, sound};
-ghost use Rattle.sound.specs.SoundRows.{wordZero, slotSound, rowSound};
+ghost use Rattle.sound.specs.SoundRows.{wordZero, slotSound, rowSound, rowsSound};
 use table::field;
 
 // Every port has this type.
@@ -137,7 +137,7 @@ fn row_sound(
 fn rows_sound(table: &[u8], index: &[u32], marks: &[u32], state: &[u32; state::WORDS]) -> bool
     requires { ⌜ Indexed (tableOf (now table)) (now index) ⌝ }
     requires { ⌜ marksOf (now marks) ≡ flow (tableOf (now table)) ⌝ }
-    ensures { λ r. ⌜ r ≡ every (λ t. rowSound (tableOf (now (table .entry))) (stateOf (now (state .entry))) (thread (stateOf (now (state .entry))) t)) maxThreads ⌝ }
+    ensures { λ r. ⌜ r ≡ rowsSound (tableOf (now (table .entry))) (stateOf (now (state .entry))) ⌝ }
 {
     for t in 0..state::THREADS {
         if !row_sound(table, index, marks, state, t) {
@@ -150,7 +150,7 @@ fn rows_sound(table: &[u8], index: &[u32], marks: &[u32], state: &[u32; state::W
 // Whether every thread row passes all its tests.
 fn threads_sound(table: &[u8], index: &[u32], state: &[u32; state::WORDS]) -> bool
     requires { ⌜ Indexed (tableOf (now table)) (now index) ⌝ }
-    ensures { λ r. ⌜ r ≡ every (λ t. rowSound (tableOf (now (table .entry))) (stateOf (now (state .entry))) (thread (stateOf (now (state .entry))) t)) maxThreads ⌝ }
+    ensures { λ r. ⌜ r ≡ rowsSound (tableOf (now (table .entry))) (stateOf (now (state .entry))) ⌝ }
 {
     let mut marks = [0u32; table::MAX_NODES as usize];
     flow::mark_flow(table, index, &mut marks);
