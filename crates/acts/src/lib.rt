@@ -244,7 +244,7 @@ pub fn write_creation(
     let kind = type_by(table, index, state, t, i);
     write_holder(table, index, state, t, i, c);
     state::put_channel(state, c as usize, 0, kind);
-    state::put_mark(state, 1, decision::one_up(MAX_CHANNELS, c));
+    state::put_mark(state, 1, next_rows::one_up(MAX_CHANNELS, c));
 }
 
 // Thread t's branch i makes the child u: both go on with the slots of t.
@@ -283,5 +283,5 @@ pub fn write_spawn(
     ensures { λ _. ⌜ stateOf (now (state .exit)) ≡ written (tableOf (now (table .entry))) (stateOf (now (state .entry))) t (Spawns i u) ⌝ }
 {
     write_child(table, index, state, t, i, u);
-    state::put_mark(state, 0, decision::one_up(MAX_THREADS, u));
+    state::put_mark(state, 0, next_rows::one_up(MAX_THREADS, u));
 }

@@ -50,7 +50,7 @@ fn list_turn(
     ensures { λ _. ⌜ Sound (tableOf (now (table .entry))) (stateOf (now (state .exit))) ⌝ }
     ensures { λ r. ⌜ now (out .exit) ≡ sets (now (out .entry)) (past i) (shownTurn r (tableOf (now (table .entry))) i (stateOf (now (state .entry)))) ⌝ }
 {
-    let t = decision::next_ready(state, state::THREADS);
+    let t = next_rows::next_ready(state, state::THREADS);
     if t < state::THREADS {
         let node = state::thread_word(state, t as usize, state::NODE);
         let round = turns::turn_of(table, index, state, t, state::THREADS);

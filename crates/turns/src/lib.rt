@@ -14,7 +14,7 @@ ghost use Rattle.rules.specs.Calls.{stepAnswer, reasonFor, turnBy, Turned, turn
 ghost use Rattle.thread_rows.specs.CalledRow.{callSlots};
 ghost use Rattle.rules_laws.specs.Granted.{Granted};
 ghost use Rattle.rules_laws.specs.Soundness.{Sound};
-ghost use Rattle.decision.specs.Top.{UsedBelow};
+ghost use Rattle.next_rows.specs.UsedBelow.{UsedBelow};
 ghost use Rattle.turns.specs.Counted.{Counted, weighedTo};
 ghost use Rattle.turns.specs.Made.{ChildIn, made};
 ghost use Rattle.turns.specs.TopRaised.{raisedBy};
@@ -199,7 +199,7 @@ fn write_directed(
 {
     let own = program::branch_at(table, index, thread_rows::stands_at(state, t), i);
     let other = program::branch_at(table, index, thread_rows::stands_at(state, u), j);
-    if decision::is_meeting(table, index, own, Direction::Out) {
+    if offers::is_meeting(table, index, own, Direction::Out) {
         acts::write_passed(table, index, state, t, own, u, other);
         return;
     }
@@ -426,7 +426,7 @@ pub fn turn_of(
     ensures { λ _. ⌜ Counted (tableOf (now (table .entry))) (stateOf (now (state .exit))) ⌝ }
 {
     let m = step_ready(table, index, state, t, top);
-    state::put_mark(state, 2, decision::one_up(MAX_THREADS, t));
+    state::put_mark(state, 2, next_rows::one_up(MAX_THREADS, t));
     let turn = turn_by(t, m);
     Round {
         turn: turn,

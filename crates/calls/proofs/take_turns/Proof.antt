@@ -5,7 +5,7 @@ use mathlib.Core.Path.{_≡_}
 use mathlib.Core.Bool.{true}
 use Rattle.table.specs.Table.{tableOf}
 use Rattle.state.specs.State.{stateOf, thread, isReady}
-use Rattle.decision.specs.Top.{UsedBelow}
+use Rattle.next_rows.specs.UsedBelow.{UsedBelow}
 use Rattle.rules_laws.specs.Soundness.{Sound}
 use Rattle.rules.specs.Holding.{settled}
 use Rattle.turns.specs.Counted.{Counted}

@@ -1,4 +1,4 @@
-use Rattle.decision.specs.Top.{used-all}
+use Rattle.next_rows.specs.UsedBelow.{used-all}
 use Rattle.turns.specs.Made.Laws.{no-turn, next-is-ready}
 use Rattle.listing_text.specs.Laying.Steps.{turn-begins, turn-counted, turn-taken, turn-laid, turn-keeps, turn-left}
 use borrow.Author.Needs.{needs}

@@ -1,4 +1,4 @@
-use Rattle.decision.specs.Decided.{created-below, spawned-below}
+use Rattle.rules_laws.specs.Decided.{created-below, spawned-below}
 use Rattle.turns.specs.Made.Laws.{made-anew, lacking-arm}
 use Rattle.turns.specs.Made.{made}
 use Rattle.turns.specs.Keeping.Laws.{decided, child-aside}

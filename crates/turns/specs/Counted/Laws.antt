@@ -33,8 +33,8 @@ use Rattle.upkeep.specs.Upkeep.{waiters-le, counts-move, settled-again, settled
 use Rattle.rules_laws.specs.Granted.{Granted}
 use Rattle.rules_laws.specs.Soundness.{Sound}
 use Rattle.rules_laws.specs.Soundness.Laws.{sound-apart}
-use Rattle.decision.specs.Top.{UsedBelow}
-use Rattle.decision.specs.Apart.{Apart}
+use Rattle.next_rows.specs.UsedBelow.{UsedBelow}
+use Rattle.offers.specs.Apart.{Apart}
 use Rattle.rules.specs.Calls.{turnBy, turned, turnEnd}
 use Rattle.rules.specs.declared.Turn.{Turn}
 use Rattle.turns.specs.TopRaised.{raisedBy, turn-used}

@@ -34,7 +34,7 @@ use Rattle.acts.specs.Way.{wayOf, metAlong, metAlongBoth, goneAlong}
 use Rattle.acts.specs.Way.Laws.{met-way, gone-way, meeting-way}
 use Rattle.acts.specs.declared.Way.{Way}
 use Rattle.rules_laws.specs.Granted.{Granted}
-use Rattle.decision.specs.Decided.{meets-partner, spawns-other}
+use Rattle.rules_laws.specs.Decided.{meets-partner, spawns-other}
 use Rattle.rules_laws.specs.Chosen.{Open, Joining, Chosen, chosen, partner-answers}
 use Rattle.rules_laws.specs.Learnt.{port-number}
 use Rattle.rules_laws.specs.Meetings.{value-type}

@@ -21,8 +21,8 @@ use Rattle.rules.specs.declared.Reason.{Reason}
 use Rattle.rules.specs.declared.Reason.the-variants.{NoneReady}
 use Rattle.rules.specs.declared.Turn.{Turn}
 use Rattle.rules.specs.declared.Turn.the-variants.{Went, Stopped}
-use Rattle.decision.specs.Around.{next-ready-in}
-use Rattle.decision.specs.Decided.{spawns-free}
+use Rattle.next_rows.specs.Around.{next-ready-in}
+use Rattle.rules_laws.specs.Decided.{spawns-free}
 use Rattle.holding.specs.Own.{ownList}
 use Rattle.upkeep.specs.Shift.{settledOne, settledTwo, settledNew}
 use Rattle.upkeep.specs.Upkeep.{one-settled, two-settled, new-settled, settled-mark, two-mark, new-mark}
