@@ -1,4 +1,4 @@
--- The state before thread 0 has its row, one row after the other.
+-- The state before thread 0 has its row, one row after the other, and the slots of that row.
 pub mod Laws
 use Prim.Native.Nat.{ℕ}
 use mathlib.Core.Bool.{cond}
@@ -6,8 +6,9 @@ use mathlib.Core.List.{List, [], _∷_}
 use lib.Dec.{ltb}
 use lib.ListN.{replicate}
 use Rattle.numbers.specs.Search.{tabulate}
-use Rattle.table.specs.Table.{Table, ports}
+use Rattle.table.specs.Table.{Table, ports, parameters}
 use Rattle.state.specs.State.{State, maxThreads, maxChannels, withChannels}
+use Rattle.rules.specs.Program.{blank}
 use Rattle.rules.specs.Start.{freeRow, freeChannelRow}
 use Rattle.starts.specs.FilledRows.{filledTo}
 
@@ -42,3 +43,7 @@ unstarted tb = record {
   threads = replicate maxThreads freeRow;
   channels = tabulate maxChannels (portHeld (ports tb));
 }
+
+-- slot k of thread 0: parameter k of definition 0 is port k, any other slot is blank
+unfoldable pub portAt : Table → ℕ → ℕ
+portAt tb k = cond (ltb k (parameters tb 0)) k (blank tb 0 k)
