@@ -8,9 +8,6 @@ use rules::Deed;
 use rules::Reason;
 use rules::Refusal;
 
-// The pattern of -1.
-const MINUS_ONE: u32 = 4294967295;
-
 // The number of a ground on which a file is refused: 1 to 7.
 pub fn ground_number(ground: Ground) -> u32
     ensures { λ r. ⌜ r ≡ groundNumber ground ⌝ }
@@ -76,10 +73,10 @@ pub fn partner_number(deed: Deed) -> u32
     ensures { λ r. ⌜ r ≡ partnerNumber deed ⌝ }
 {
     match deed {
-        Deed::Ended => MINUS_ONE,
-        Deed::Called => MINUS_ONE,
-        Deed::Waited => MINUS_ONE,
-        Deed::Took(_) => MINUS_ONE,
+        Deed::Ended => state::MINUS_ONE,
+        Deed::Called => state::MINUS_ONE,
+        Deed::Waited => state::MINUS_ONE,
+        Deed::Took(_) => state::MINUS_ONE,
         Deed::TookWith(_, u) => u,
     }
 }
@@ -101,8 +98,8 @@ pub fn held_up_number(reason: Reason) -> u32
     ensures { λ r. ⌜ r ≡ heldUpNumber reason ⌝ }
 {
     match reason {
-        Reason::AllDone => MINUS_ONE,
-        Reason::NoneReady => MINUS_ONE,
+        Reason::AllDone => state::MINUS_ONE,
+        Reason::NoneReady => state::MINUS_ONE,
         Reason::LackedThread(t) => t,
         Reason::LackedChannel(t) => t,
     }

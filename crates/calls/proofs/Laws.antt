@@ -15,7 +15,7 @@ use Rattle.state.specs.State.{State, maxThreads, maxChannels, thread, standsAt,
 use Rattle.rules.specs.Holding.{settled}
 use Rattle.rules.specs.Offers.{partnerOf}
 use Rattle.rules.specs.Moves.{oneUp, move, written, perform, typed, spawnedBy, valueBy, metByBench}
-use Rattle.rules.specs.Calls.{bench, canStep, stepAnswer, Course, course, isReadyThread, nextReady, pastTurn, turnBy, turned, turnEnd, courseOf}
+use Rattle.rules.specs.Calls.{afterwards, stepAnswer, stepEnd, canStep, stepOn, bench, givenTo, giveOn, takenFrom, takeOn, Course, course, isReadyThread, nextReady, pastTurn, turnBy, turned, turnEnd, courseOf, runOn}
 use Rattle.rules.specs.declared.Direction.the-variants.{Out, In}
 use Rattle.rules.specs.declared.Partner.{Partner}
 use Rattle.rules.specs.declared.Partner.the-variants as Partner
@@ -38,7 +38,6 @@ use Rattle.rules_laws.specs.Soundness.{Sound}
 use Rattle.rules_laws.specs.Soundness.Laws.{sound-settled}
 use Rattle.turns.specs.Made.Laws.{turn-ends}
 use Rattle.calls.specs.Course.{after, turnAt, courseBy, course-by, course-none, course-more, last-turn}
-use Rattle.calls.specs.States.{afterwards, stepAfter, stepOn, givenOn, giveOn, takenOn, takeOn, runOn}
 
 -- ---- ground 11
 
@@ -95,8 +94,8 @@ module _ (tb : Table) (s : State) (t : ℕ) where
 -- ---- step: s before and s₁ after
 
 module _ (s s₁ : State) where
-  step-made : (tb : Table) (t n : ℕ) (m : Move) → s₁ ≡ made tb s t m → afterwards (stepAnswer n m) s₁ ≡ stepAfter (stepAnswer n m) s (perform tb s t m)
-  unfolding stepAnswer stepAfter made
+  step-made : (tb : Table) (t n : ℕ) (m : Move) → s₁ ≡ made tb s t m → afterwards (stepAnswer n m) s₁ ≡ stepEnd (stepAnswer n m) s (perform tb s t m)
+  unfolding stepAnswer stepEnd made
   step-made tb t n Ends e = ap (afterwards _) e
   step-made tb t n Calls e = ap (afterwards _) e
   step-made tb t n Waits e = ap (afterwards _) e
@@ -144,20 +143,20 @@ module _ (tb : Table) (s : State) (p n : ℕ) (e : n ≡ at tb 0 6) where
 
   module _ (h : p < n) (x : Partner) where
     pub give-nobody : (v : ℕ) → x ≡ partnerOf tb s bench In p → x ≡ Partner.Nobody → afterwards Given.Nobody s ≡ giveOn tb s p v
-    unfolding giveOn givenOn
+    unfolding giveOn givenTo
     give-nobody v f g = rw (lt-ltb p (at tb 0 6) (omega arith), ← f, g)
 
     pub take-nobody : x ≡ partnerOf tb s bench Out p → x ≡ Partner.Nobody → afterwards Taken.Nobody s ≡ takeOn tb s p
-    unfolding takeOn takenOn
+    unfolding takeOn takenFrom
     take-nobody f g = rw (lt-ltb p (at tb 0 6) (omega arith), ← f, g)
 
     module _ (s₁ : State) (u j : ℕ) (g : x ≡ Partner.At u j) where
       pub give-met : (v : ℕ) → s₁ ≡ metByBench tb s u j v → x ≡ partnerOf tb s bench In p → afterwards (Given.Met u) s₁ ≡ giveOn tb s p v
-      unfolding giveOn givenOn
+      unfolding giveOn givenTo
       give-met v i f = rw (lt-ltb p (at tb 0 6) (omega arith), ← f, g) (ap (afterwards _) i)
 
       pub take-met : (v : ℕ) → s₁ ≡ metByBench tb s u j 0 → v ≡ valueBy tb (thread s u) j → x ≡ partnerOf tb s bench Out p → afterwards (Taken.Met u v) s₁ ≡ takeOn tb s p
-      unfolding takeOn takenOn
+      unfolding takeOn takenFrom
       take-met v i q f = rw (lt-ltb p (at tb 0 6) (omega arith), ← f, g, q) (ap (afterwards _) i)
 
 -- ---- turns: s₀ and t₀ at first, s and t after i turns, the last of which made move m

@@ -1,6 +1,6 @@
 -- One law for each way out of the functions that free threads, and of the call. Assumes nothing.
 use Prim.Native.Nat.{ℕ}
-use mathlib.Core.Path.{_≡_}
+use mathlib.Core.Path.{_≡_, sym, _∙_}
 use mathlib.Core.Bool.{Bool, true, false}
 use mathlib.Core.List.{List}
 use lib.ListN.{getD}
@@ -8,16 +8,17 @@ use borrow.Author.Tests.{ne-eqb}
 use Rattle.numbers.specs.Bytes.{words}
 use Rattle.numbers.specs.Count.{bit}
 use Rattle.table.specs.Table.{Table, tableOf}
-use Rattle.state.specs.State.{State, stateOf, stateBytes, thread, status, withThread}
+use Rattle.state.specs.State.{State, stateOf, stateBytes, view, thread, status, withThread}
 use Rattle.state.specs.State.Laws.{length-threads}
 use Rattle.rules.specs.Holding.{settled}
 use Rattle.rules.specs.Start.{freeRow}
 use Rattle.rules.specs.Calls.{outcome, admission}
+use Rattle.rules.specs.Calls.Laws.{call-refused, call-admitted}
 use Rattle.rules.specs.declared.Refusal.{Refusal}
 use Rattle.rules.specs.declared.Admission.{Admission}
 use Rattle.rules.specs.declared.Admission.the-variants.{Admitted, Refused}
 use Rattle.collector.specs.declared.Collected.the-variants as Collected
-use Rattle.collector.specs.Collect.{collected, takenCount, collectBy, collectCall}
+use Rattle.collector.specs.Collect.{collected, takenCount, collectOn, collectCall}
 use Rattle.collector.specs.Freeing.{leaves, freedBy, collectedTo}
 use Rattle.collector.specs.Freeing.Laws.{freed-none}
 
@@ -67,11 +68,11 @@ none-freed tb b e = freed-none tb (stateOf b) (length-threads b) e
 -- collect
 module _ (table b : List ℕ) (a : Admission) (e : a ≡ admission table b) where
   pub collect-refused : (g : Refusal) → a ≡ Refused g → outcome (Collected.Refused g) b ≡ collectCall table b
-  unfolding collectCall collectBy
-  collect-refused g f = rw (← e, f)
+  unfolding collectCall
+  collect-refused g f = sym (call-refused Collected.Refused table b (collectOn (tableOf table) (view b)) g (sym e ∙ f))
 
   -- w: its words, and w₁ those after the call, of which b₁ are the bytes
   pub collect-admitted : a ≡ Admitted → (w w₁ b₁ : List ℕ) → (a ≡ Admitted → w ≡ words b) → b₁ ≡ stateBytes (stateOf w₁) → (n : ℕ)
       → n ≡ takenCount (tableOf table) (stateOf w) → stateOf w₁ ≡ collected (tableOf table) (stateOf w) → outcome (Collected.Done n) b₁ ≡ collectCall table b
-  unfolding collectCall collectBy
-  collect-admitted f w w₁ b₁ q h n i j = rw (← e, f, h, j, i, q f)
+  unfolding collectCall collectOn
+  collect-admitted f w w₁ b₁ q h n i j = rw (call-admitted Collected.Refused table b (collectOn (tableOf table) (view b)) (sym e ∙ f), h, j, i, q f)

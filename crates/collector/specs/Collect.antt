@@ -7,12 +7,10 @@ use lib.ListN.{getD}
 use Rattle.numbers.specs.Count.{bit}
 use Rattle.numbers.specs.Search.{sumTo, tabulate}
 use Rattle.table.specs.Table.{Table, tableOf}
-use Rattle.state.specs.State.{State, maxThreads, thread, inUse, view, stateBytes}
+use Rattle.state.specs.State.{State, maxThreads, thread, inUse, view, withThreads}
 use Rattle.rules.specs.Holding.{settled}
 use Rattle.rules.specs.Start.{freeRow}
-use Rattle.rules.specs.Calls.{Outcome, outcome, admission}
-use Rattle.rules.specs.declared.Admission.{Admission}
-use Rattle.rules.specs.declared.Admission.the-variants as Admission
+use Rattle.rules.specs.Calls.{Outcome, After, afterwards, onBuffers}
 use Rattle.marking.specs.Enabled.{nobody, enabledSet}
 use Rattle.collector.specs.declared.Collected.{Collected}
 use Rattle.collector.specs.declared.Collected.the-variants as Collected
@@ -27,17 +25,15 @@ module _ (tb : Table) (s : State) where
 
   -- the state after a collection: marks and turn stay
   unfoldable pub collected : State
-  collected = settled tb (record { marks = s .marks; threads = tabulate maxThreads remaining; channels = s .channels })
+  collected = settled tb (withThreads s (tabulate maxThreads remaining))
 
   -- how many threads it takes
   unfoldable pub takenCount : ℕ
   takenCount = sumTo (λ t. bit (taken t)) maxThreads
 
--- ---- the call: grounds 8, 9 and 10, in this order; a collection has none of its own
-unfoldable pub collectBy : Admission → List ℕ → List ℕ → Outcome Collected
-collectBy (Admission.Refused r) table state = outcome (Collected.Refused r) state
-collectBy Admission.Admitted table state =
-    outcome (Collected.Done (takenCount (tableOf table) (view state))) (stateBytes (collected (tableOf table) (view state)))
+-- ---- the call: grounds 8, 9 and 10; a collection has none of its own
+unfoldable pub collectOn : Table → State → After Collected
+collectOn tb s = afterwards (Collected.Done (takenCount tb s)) (collected tb s)
 
 unfoldable pub collectCall : List ℕ → List ℕ → Outcome Collected
-collectCall table state = collectBy (admission table state) table state
+collectCall table state = onBuffers Collected.Refused table state (collectOn (tableOf table) (view state))

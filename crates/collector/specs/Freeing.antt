@@ -9,7 +9,7 @@ use lib.ListN.{getD}
 use Rattle.numbers.specs.Count.{bit}
 use Rattle.numbers.specs.Search.{sumTo, tabulate}
 use Rattle.table.specs.Table.{Table}
-use Rattle.state.specs.State.{State, maxThreads, thread, inUse, withThread}
+use Rattle.state.specs.State.{State, maxThreads, thread, inUse, withThread, withThreads}
 use Rattle.rules.specs.Holding.{settled}
 use Rattle.rules.specs.Start.{freeRow}
 use Rattle.collector.specs.Collect.{taken}
@@ -28,7 +28,7 @@ module _ (tb : Table) (s : State) where
   rowTo n t = cond (ltb t n && taken tb s t) freeRow (thread s t)
 
   unfoldable pub rowsTo : ℕ → State
-  rowsTo n = record { marks = s .marks; threads = tabulate maxThreads (rowTo n); channels = s .channels }
+  rowsTo n = withThreads s (tabulate maxThreads (rowTo n))
 
   unfoldable pub collectedTo : ℕ → State
   collectedTo n = settled tb (rowsTo n)

@@ -4,7 +4,7 @@ ghost use Prim.Native.Nat.{_<_};
 ghost use Rattle.numbers.specs.Count.{bit};
 ghost use Rattle.table.specs.Table.{tableOf};
 ghost use Rattle.table.specs.Index.{Indexed};
-ghost use Rattle.state.specs.State.{stateOf};
+ghost use Rattle.state.specs.State.{maxThreads, stateOf};
 ghost use Rattle.rules.specs.Holding.{settled};
 ghost use Rattle.rules.specs.Calls.{outcome};
 ghost use Rattle.marking.specs.Enabled.{nobody, enabledSet};
@@ -12,10 +12,6 @@ ghost use Rattle.collector.specs.Collect.{collected, takenCount, collect
 ghost use Rattle.collector.specs.Freeing.{leaves, freedBy};
 use rules::Admission;
 use rules::Refusal;
-
-const INDEX: usize = 807;
-
-const THREADS: u32 = 64;
 
 // How many threads a collection took.
 pub enum Collected {
@@ -29,16 +25,16 @@ fn take_thread(
     index: &[u32],
     state: &mut [u32; state::WORDS],
     t: u32,
-    marks: &[bool; 64],
+    marks: &[bool; state::THREADS as usize],
 ) -> u32
     requires { ⌜ Indexed (tableOf (now table)) (now index) ⌝ }
-    requires { ⌜ t < 64 ⌝ }
+    requires { ⌜ t < maxThreads ⌝ }
     requires { ⌜ settled (tableOf (now table)) (stateOf (now state)) ≡ stateOf (now state) ⌝ }
     ensures { λ r. ⌜ r ≡ bit (leaves (stateOf (now (state .entry))) (now (marks .entry)) t) ⌝ }
     ensures { λ _. ⌜ stateOf (now (state .exit)) ≡ freedBy (tableOf (now (table .entry))) (stateOf (now (state .entry))) (now (marks .entry)) t ⌝ }
     ensures { λ _. ⌜ settled (tableOf (now (table .entry))) (stateOf (now (state .exit))) ≡ stateOf (now (state .exit)) ⌝ }
 {
-    if threads::status_of(state, t) == 0 {
+    if threads::status_of(state, t) == state::FREE {
         return 0;
     }
     if marking::mark_at(marks, t as usize) {
@@ -53,7 +49,7 @@ fn take_unmarked(
     table: &[u8],
     index: &[u32],
     state: &mut [u32; state::WORDS],
-    marks: &[bool; 64],
+    marks: &[bool; state::THREADS as usize],
 ) -> u32
     requires { ⌜ Indexed (tableOf (now table)) (now index) ⌝ }
     requires { ⌜ settled (tableOf (now table)) (stateOf (now state)) ≡ stateOf (now state) ⌝ }
@@ -62,7 +58,7 @@ fn take_unmarked(
     ensures { λ _. ⌜ stateOf (now (state .exit)) ≡ collected (tableOf (now (table .entry))) (stateOf (now (state .entry))) ⌝ }
 {
     let mut count = 0u32;
-    for t in 0..THREADS {
+    for t in 0..state::THREADS {
         count += take_thread(table, index, state, t, marks);
     }
     count
@@ -75,7 +71,7 @@ pub fn collect_in(table: &[u8], index: &[u32], state: &mut [u32; state::WORDS]) 
     ensures { λ r. ⌜ r ≡ takenCount (tableOf (now (table .entry))) (stateOf (now (state .entry))) ⌝ }
     ensures { λ _. ⌜ stateOf (now (state .exit)) ≡ collected (tableOf (now (table .entry))) (stateOf (now (state .entry))) ⌝ }
 {
-    let mut marks = [false; 64];
+    let mut marks = [false; state::THREADS as usize];
     marking::mark_enabled(table, index, state, &mut marks);
     take_unmarked(table, index, state, &marks)
 }
@@ -84,7 +80,7 @@ pub fn collect_in(table: &[u8], index: &[u32], state: &mut [u32; state::WORDS]) 
 pub fn collect(table: &[u8], state: &mut [u8]) -> Collected
     ensures { λ r. ⌜ outcome r (now (state .exit)) ≡ collectCall (now (table .entry)) (now (state .entry)) ⌝ }
 {
-    let mut index = [0u32; INDEX];
+    let mut index = [0u32; table::INDEX];
     let mut words = [0u32; state::WORDS];
     match engine::admit(table, state, &mut index, &mut words) {
         Admission::Refused(ground) => Collected::Refused(ground),

@@ -11,7 +11,7 @@ use Rattle.numbers.specs.Rows.{at}
 use Rattle.numbers.specs.Search.{tabulate}
 use Rattle.numbers.specs.Search.Laws.{caseB, contra, getD-tabulate, length-tabulate}
 use Rattle.table.specs.Table.{Table}
-use Rattle.state.specs.State.{State, maxThreads, thread, typeIn}
+use Rattle.state.specs.State.{State, maxThreads, thread, typeIn, withThreads}
 use Rattle.rules.specs.Start.{freeRow}
 use Rattle.rules.specs.Offers.{offers}
 use Rattle.rules.specs.declared.Direction.{Direction}
@@ -22,7 +22,7 @@ use Rattle.decision.specs.Apart.{Apart}
 use Rattle.rules_laws.specs.Soundness.{RowSound, Orderly, Sound}
 use Rattle.rules_laws.specs.Entered.{free-sound}
 use Rattle.rules_laws.specs.Settle.{settle}
-use Rattle.collector.specs.Collect.{taken, remaining, collected}
+use Rattle.collector.specs.Collect.{taken, remaining, collected, collectOn}
 
 -- a free row offers nothing
 free-offers {ℓ} : {A : Type ℓ} (tb : Table) (d : Direction) (c : ℕ) → offers tb freeRow d c ≡ true → A
@@ -34,7 +34,7 @@ module _ (tb : Table) (s : State) (o : Orderly tb s) (q : ℕ → Bool) where
   left t = cond (q t) freeRow (thread s t)
 
   abbrev leftState : State
-  leftState = record { marks = s .marks; threads = tabulate maxThreads left; channels = s .channels }
+  leftState = withThreads s (tabulate maxThreads left)
 
   left-row : (t : ℕ) → t < maxThreads → thread leftState t ≡ left t
   left-row t l = getD-tabulate maxThreads t left [] l
@@ -86,3 +86,8 @@ module _ (tb : Table) (s : State) (o : Orderly tb s) (q : ℕ → Bool) where
 pub collected-sound : (tb : Table) → Granted tb → (s : State) → Sound tb s → Sound tb (collected tb s)
 unfolding collected remaining
 collected-sound tb g s ok = settle tb g _ (left-orderly tb s (ok .orderly) (taken tb s))
+
+-- so the call on a state keeps soundness
+pub collect-on-kept : (tb : Table) → Granted tb → (s : State) → Sound tb s → Sound tb (collectOn tb s .state)
+unfolding collectOn
+collect-on-kept tb g s ok = collected-sound tb g s ok

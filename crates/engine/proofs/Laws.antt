@@ -1,24 +1,23 @@
 -- One law for each way out of the calls. Assumes nothing.
 use Prim.Native.Nat.{ℕ}
-use native.Mathlib.Omega.{arith}
 use mathlib.Core.Path.{_≡_, refl, sym, _∙_, ap}
-use mathlib.Core.Bool.{Bool, true, false, not, cond}
+use mathlib.Core.Bool.{Bool, true, false, not}
 use mathlib.Core.List.{List}
 use lib.Dec.{eqb}
 use lib.ListN.{length, getD}
 use mir.Syntax.{w8}
 use mir.Val.{Fits}
-use borrow.Author.Tests.{eqb-true, eq-eqb, ne-eqb, not-true, not-false}
+use borrow.Author.Tests.{eq-eqb, ne-eqb, not-true, not-false}
 use Rattle.numbers.specs.Bytes.{words}
 use Rattle.numbers.specs.Bytes.Laws.{bytes-fit}
-use Rattle.numbers.specs.Tests.{and-right}
 use Rattle.table.specs.Table.{tableOf}
 use Rattle.table.specs.Index.{Indexed}
 use Rattle.loader.specs.Load.{tableLength, accepted}
 use Rattle.state.specs.State.{State, stateLength, view, stateOf, stateBytes}
 use Rattle.rules.specs.Start.{started}
 use Rattle.rules.specs.Sound.{sound}
-use Rattle.rules.specs.Calls.{Outcome, outcome, lengthsRight, startAdmission, admission, startBy, startCall, stepBy, stepCall, giveBy, giveCall, takeBy, takeCall, runBy, runCall}
+use Rattle.rules.specs.Calls.{Outcome, outcome, After, afterwards, andThen, lengthsRight, startAdmission, admission, onBuffers, startOn, startCall, stepOn, stepCall, giveOn, giveCall, takeOn, takeCall, runOn, runCall}
+use Rattle.rules.specs.Calls.Laws.{start-admits, by-refused, by-admitted, call-refused, call-admitted, call-unchanged, step-unchanged, give-unchanged, take-unchanged}
 use Rattle.rules.specs.declared.Refusal.{Refusal}
 use Rattle.rules.specs.declared.Refusal.the-variants as Ground
 use Rattle.rules.specs.declared.Admission.{Admission}
@@ -34,14 +33,12 @@ use Rattle.rules.specs.declared.Taken.{Taken}
 use Rattle.rules.specs.declared.Taken.the-variants as Taken
 use Rattle.rules.specs.declared.Ran.{Ran}
 use Rattle.rules.specs.declared.Ran.the-variants as Ran
+use Rattle.rules_laws.specs.Codes.{clash}
 use Rattle.rules_laws.specs.Granted.{Granted}
 use Rattle.rules_laws.specs.Accepted.{granted}
 use Rattle.rules_laws.specs.Shape.Laws.{view-shaped}
 use Rattle.rules_laws.specs.Soundness.{Sound}
 use Rattle.rules_laws.specs.Soundness.Laws.{sound-elim}
-use Rattle.rules_laws.specs.Refusals.{step-refused-keeps, give-refused-keeps, give-nobody-keeps, take-refused-keeps, take-nobody-keeps}
-use Rattle.calls.specs.States.{After, afterwards, stepOn, giveOn, takeOn, runOn}
-use Rattle.calls.specs.States.Laws.{bytesAfter, step-bytes, give-bytes, take-bytes, run-bytes}
 
 -- ---- grounds 8, 9 and 10
 
@@ -70,149 +67,132 @@ module _ (table state : List ℕ) where
       unfolding startAdmission
       table-refused h = rw (← e, not-false x f, ← g, h)
 
--- an answer of an admission is one of two
-clash : {A : Type 0} (g : Refusal) → Refused g ≡ Admitted → A
-clash g e = absurd (let z : _≡_ {A = ℕ} 0 1 = cc in let h : ⊥ = omega arith in h)
+-- ---- a: what start's grounds say
 
--- the grounds of start, by their two tests, and those of the other calls, by their three
-module _ (g : Refusal) where
-  two : (p q r : Bool) → cond p (cond q Admitted (Refused Ground.Table)) (Refused Ground.Length) ≡ Refused g
-      → Refused g ≡ cond p (cond q (cond r Admitted (Refused Ground.State)) (Refused Ground.Table)) (Refused Ground.Length)
-  two true true r e = clash g (sym e)
-  two true false r e = sym e
-  two false q r e = sym e
+module _ (table b : List ℕ) (a : Admission) (e : a ≡ startAdmission table b) where
+  pub still-refused : (g : Refusal) → a ≡ Refused g → Refused g ≡ admission table b
+  unfolding admission andThen
+  still-refused g f = rw (← e, f)
 
-both : (p q : Bool) → cond p (cond q Admitted (Refused Ground.Table)) (Refused Ground.Length) ≡ Admitted → (p ≡ true) × (q ≡ true)
-both true true e = (refl, refl)
-both true false e = clash Ground.Table e
-both false q e = clash Ground.Length e
+  module _ (f : a ≡ Admitted) where
+    pub start-length : length b ≡ stateLength
+    start-length = start-admits table b (sym e ∙ f) .1
 
-module _ (table b : List ℕ) (a : Admission) where
-  right-length : lengthsRight table b ≡ true → length b ≡ stateLength
-  unfolding lengthsRight
-  right-length e = eqb-true (length b) stateLength (and-right (eqb (length table) tableLength) (eqb (length b) stateLength) e)
+    -- the table grants what the calls ask
+    pub start-granted : ((i : ℕ) → Fits w8 (getD table i 0)) → Granted (tableOf table)
+    start-granted fit = granted table (start-admits table b (sym e ∙ f) .2) (bytes-fit table fit)
 
-  -- a: what start's grounds say
-  module _ (e : a ≡ startAdmission table b) where
-    pub start-length : a ≡ Admitted → length b ≡ stateLength
-    unfolding startAdmission
-    start-length f = right-length (both (lengthsRight table b) (accepted table) (sym e ∙ f) .0)
-
-    pub still-refused : (g : Refusal) → a ≡ Refused g → Refused g ≡ admission table b
-    unfolding startAdmission admission
-    still-refused g f = two g (lengthsRight table b) (accepted table) (sound (tableOf table) (view b)) (sym e ∙ f)
-
-    module _ (f : a ≡ Admitted) (x : Bool) (w : List ℕ) (i : w ≡ words b) (h : x ≡ sound (tableOf table) (stateOf w)) where
+    -- w: the words of the state's buffer, and x: whether they are a sound state
+    module _ (x : Bool) (w : List ℕ) (i : w ≡ words b) (h : x ≡ sound (tableOf table) (stateOf w)) where
       pub state-sound : x ≡ true → Admitted ≡ admission table b
-      unfolding startAdmission admission
-      state-sound j = let (p, q) = both (lengthsRight table b) (accepted table) (sym e ∙ f) in rw (p, q, ← i, ← h, j)
+      unfolding admission andThen
+      state-sound j = rw (← e, f, ← i, ← h, j)
 
       pub state-unsound : x ≡ false → Refused Ground.State ≡ admission table b
-      unfolding startAdmission admission
-      state-unsound j = let (p, q) = both (lengthsRight table b) (accepted table) (sym e ∙ f) in rw (p, q, ← i, ← h, j)
+      unfolding admission andThen
+      state-unsound j = rw (← e, f, ← i, ← h, j)
 
-    -- the table grants what the calls ask, and the state, whose words are w, is sound
-    pub start-granted : a ≡ Admitted → ((i : ℕ) → Fits w8 (getD table i 0)) → Granted (tableOf table)
-    unfolding startAdmission
-    start-granted f fit = granted table (both (lengthsRight table b) (accepted table) (sym e ∙ f) .1) (bytes-fit table fit)
-
-    pub is-sound : a ≡ Admitted → (w : List ℕ) → w ≡ words b → (x : Bool) → x ≡ sound (tableOf table) (stateOf w) → x ≡ true → ((i : ℕ) → Fits w8 (getD b i 0))
-        → Sound (tableOf table) (stateOf w)
-    is-sound f w i x h j fit =
-        let z : sound (tableOf table) (stateOf w) ≡ true = sym h ∙ j in
-        rw i (sound-elim (tableOf table) (view b) (view-shaped b (start-length f) (bytes-fit b fit)) (rw i at z))
+      pub is-sound : x ≡ true → ((i : ℕ) → Fits w8 (getD b i 0)) → Sound (tableOf table) (stateOf w)
+      is-sound j fit =
+          let z : sound (tableOf table) (stateOf w) ≡ true = sym h ∙ j in
+          rw i (sound-elim (tableOf table) (view b) (view-shaped b start-length (bytes-fit b fit)) (rw i at z))
 
 -- the index of a table that was accepted
 pub accepted-indexed : (table l : List ℕ) (y : Bool) → (y ≡ true → Indexed (tableOf table) l) → y ≡ true → Indexed (tableOf table) l
 accepted-indexed table l y f g = f g
 
--- of a call that is refused anything is promised
-pub not-admitted : {P : Type 0} (g : Refusal) → Refused g ≡ Admitted → P
-not-admitted g e = clash g e
-
--- ---- the calls
+-- ---- start
 
 module _ (table b : List ℕ) (a : Admission) (e : a ≡ startAdmission table b) where
   pub start-refused : (g : Refusal) → a ≡ Refused g → outcome (Started.Refused g) b ≡ startCall table b
-  unfolding startCall startBy
-  start-refused g f = rw (← e, f)
+  unfolding startCall
+  start-refused g f = sym (by-refused Started.Refused b (startOn (tableOf table)) (startAdmission table b) g (sym e ∙ f))
 
   pub start-done : (b₁ w : List ℕ) → b₁ ≡ stateBytes (stateOf w) → stateOf w ≡ started (tableOf table) → a ≡ Admitted → outcome Started.Done b₁ ≡ startCall table b
-  unfolding startCall startBy
-  start-done b₁ w h k f = rw (← e, f) (ap (outcome _) (h ∙ ap stateBytes k))
+  unfolding startCall startOn
+  start-done b₁ w h k f = rw (h, k) (sym (by-admitted Started.Refused b (startOn (tableOf table)) (startAdmission table b) (sym e ∙ f)))
 
--- the bytes of a state after a call
-after-bytes : {A : Type 0} (k : After A) (r : A) (s : State) → afterwards r s ≡ k → outcome r (stateBytes s) ≡ bytesAfter k
-unfolding bytesAfter
-after-bytes k r s e = rw (← e)
+-- ---- the other calls
 
--- a call with an answer that leaves the bytes b
-kept : {A : Type 0} (o : Outcome A) (x : A) (b : List ℕ) {r : A} {l : List ℕ} → outcome r l ≡ o → r ≡ x → (o .answer ≡ x → o .state ≡ b) → outcome x b ≡ o
-kept o x b e g h =
-    let y : o .answer ≡ x = sym (ap (λ (p : Outcome _). p .answer) e) ∙ g in
-    rw (← h y, ← y)
+kept : {A : Type 0} (o : Outcome A) (x : A) (b : List ℕ) → o .answer ≡ x → o .state ≡ b → outcome x b ≡ o
+kept o x b e f = rw (← e, ← f)
 
 module _ (table b : List ℕ) (a : Admission) (e : a ≡ admission table b) where
-  module _ (g : Refusal) (f : a ≡ Refused g) where
-    pub step-refused : (t : ℕ) → outcome (Stepped.Refused g) b ≡ stepCall table b t
-    unfolding stepCall stepBy
-    step-refused t = rw (← e, f)
+  -- a refusal at entry
+  at-entry : {A : Type 0} (refused : Refusal → A) (k : After A) (g : Refusal) → a ≡ Refused g → outcome (refused g) b ≡ onBuffers refused table b k
+  at-entry refused k g f = sym (call-refused refused table b k g (sym e ∙ f))
 
-    pub give-refused : (p v : ℕ) → outcome (Given.Refused g) b ≡ giveCall table b p v
-    unfolding giveCall giveBy
-    give-refused p v = rw (← e, f)
+  pub step-refused : (t : ℕ) (g : Refusal) → a ≡ Refused g → outcome (Stepped.Refused g) b ≡ stepCall table b t
+  unfolding stepCall
+  step-refused t = at-entry Stepped.Refused (stepOn (tableOf table) (view b) t)
 
-    pub take-refused : (p : ℕ) → outcome (Taken.Refused g) b ≡ takeCall table b p
-    unfolding takeCall takeBy
-    take-refused p = rw (← e, f)
+  pub give-refused : (p v : ℕ) (g : Refusal) → a ≡ Refused g → outcome (Given.Refused g) b ≡ giveCall table b p v
+  unfolding giveCall
+  give-refused p v = at-entry Given.Refused (giveOn (tableOf table) (view b) p v)
 
-    pub run-refused : (n : ℕ) → outcome (Ran.Refused g) b ≡ runCall table b n
-    unfolding runCall runBy
-    run-refused n = rw (← e, f)
+  pub take-refused : (p : ℕ) (g : Refusal) → a ≡ Refused g → outcome (Taken.Refused g) b ≡ takeCall table b p
+  unfolding takeCall
+  take-refused p = at-entry Taken.Refused (takeOn (tableOf table) (view b) p)
 
-  -- w: its words, and w₁ those after the call, which answers r
-  module _ (f : a ≡ Admitted) (fit : (i : ℕ) → Fits w8 (getD b i 0)) (w w₁ : List ℕ) (q : a ≡ Admitted → w ≡ words b) (long : a ≡ Admitted → length b ≡ stateLength) where
-    module _ (r : Stepped) (t : ℕ) (k : afterwards r (stateOf w₁) ≡ stepOn (tableOf table) (stateOf w) t) where
-      step-admitted : outcome r (stateBytes (stateOf w₁)) ≡ stepCall table b t
-      unfolding stepCall
-      step-admitted = rw (← e, f) (after-bytes _ r (stateOf w₁) (k ∙ rw (q f)) ∙ step-bytes table b (long f) (bytes-fit b fit) t)
+  pub run-refused : (n : ℕ) (g : Refusal) → a ≡ Refused g → outcome (Ran.Refused g) b ≡ runCall table b n
+  unfolding runCall
+  run-refused n = at-entry Ran.Refused (runOn (tableOf table) (view b) n)
 
+  -- w: the words of the buffer, and w₁ those after the call, which answers r
+  module _ (f : a ≡ Admitted) (w w₁ : List ℕ) (q : a ≡ Admitted → w ≡ words b) where
+    module _ {A : Type 0} (refused : Refusal → A) (call : State → After A) (r : A) (k : afterwards r (stateOf w₁) ≡ call (stateOf w)) where
+      as-called : afterwards r (stateOf w₁) ≡ call (view b)
+      as-called = k ∙ rw (q f)
+
+      written : (b₁ : List ℕ) → b₁ ≡ stateBytes (stateOf w₁) → outcome r b₁ ≡ onBuffers refused table b (call (view b))
+      written b₁ h = rw (h, call-admitted refused table b (call (view b)) (sym e ∙ f), ← as-called)
+
+      -- a call that answers x and then leaves the state may leave the bytes
+      unwritten : ((i : ℕ) → Fits w8 (getD b i 0)) → (x : A) → r ≡ x → (call (view b) .answer ≡ x → call (view b) .state ≡ view b)
+          → outcome x b ≡ onBuffers refused table b (call (view b))
+      unwritten fit x g h =
+          let y : onBuffers refused table b (call (view b)) .answer ≡ x = sym (ap (λ (o : Outcome A). o .answer) (written (stateBytes (stateOf w₁)) refl)) ∙ g in
+          kept (onBuffers refused table b (call (view b))) x b y (call-unchanged refused table b (call (view b)) (bytes-fit b fit) x h y)
+
+    module _ (t : ℕ) (r : Stepped) (k : afterwards r (stateOf w₁) ≡ stepOn (tableOf table) (stateOf w) t) where
       pub step-done : (n : ℕ) (d : Deed) (b₁ : List ℕ) → r ≡ Stepped.Done n d → b₁ ≡ stateBytes (stateOf w₁) → outcome (Stepped.Done n d) b₁ ≡ stepCall table b t
-      step-done n d b₁ g h = rw (← g, h) step-admitted
+      unfolding stepCall
+      step-done n d b₁ g h = rw (← g) (written Stepped.Refused (λ s. stepOn (tableOf table) s t) r k b₁ h)
 
-      -- a refusal leaves the bytes
-      pub step-kept : (x : Refusal) → r ≡ Stepped.Refused x → outcome (Stepped.Refused x) b ≡ stepCall table b t
-      step-kept x g = kept (stepCall table b t) (Stepped.Refused x) b step-admitted g (step-refused-keeps table b t x)
+      pub step-kept : (x : Refusal) → r ≡ Stepped.Refused x → ((i : ℕ) → Fits w8 (getD b i 0)) → outcome (Stepped.Refused x) b ≡ stepCall table b t
+      unfolding stepCall
+      step-kept x g fit = unwritten Stepped.Refused (λ s. stepOn (tableOf table) s t) r k fit (Stepped.Refused x) g (step-unchanged (tableOf table) (view b) t x)
 
-    module _ (r : Given) (p v : ℕ) (k : afterwards r (stateOf w₁) ≡ giveOn (tableOf table) (stateOf w) p v) where
-      give-admitted : outcome r (stateBytes (stateOf w₁)) ≡ giveCall table b p v
-      unfolding giveCall
-      give-admitted = rw (← e, f) (after-bytes _ r (stateOf w₁) (k ∙ rw (q f)) ∙ give-bytes table b (long f) (bytes-fit b fit) p v)
-
+    module _ (p v : ℕ) (r : Given) (k : afterwards r (stateOf w₁) ≡ giveOn (tableOf table) (stateOf w) p v) where
       pub give-met : (u : ℕ) (b₁ : List ℕ) → r ≡ Given.Met u → b₁ ≡ stateBytes (stateOf w₁) → outcome (Given.Met u) b₁ ≡ giveCall table b p v
-      give-met u b₁ g h = rw (← g, h) give-admitted
+      unfolding giveCall
+      give-met u b₁ g h = rw (← g) (written Given.Refused (λ s. giveOn (tableOf table) s p v) r k b₁ h)
 
-      -- a refusal leaves the bytes, and so does a give that meets nobody
-      pub give-kept : (x : Refusal) → r ≡ Given.Refused x → outcome (Given.Refused x) b ≡ giveCall table b p v
-      give-kept x g = kept (giveCall table b p v) (Given.Refused x) b give-admitted g (give-refused-keeps table b p v x)
+      pub give-kept : (x : Refusal) → r ≡ Given.Refused x → ((i : ℕ) → Fits w8 (getD b i 0)) → outcome (Given.Refused x) b ≡ giveCall table b p v
+      unfolding giveCall
+      give-kept x g fit =
+          unwritten Given.Refused (λ s. giveOn (tableOf table) s p v) r k fit (Given.Refused x) g (λ e. give-unchanged (tableOf table) (view b) p v (λ u i. clash cc))
 
-      pub give-nobody : r ≡ Given.Nobody → outcome Given.Nobody b ≡ giveCall table b p v
-      give-nobody g = kept (giveCall table b p v) Given.Nobody b give-admitted g (give-nobody-keeps table b p v)
+      pub give-nobody : r ≡ Given.Nobody → ((i : ℕ) → Fits w8 (getD b i 0)) → outcome Given.Nobody b ≡ giveCall table b p v
+      unfolding giveCall
+      give-nobody g fit =
+          unwritten Given.Refused (λ s. giveOn (tableOf table) s p v) r k fit Given.Nobody g (λ e. give-unchanged (tableOf table) (view b) p v (λ u i. clash cc))
 
-    module _ (r : Taken) (p : ℕ) (k : afterwards r (stateOf w₁) ≡ takeOn (tableOf table) (stateOf w) p) where
-      take-admitted : outcome r (stateBytes (stateOf w₁)) ≡ takeCall table b p
-      unfolding takeCall
-      take-admitted = rw (← e, f) (after-bytes _ r (stateOf w₁) (k ∙ rw (q f)) ∙ take-bytes table b (long f) (bytes-fit b fit) p)
-
+    module _ (p : ℕ) (r : Taken) (k : afterwards r (stateOf w₁) ≡ takeOn (tableOf table) (stateOf w) p) where
       pub take-met : (u v : ℕ) (b₁ : List ℕ) → r ≡ Taken.Met u v → b₁ ≡ stateBytes (stateOf w₁) → outcome (Taken.Met u v) b₁ ≡ takeCall table b p
-      take-met u v b₁ g h = rw (← g, h) take-admitted
+      unfolding takeCall
+      take-met u v b₁ g h = rw (← g) (written Taken.Refused (λ s. takeOn (tableOf table) s p) r k b₁ h)
 
-      pub take-kept : (x : Refusal) → r ≡ Taken.Refused x → outcome (Taken.Refused x) b ≡ takeCall table b p
-      take-kept x g = kept (takeCall table b p) (Taken.Refused x) b take-admitted g (take-refused-keeps table b p x)
+      pub take-kept : (x : Refusal) → r ≡ Taken.Refused x → ((i : ℕ) → Fits w8 (getD b i 0)) → outcome (Taken.Refused x) b ≡ takeCall table b p
+      unfolding takeCall
+      take-kept x g fit =
+          unwritten Taken.Refused (λ s. takeOn (tableOf table) s p) r k fit (Taken.Refused x) g (λ e. take-unchanged (tableOf table) (view b) p (λ u v i. clash cc))
 
-      pub take-nobody : r ≡ Taken.Nobody → outcome Taken.Nobody b ≡ takeCall table b p
-      take-nobody g = kept (takeCall table b p) Taken.Nobody b take-admitted g (take-nobody-keeps table b p)
+      pub take-nobody : r ≡ Taken.Nobody → ((i : ℕ) → Fits w8 (getD b i 0)) → outcome Taken.Nobody b ≡ takeCall table b p
+      unfolding takeCall
+      take-nobody g fit =
+          unwritten Taken.Refused (λ s. takeOn (tableOf table) s p) r k fit Taken.Nobody g (λ e. take-unchanged (tableOf table) (view b) p (λ u v i. clash cc))
 
     pub run-done : (r : Ran) (n : ℕ) (b₁ : List ℕ) → afterwards r (stateOf w₁) ≡ runOn (tableOf table) (stateOf w) n → b₁ ≡ stateBytes (stateOf w₁) → outcome r b₁ ≡ runCall table b n
     unfolding runCall
-    run-done r n b₁ k h = rw (← e, f, h) (after-bytes _ r (stateOf w₁) (k ∙ rw (q f)) ∙ run-bytes table b n)
+    run-done r n b₁ k h = written Ran.Refused (λ s. runOn (tableOf table) s n) r k b₁ h

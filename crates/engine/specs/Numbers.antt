@@ -1,4 +1,5 @@
 -- The numbers of document 01 for the answers of the engine's calls. A number is its 32-bit pattern, so that -1 is `minusOne`.
+pub mod Laws
 use Prim.Native.Nat.{ℕ}
 use Rattle.state.specs.State.{minusOne}
 use Rattle.rules.specs.declared.Refusal.{Refusal}

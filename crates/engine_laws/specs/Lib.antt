@@ -2,6 +2,11 @@ pub mod Channels
 pub mod Movers
 pub mod OneSided
 pub mod Sealed
+pub mod Entry
+pub mod Lacking
+pub mod Answers
+pub mod Bench
+pub mod Refusals
 pub mod Buffers
 pub mod SoundCalls
 pub mod Reasons

@@ -5,10 +5,9 @@ use mathlib.Core.Bool.{true, false}
 use mathlib.Core.List.{List, [], _∷_}
 use mathlib.Core.Logic.{_≢_, _↔_}
 use lib.ListN.{length, getD}
-use Rattle.numbers.specs.Rows.{at}
 use Rattle.table.specs.Table.{tableOf}
 use Rattle.loader.specs.Load.{accepted}
-use Rattle.state.specs.State.{State, maxThreads, maxChannels, stateLength, view, thread, typeIn}
+use Rattle.state.specs.State.{State, maxThreads, maxChannels, stateLength, view, thread, typeIn, countIn, waitersIn}
 use Rattle.rules.specs.Holding.{waiters, countOf}
 use Rattle.rules.specs.Offers.{offers}
 use Rattle.rules.specs.Calls.{startCall, stepCall, giveCall, takeCall, runCall}
@@ -23,8 +22,9 @@ use Rattle.rules_laws.specs.Codes.{clash}
 use Rattle.rules_laws.specs.Soundness.{Sound}
 use Rattle.rules_laws.specs.Soundness.Counted.{count-is, waiters-is, used-exactly}
 use Rattle.engine_laws.specs.OneSided.{no-receiver}
-use Rattle.rules_laws.specs.Entry.{atEntry}
-use Rattle.rules_laws.specs.Refusals.{step-entry-iff, give-entry-iff, take-entry-iff, run-refused-iff}
+use Rattle.engine.specs.Numbers.{refusalNumber}
+use Rattle.engine_laws.specs.Entry.{atEntry}
+use Rattle.engine_laws.specs.Refusals.{step-entry-iff, give-entry-iff, take-entry-iff, run-refused-iff}
 use Rattle.engine_laws.specs.Buffers.{SoundBuffer, view-sound}
 use Rattle.engine_laws.specs.SoundCalls.{start-done, admitted, start-sound, step-sound, give-sound, take-sound, run-sound}
 
@@ -95,16 +95,16 @@ module _ (table : List ℕ) (ok : accepted table ≡ true) (fit : (i : ℕ) → 
 
   -- document 01, demand 3: no call of a list is refused with 10. Here the call is the next one, after a list that may be any, and so each call of each list
   pub never-ten : (k : Call) → ¬ RefusedWith table (reached table state ks) k Ground.State
-  unfolding atEntry
+  unfolding atEntry refusalNumber
   never-ten k = none-at-entry table ok (reached table state ks) always-sound k Ground.State refl
 
   -- nor with 8 or 9: the buffers keep their lengths, and the table is accepted throughout
   pub never-eight : (k : Call) → ¬ RefusedWith table (reached table state ks) k Ground.Length
-  unfolding atEntry
+  unfolding atEntry refusalNumber
   never-eight k = none-at-entry table ok (reached table state ks) always-sound k Ground.Length refl
 
   pub never-nine : (k : Call) → ¬ RefusedWith table (reached table state ks) k Ground.Table
-  unfolding atEntry
+  unfolding atEntry refusalNumber
   never-nine k = none-at-entry table ok (reached table state ks) always-sound k Ground.Table refl
 
   -- the state after the list
@@ -118,9 +118,9 @@ module _ (table : List ℕ) (ok : accepted table ≡ true) (fit : (i : ℕ) → 
   -- for a port (`countOf`); the third word is how many of those threads wait; and the channel is in use, its type being other than 0, exactly if its count
   -- is above 0
   pub counts-true : (c : ℕ) → c < maxChannels
-      → (at (s .channels) c 1 ≡ countOf (tableOf table) (s .threads) c)
-      × (at (s .channels) c 2 ≡ waiters (tableOf table) (s .threads) c)
-      × ((typeIn s c ≢ 0) ↔ (0 < at (s .channels) c 1))
+      → (countIn s c ≡ countOf (tableOf table) (s .threads) c)
+      × (waitersIn s c ≡ waiters (tableOf table) (s .threads) c)
+      × ((typeIn s c ≢ 0) ↔ (0 < countIn s c))
   counts-true c l = (
     count-is (tableOf table) s holding c l,
     waiters-is (tableOf table) s holding c l,

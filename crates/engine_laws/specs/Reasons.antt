@@ -16,13 +16,12 @@ use Rattle.loader.specs.Load.{accepted}
 use Rattle.state.specs.State.{State, maxThreads, view, stateBytes, turn, thread, standsAt, isReady, withMark}
 use Rattle.state.specs.State.Laws.{bytes-view}
 use Rattle.rules.specs.Moves.{oneUp, move, perform}
-use Rattle.rules.specs.Calls.{outcome, admission, stepAnswer, stepEnd, canStep, stepBy, stepCall, isReadyThread, nextReady, pastTurn, reasonFor, turnFor, turnBy, Course, oneMore, Turned, turned, onward, turnEnd, takeTurn, courseOf, runBy, runCall}
+use Rattle.rules.specs.Calls.{Outcome, outcome, stepAnswer, stepEnd, canStep, stepOn, stepCall, isReadyThread, nextReady, pastTurn, reasonFor, turnFor, turnBy, Course, oneMore, Turned, turned, onward, turnEnd, takeTurn, courseOf, runOn, runCall}
+use Rattle.rules.specs.Calls.Laws.{call-answer, call-admitted}
 use Rattle.rules.specs.declared.Move.{Move}
 use Rattle.rules.specs.declared.Move.the-variants.{Ends, Calls, Waits, Goes, Creates, Spawns, Meets, LacksThread, LacksChannel}
 use Rattle.rules.specs.declared.Refusal.{Refusal}
 use Rattle.rules.specs.declared.Refusal.the-variants as Ground
-use Rattle.rules.specs.declared.Admission.{Admission}
-use Rattle.rules.specs.declared.Admission.the-variants as Admission
 use Rattle.rules.specs.declared.Deed.{Deed}
 use Rattle.rules.specs.declared.Stepped.{Stepped}
 use Rattle.rules.specs.declared.Stepped.the-variants.{Done, Refused}
@@ -39,11 +38,11 @@ use Rattle.rules_laws.specs.Accepted.{granted}
 use Rattle.rules_laws.specs.Shape.Laws.{view-bytes}
 use Rattle.rules_laws.specs.Soundness.{Sound}
 use Rattle.rules_laws.specs.Lasting.{move-kept, turn-kept}
-use Rattle.rules_laws.specs.Entry.{Admitted, admitted-iff}
-use Rattle.rules_laws.specs.Answers.{move-refused}
-use Rattle.rules_laws.specs.Refusals.{step-refused-keeps}
+use Rattle.engine_laws.specs.Entry.{Admitted, admitted-iff}
+use Rattle.engine_laws.specs.Answers.{move-refused}
+use Rattle.engine_laws.specs.Refusals.{step-refused-keeps}
 use Rattle.engine_laws.specs.Buffers.{SoundBuffer, view-sound, bytes-sound}
-use Rattle.engine_laws.specs.SoundCalls.{admitted}
+use Rattle.engine_laws.specs.SoundCalls.{call-made}
 
 -- ---- turns over bytes
 
@@ -206,19 +205,24 @@ module _ (table : List ℕ) (ok : accepted table ≡ true) (fit : (i : ℕ) → 
     no-thread-row : t < maxThreads → dueAnswer table state ≡ Refused Ground.ThreadRow → takeTurn tb s ≡ turned (Stopped (LackedThread t)) (pastTurn s t) → Turns
     no-channel-row : t < maxThreads → dueAnswer table state ≡ Refused Ground.ChannelRow → takeTurn tb s ≡ turned (Stopped (LackedChannel t)) (pastTurn s t) → Turns
 
+  -- the step call on the thread that is due, said by the step on the state
+  step-is : stepCall table state t ≡ outcome (stepOn tb s t .answer) (stateBytes (stepOn tb s t .state))
+  unfolding stepCall
+  step-is = call-made table ok Refused state b (stepOn tb s t)
+
   -- nobody is ready
   module _ (e : ltb t maxThreads ≡ false) where
     all-idle : Idle state
     unfolding nextReady isReadyThread
     all-idle u l = around-none maxThreads (turn s) (isReadyThread s) (ltb-false t maxThreads e) u l
 
-    none-stepped : stepCall table state t ≡ outcome (Refused Ground.Thread) state
-    unfolding stepCall stepBy canStep
-    none-stepped = rw (admitted table ok state b, e)
+    none-stepped : dueAnswer table state ≡ Refused Ground.Thread
+    unfolding stepOn canStep
+    none-stepped = ap (λ (o : Outcome Stepped). o .answer) step-is ∙ rw e
 
     idle-turn : Turns
     unfolding takeTurn
-    idle-turn = idle all-idle (ap (λ o. o .answer) none-stepped) (rw e)
+    idle-turn = idle all-idle none-stepped (rw e)
 
   -- thread t is ready
   module _ (e : ltb t maxThreads ≡ true) where
@@ -235,9 +239,9 @@ module _ (table : List ℕ) (ok : accepted table ≡ true) (fit : (i : ℕ) → 
     unfolding canStep
     can = rw (e, next-ready-in s below)
 
-    step-is : stepCall table state t ≡ stepEnd answer state (perform tb s t m)
-    unfolding stepCall stepBy
-    step-is = rw (admitted table ok state b, can)
+    made : stepOn tb s t ≡ stepEnd answer s (perform tb s t m)
+    unfolding stepOn
+    made = rw can
 
     turn-is : takeTurn tb s ≡ turnEnd tb s t (turnFor t answer)
     unfolding takeTurn
@@ -253,16 +257,16 @@ module _ (table : List ℕ) (ok : accepted table ≡ true) (fit : (i : ℕ) → 
     went-turn : (a : ℕ) (d : Deed) → answer ≡ Done a d → Turns
     unfolding stepEnd turnEnd turnFor afterTurn turnPast
     went-turn a d f =
-        let q : stepCall table state t ≡ stepEnd (Done a d) state (perform tb s t m) = step-is ∙ rw f in
+        let q : stepCall table state t ≡ outcome (Done a d) (stateBytes (perform tb s t m)) = step-is ∙ rw (made, f) in
         let v : view (stateBytes (perform tb s t m)) ≡ perform tb s t m = view-bytes (perform tb s t m) (moved .orderly .shaped) in
         let w : afterTurn table state ≡ stateBytes (pastTurn (perform tb s t m) t) = rw (q, v) in
-        went a d (ap (λ o. o .answer) q)
+        went a d (ap (λ (o : Outcome Stepped). o .answer) q)
         (turn-is ∙ rw (f, w, view-bytes (pastTurn (perform tb s t m) t) (passed .orderly .shaped)))
         (rw w (bytes-sound table (pastTurn (perform tb s t m) t) passed))
 
     refused-turn : (q : Refusal) → answer ≡ Refused q → (dueAnswer table state ≡ Refused q) × (takeTurn tb s ≡ turned (Stopped (reasonFor t q)) (pastTurn s t))
     unfolding stepEnd turnEnd turnFor
-    refused-turn q f = (ap (λ o. o .answer) (step-is ∙ ap (λ x. stepEnd x state (perform tb s t m)) f), turn-is ∙ rw f)
+    refused-turn q f = (ap (λ (o : Outcome Stepped). o .answer) step-is ∙ rw (made, f), turn-is ∙ rw f)
 
     ready-turn : (x : Stepped) → answer ≡ x → Turns
     unfolding reasonFor
@@ -288,7 +292,7 @@ module _ (table : List ℕ) (ok : accepted table ≡ true) (fit : (i : ℕ) → 
   -- a step that is refused leaves the bytes as they were
   past-refused : (q : Refusal) → dueAnswer table state ≡ Refused q → turnPast state t ≡ afterTurn table state
   unfolding afterTurn
-  past-refused q f = ap (λ x. turnPast x t) (sym (step-refused-keeps table state t q f))
+  past-refused q f = ap (λ x. turnPast x t) (sym (step-refused-keeps table state (b .small) t q f))
 
   left-by : Turns → t < maxThreads → stateBytes (takeTurn tb s .state) ≡ afterTurn table state
   unfolding turnPast
@@ -333,30 +337,26 @@ module _ (table state : List ℕ) (fit : (i : ℕ) → getD table i 0 < 256) (sm
   sound-if : Admitted table state → (accepted table ≡ true) × SoundBuffer table state
   sound-if a = let (l, ok, e) = admitted-iff table state .0 a in (ok, record { long = l .1; small = small; tested = e })
 
-  done-admitted : (n : ℕ) (x : Admission) (k : ℕ) (r : Reason) → runBy x table state n .answer ≡ Ran.Done k r → x ≡ Admission.Admitted
-  unfolding runBy
-  done-admitted n (Admission.Refused q) k r e = clash cc
-  done-admitted n Admission.Admitted k r e = refl
-
   -- a run that is not refused, k steps long, is k turns, each a step of the first ready thread by the step call; and it ends for each reason exactly
   -- when that reason is due
   pub run-ends : (n k : ℕ) (r : Reason) → runCall table state n .answer ≡ Ran.Done k r → RunEnds table state n k r (runCall table state n .state)
-  unfolding runCall runBy
+  unfolding runCall runOn
   run-ends n k r e =
-      let a : Admitted table state = done-admitted n (admission table state) k r e in
+      let on = runOn (tableOf table) (view state) n in
+      let (a, f) = call-answer Ran.Refused table state on (Ran.Done k r) (λ g h i. clash cc) .0 e in
       let (ok, b) = sound-if a in
       let c : Course = courseOf (tableOf table) n (view state) in
-      let f : _≡_ {A = Ran} (Ran.Done (c .steps) (c .reason)) (Ran.Done k r) = rw a at e in
       let p : c .steps ≡ k = cc in
       let q : c .reason ≡ r = cc in
-      rw (a, ← p, ← q) (came table ok fit n state b)
+      rw (call-admitted Ran.Refused table state on a, ← p, ← q) (came table ok fit n state b)
 
   -- a run of one step, where a thread is ready, leaves what the step call leaves for the first ready thread, with the turn one past it
   pub one-turn : Admitted table state → due state < maxThreads → runCall table state 1 .state ≡ afterTurn table state
-  unfolding runCall runBy courseOf
+  unfolding runCall runOn courseOf
   one-turn a l =
       let (ok, b) = sound-if a in
-      rw a (ap stateBytes (last-turn (tableOf table) (takeTurn (tableOf table) (view state) .turn) (takeTurn (tableOf table) (view state) .state)) ∙ turn-leaves table ok fit state b l)
+      rw (call-admitted Ran.Refused table state (runOn (tableOf table) (view state) 1) a)
+      (ap stateBytes (last-turn (tableOf table) (takeTurn (tableOf table) (view state) .turn) (takeTurn (tableOf table) (view state) .state)) ∙ turn-leaves table ok fit state b l)
 
   -- with the turn moved past thread t it stands there, and nothing else is changed
   pub turn-stands : Admitted table state → (t : ℕ) → t < maxThreads → view (turnPast state t) ≡ withMark (view state) 2 (oneUp maxThreads t)

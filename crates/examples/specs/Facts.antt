@@ -3,10 +3,9 @@ use Prim.Native.Nat.{ℕ}
 use mathlib.Core.Bool.{Bool, true, not, _&&_}
 use mathlib.Core.List.{List, [], _∷_}
 use lib.Dec.{eqb}
-use Rattle.numbers.specs.Rows.{at}
 use Rattle.table.specs.Table.{Table}
 use Rattle.loader_laws.specs.PrintedFile.{filledUp}
-use Rattle.state.specs.State.{State, thread, status, slotOf, inUse, isReady, isWaiting, typeIn}
+use Rattle.state.specs.State.{State, thread, status, slotOf, inUse, isReady, isWaiting, typeIn, countIn}
 use Rattle.rules.specs.Holding.{holds}
 use Rattle.rules.specs.Start.{started}
 use Rattle.rules.specs.Offers.{offers, partnerOf}
@@ -65,7 +64,7 @@ module _ (tb : Table) (s : State) where
   holdsIn (receives t c) = offers tb (thread s t) In c
   holdsIn (knows t c) = holds tb (thread s t) c
   holdsIn (slot t k v) = inUse (thread s t) && eqb (slotOf (thread s t) k) v
-  holdsIn (counted c n) = eqb (at (s .channels) c 1) n
+  holdsIn (counted c n) = eqb (countIn s c) n
   holdsIn (runs n k r) = eqb (courseOf tb n s .steps) k && eqb (reasonNumber (courseOf tb n s .reason)) r
   holdsIn (collects n) = eqb (takenCount tb s) n
   holdsIn (takes t) = inUse (thread s t) && not (inUse (thread (collected tb s) t))

@@ -9,6 +9,7 @@ use mathlib.Core.List.{List, [], _∷_}
 use lib.ListN.{length, getD, length-map}
 use borrow.Author.Tests.{ne-eqb}
 use Rattle.numbers.specs.Rows.{at}
+use Rattle.table.specs.Fields as Field
 use Rattle.table.specs.Table.{Table, nodes, branchRow}
 use Rattle.table.specs.Layout.{start, branchCount, definitionOf}
 use Rattle.table.specs.Roles.{operand, operandRole, writes}
@@ -40,12 +41,12 @@ module _ (tb : Table) (r : ℕ) (a : Role) (t : Bool) (e : a ≡ operandRole tb 
 
 -- k is its action, a and b are its targets; p are the marks past what it writes, and ms₁ those of all nodes after its next node
 module _ (tb : Table) (f r a k w : ℕ) (m p : List Bool) (ms ms₁ : Marks) where
-  pub branch-next : a ≡ at tb r 8 → k ≡ at tb r 4 → w ≡ slotWritten tb r → p ≡ pastWrite w m → ms₁ ≡ arrive ms (f + a) p → (k ≡ 4 → ⊥)
+  pub branch-next : a ≡ at tb r Field.next → k ≡ at tb r Field.action → w ≡ slotWritten tb r → p ≡ pastWrite w m → ms₁ ≡ arrive ms (f + a) p → (k ≡ 4 → ⊥)
       → ms₁ ≡ branchFollowed tb f m r ms
   unfolding branchFollowed
   branch-next h j e g i n = i ∙ rw (← j, ne-eqb k 4 n, ← e, ← g, h)
 
-  pub branch-spawn : (b : ℕ) (ms₂ : Marks) → b ≡ at tb r 9 → a ≡ at tb r 8 → k ≡ at tb r 4 → w ≡ slotWritten tb r → p ≡ pastWrite w m
+  pub branch-spawn : (b : ℕ) (ms₂ : Marks) → b ≡ at tb r Field.child → a ≡ at tb r Field.next → k ≡ at tb r Field.action → w ≡ slotWritten tb r → p ≡ pastWrite w m
       → ms₁ ≡ arrive ms (f + a) p → ms₂ ≡ arrive ms₁ (f + b) p → k ≡ 4 → ms₂ ≡ branchFollowed tb f m r ms
   unfolding branchFollowed
   branch-spawn b ms₂ q h j e g i s n = s ∙ rw (i, ← j, n, ← e, ← g, h, q)

@@ -8,9 +8,10 @@ use lib.Dec.{leb, eqb}
 use lib.ListN.{getD, set}
 use Rattle.numbers.specs.Rows.{at}
 use Rattle.numbers.specs.Search.{every, tabulate}
+use Rattle.table.specs.Fields as Field
 use Rattle.table.specs.Table.{Table, maxNodes, nodes, nodeRow, branchRow, parameters}
 use Rattle.table.specs.Layout.{start, branchCount, definitionOf, nodeOf}
-use Rattle.table.specs.Roles.{operand, operandRole, reads, writes}
+use Rattle.table.specs.Roles.{operandCount, operand, operandRole, reads, writes}
 use Rattle.table.specs.declared.Part.the-variants.{Nodes, Branches}
 
 -- for each node and each number k below 17, whether some path to the node leaves slot k unwritten. A definition has at most 16 slots: no slot
@@ -56,9 +57,9 @@ module _ (tb : Table) where
   -- the branch in row r, of a node whose definition starts at node f and which has the marks m: to its next node, and a spawn to its child too
   unfoldable pub branchFollowed : ℕ → List Bool → ℕ → Marks → Marks
   branchFollowed f m r ms =
-      cond (eqb (at tb r 4) 4)
-      (arrive (arrive ms (f + at tb r 8) (pastWrite (slotWritten tb r) m)) (f + at tb r 9) (pastWrite (slotWritten tb r) m))
-      (arrive ms (f + at tb r 8) (pastWrite (slotWritten tb r) m))
+      cond (eqb (at tb r Field.action) 4)
+      (arrive (arrive ms (f + at tb r Field.next) (pastWrite (slotWritten tb r) m)) (f + at tb r Field.child) (pastWrite (slotWritten tb r) m))
+      (arrive ms (f + at tb r Field.next) (pastWrite (slotWritten tb r) m))
 
   -- the first i branches of node n, which has the marks m
   unfoldable pub branchesFollowed : ℕ → List Bool → Marks → ℕ → Marks
@@ -81,22 +82,22 @@ module _ (tb : Table) where
   module _ (r : ℕ) where
     -- ground 6, of a call at node n and of a branch of node n: what is read is surely written
     unfoldable pub argumentWritten : ℕ → ℕ → Bool
-    argumentWritten n i = not (mayLack n (at tb r (3 + i)))
+    argumentWritten n i = not (mayLack n (at tb r (Field.arguments + i)))
 
     unfoldable pub callWritten : ℕ → Bool
-    callWritten n = cond (eqb (at tb r 1) 2) (every (argumentWritten n) (parameters tb (at tb r 2))) true
+    callWritten n = cond (eqb (at tb r Field.nodeKind) 2) (every (argumentWritten n) (parameters tb (at tb r Field.callee))) true
 
     unfoldable pub operandWritten : ℕ → ℕ → Bool
     operandWritten n k = not (reads (operandRole tb r k) && mayLack n (operand tb r k))
 
     unfoldable pub rowWritten : Bool
     rowWritten =
-        cond (eqb (at tb r 0) 5) (callWritten (r - nodeRow tb))
-        (cond (eqb (at tb r 0) 6) (every (operandWritten (nodeOf tb (r - branchRow tb))) 5) true)
+        cond (eqb (at tb r Field.kind) 5) (callWritten (r - nodeRow tb))
+        (cond (eqb (at tb r Field.kind) 6) (every (operandWritten (nodeOf tb (r - branchRow tb))) operandCount) true)
 
     unfoldable pub readsUnwritten : Bool
     readsUnwritten = not rowWritten
 
     -- ground 7: no path leads to the node
     unfoldable pub unreachable : Bool
-    unreachable = eqb (at tb r 0) 5 && not (mayLack (r - nodeRow tb) pathMark)
+    unreachable = eqb (at tb r Field.kind) 5 && not (mayLack (r - nodeRow tb) pathMark)

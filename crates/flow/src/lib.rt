@@ -3,13 +3,14 @@
 ghost use mathlib.Core.Path.{_≡_};
 ghost use Prim.Native.Nat.{_+_, _-_, _<_};
 ghost use lib.ListN.{set, replicate};
-ghost use Rattle.table.specs.Table.{tableOf, nodes, branchRow};
+ghost use Rattle.table.specs.Table.{maxNodes, tableOf, nodes, branchRow};
 ghost use Rattle.table.specs.Layout.{start, branchCount, definitionOf};
 ghost use Rattle.table.specs.Index.{Indexed};
 ghost use Rattle.table.specs.declared.Part.the-variants.{Nodes, Branches};
 ghost use Rattle.flow.specs.Flow.{slotWritten, pastWrite, arrive, beginning, branchFollowed, branchesFollowed, flowTo, flow, marked};
 ghost use Rattle.flow.specs.Marks.{bits, marksOf, marksFrom, seed};
 use table::Part;
+use table::field;
 
 // Marks 0 to 15 are slots, mark 16 is the path itself.
 const MARKS: u32 = 17;
@@ -102,10 +103,10 @@ fn begin_at(table: &[u8], index: &[u32], n: u32, marks: &mut [u32])
 // All nodes get the marks that they begin with; no path begins past the last node, and the numbers there stay 0.
 fn begin(table: &[u8], index: &[u32], marks: &mut [u32])
     requires { ⌜ Indexed (tableOf (now table)) (now index) ⌝ }
-    requires { ⌜ now marks ≡ replicate 192 0 ⌝ }
+    requires { ⌜ now marks ≡ replicate maxNodes 0 ⌝ }
     ensures { λ _. ⌜ marksOf (now (marks .exit)) ≡ beginning (tableOf (now (table .entry))) ⌝ }
 {
-    let count = table::cell(table, 0, 4);
+    let count = table::cell(table, 0, field::NODES);
     for n in 0..count {
         begin_at(table, index, n, marks);
     }
@@ -116,12 +117,12 @@ fn follow_branch(table: &[u8], f: u32, m: u32, row: usize, marks: &mut [u32])
     ensures { λ _. ⌜ marksOf (now (marks .exit)) ≡ branchFollowed (tableOf (now (table .entry))) f (bits m) row (marksOf (now (marks .entry))) ⌝ }
 {
     let past = past_write(m, slot_written(table, row));
-    let next = f as usize + table::cell(table, row, 8) as usize;
+    let next = f as usize + table::cell(table, row, field::NEXT) as usize;
     arrive_at(marks, next, past);
-    if table::cell(table, row, 4) != 4 {
+    if table::cell(table, row, field::ACTION) != 4 {
         return;
     }
-    let child = f as usize + table::cell(table, row, 9) as usize;
+    let child = f as usize + table::cell(table, row, field::CHILD) as usize;
     arrive_at(marks, child, past);
 }
 
@@ -161,11 +162,11 @@ fn follow_node(table: &[u8], index: &[u32], n: u32, marks: &mut [u32])
 // The marks of every node.
 pub fn mark_flow(table: &[u8], index: &[u32], marks: &mut [u32])
     requires { ⌜ Indexed (tableOf (now table)) (now index) ⌝ }
-    requires { ⌜ now marks ≡ replicate 192 0 ⌝ }
+    requires { ⌜ now marks ≡ replicate maxNodes 0 ⌝ }
     ensures { λ _. ⌜ marksOf (now (marks .exit)) ≡ flow (tableOf (now (table .entry))) ⌝ }
 {
     begin(table, index, marks);
-    let count = table::cell(table, 0, 4);
+    let count = table::cell(table, 0, field::NODES);
     for n in 0..count {
         follow_node(table, index, n, marks);
     }

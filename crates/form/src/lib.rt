@@ -4,49 +4,44 @@ ghost use Prim.Native.Nat.{_<_};
 ghost use Rattle.numbers.specs.Search.{first};
 ghost use Rattle.table.specs.Table.{tableOf};
 ghost use Rattle.table.specs.Form.{headerInRange, kindDue, kindWrong, gain, loss, sumAgrees, sumsAgree};
+use table::MAX_BRANCHES;
+use table::MAX_DEFINITIONS;
+use table::MAX_NODES;
+use table::MAX_PORTS;
+use table::MAX_SLOTS;
+use table::MAX_TYPES;
 use table::Part;
 use table::block_size;
 use table::blocks_of;
 use table::branch_row;
 use table::cell;
 use table::definition_row;
+use table::field;
 use table::is_within;
 use table::lines_of;
 use table::node_row;
 use table::slot_row;
 
-const MAX_TYPES: u32 = 16;
-
-const MAX_DEFINITIONS: u32 = 16;
-
-const MAX_SLOTS: u32 = 256;
-
-const MAX_NODES: u32 = 192;
-
-const MAX_BRANCHES: u32 = 384;
-
-const MAX_PORTS: u32 = 8;
-
 // Whether the header's counts are in range.
 pub fn header_in_range(table: &[u8]) -> bool
     ensures { λ r. ⌜ r ≡ headerInRange (tableOf (now (table .entry))) ⌝ }
 {
-    if !is_within(0, MAX_TYPES, cell(table, 0, 1)) {
+    if !is_within(0, MAX_TYPES, cell(table, 0, field::TYPES)) {
         return false;
     }
-    if !is_within(1, MAX_DEFINITIONS, cell(table, 0, 2)) {
+    if !is_within(1, MAX_DEFINITIONS, cell(table, 0, field::DEFINITIONS)) {
         return false;
     }
-    if !is_within(0, MAX_SLOTS, cell(table, 0, 3)) {
+    if !is_within(0, MAX_SLOTS, cell(table, 0, field::SLOTS)) {
         return false;
     }
-    if !is_within(1, MAX_NODES, cell(table, 0, 4)) {
+    if !is_within(1, MAX_NODES, cell(table, 0, field::NODES)) {
         return false;
     }
-    if !is_within(0, MAX_BRANCHES, cell(table, 0, 5)) {
+    if !is_within(0, MAX_BRANCHES, cell(table, 0, field::BRANCHES)) {
         return false;
     }
-    is_within(0, MAX_PORTS, cell(table, 0, 6))
+    is_within(0, MAX_PORTS, cell(table, 0, field::PORTS))
 }
 
 // The kind that the header's counts give a row.
@@ -75,7 +70,7 @@ fn kind_due(table: &[u8], row: usize) -> u32
 fn kind_wrong(table: &[u8], row: usize) -> bool
     ensures { λ r. ⌜ r ≡ kindWrong (tableOf (now (table .entry))) row ⌝ }
 {
-    cell(table, row, 0) != kind_due(table, row)
+    cell(table, row, field::KIND) != kind_due(table, row)
 }
 
 // The first of n rows whose kind is wrong; n where there is none.

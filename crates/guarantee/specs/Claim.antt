@@ -5,9 +5,8 @@ use mathlib.Core.Path.{_≡_}
 use mathlib.Core.Bool.{Bool, true, false, not, _&&_}
 use mathlib.Core.List.{List, [], _∷_, _++_, map}
 use mathlib.Core.Logic.{_≢_, _↔_}
-use Rattle.numbers.specs.Rows.{at}
 use Rattle.table.specs.Table.{tableOf}
-use Rattle.state.specs.State.{maxThreads, maxChannels, view, thread, inUse, isWaiting, typeIn}
+use Rattle.state.specs.State.{maxThreads, maxChannels, view, thread, inUse, isWaiting, typeIn, countIn}
 use Rattle.rules.specs.Holding.{countOf}
 use Rattle.rules.specs.Moves.{move}
 use Rattle.rules.specs.Calls.{startCall, stepCall, giveCall, takeCall, runCall}
@@ -94,7 +93,7 @@ movingAll table state (k ∷ ks) = moving table state k ++ movingAll table (afte
 abbrev pub Counted : List ℕ → List ℕ → Type 0
 Counted table state =
     (c : ℕ) → c < maxChannels
-    → (at (view state .channels) c 1 ≡ countOf (tableOf table) (view state .threads) c)
+    → (countIn (view state) c ≡ countOf (tableOf table) (view state .threads) c)
     × ((typeIn (view state) c ≢ 0) ↔ (0 < countOf (tableOf table) (view state .threads) c))
 
 -- a collection of this state takes thread t: the thread's row is in use before it and free after it (document 01, under State and moves, where it says

@@ -14,21 +14,21 @@ use Rattle.loader.specs.Load.{accepted}
 use Rattle.state.specs.State.{maxThreads, view, thread, inUse}
 use Rattle.rules.specs.Calls.{admission}
 use Rattle.rules.specs.declared.Refusal.the-variants as Ground
-use Rattle.rules.specs.declared.Admission.{Admission}
 use Rattle.rules.specs.declared.Admission.the-variants as Admission
 use Rattle.rules_laws.specs.Granted.{Granted}
 use Rattle.rules_laws.specs.Codes.{clash}
 use Rattle.rules_laws.specs.Accepted.{granted}
-use Rattle.rules_laws.specs.Shape.Laws.{view-bytes}
 use Rattle.rules_laws.specs.Soundness.{Sound}
-use Rattle.rules_laws.specs.Entry.{atEntry}
-use Rattle.rules_laws.specs.Refusals.{step-entry-iff, give-entry-iff, take-entry-iff, run-refused-iff}
-use Rattle.engine_laws.specs.Buffers.{SoundBuffer, view-sound, bytes-sound}
-use Rattle.engine_laws.specs.SoundCalls.{admitted}
+use Rattle.engine.specs.Numbers.{refusalNumber}
+use Rattle.engine_laws.specs.Entry.{atEntry}
+use Rattle.engine_laws.specs.Refusals.{step-entry-iff, give-entry-iff, take-entry-iff, run-refused-iff}
+use Rattle.engine_laws.specs.Buffers.{SoundBuffer, view-sound}
+use Rattle.engine_laws.specs.SoundCalls.{admitted, call-made, call-sound, call-view}
 use Rattle.engine_laws.specs.Lists.{Call, step, give, take, run, RefusedWith, after-sound}
-use Rattle.collector.specs.Collect.{taken, collected, takenCount, collectBy, collectCall}
+use Rattle.collector.specs.Collect.{taken, collected, takenCount, collectOn, collectCall}
 use Rattle.collector.specs.Collect.Laws.{taken-iff, taken-freed, left-same}
-use Rattle.collector_laws.specs.CollectionKeeps.{collected-sound}
+use Rattle.collector_laws.specs.CollectionKeeps.{collect-on-kept}
+use Rattle.collector_laws.specs.CollectionRefusals.{collect-refused-iff}
 use Rattle.collector_laws.specs.Out.{takenThread}
 use Rattle.collector.specs.declared.Collected.the-variants as Collected
 use Rattle.guarantee.specs.Claim.{Any, on, collect, afterAny, afterList, takenBy, RefusedBy, NeverTen}
@@ -36,21 +36,16 @@ use Rattle.guarantee.specs.Claim.{Any, on, collect, afterAny, afterList,
 -- ---- refusal 10 is met at the entry of a call
 
 call-at-entry : (table state : List ℕ) (k : Call) → RefusedWith table state k Ground.State → admission table state ≡ Admission.Refused Ground.State
-unfolding RefusedWith atEntry
+unfolding RefusedWith atEntry refusalNumber
 call-at-entry table state (step t) e = step-entry-iff table state t Ground.State refl .0 e
 call-at-entry table state (give p v h) e = give-entry-iff table state p v Ground.State refl .0 e
 call-at-entry table state (take p) e = take-entry-iff table state p Ground.State refl .0 e
 call-at-entry table state (run n) e = run-refused-iff table state n Ground.State .0 e
 
-collect-by : (table state : List ℕ) (a : Admission) → collectBy a table state .answer ≡ Collected.Refused Ground.State → a ≡ Admission.Refused Ground.State
-unfolding collectBy
-collect-by table state (Admission.Refused r) e = cc
-collect-by table state Admission.Admitted e = clash cc
-
 any-at-entry : (table state : List ℕ) (k : Any) → RefusedBy table state k Ground.State → admission table state ≡ Admission.Refused Ground.State
-unfolding RefusedBy collectCall
+unfolding RefusedBy
 any-at-entry table state (on k) e = call-at-entry table state k e
-any-at-entry table state collect e = collect-by table state (admission table state) e
+any-at-entry table state collect e = collect-refused-iff table state Ground.State .0 e
 
 -- ---- a table that is accepted
 
@@ -60,25 +55,25 @@ module _ (table : List ℕ) (ok : accepted table ≡ true) where
 
   -- a collection of a sound buffer is not refused: it answers how many threads it takes
   pub collect-done : (state : List ℕ) → SoundBuffer table state → collectCall table state .answer ≡ Collected.Done (takenCount (tableOf table) (view state))
-  unfolding collectCall collectBy
-  collect-done state b = rw (admitted table ok state b)
+  unfolding collectCall collectOn
+  collect-done state b = rw (call-made table ok Collected.Refused state b (collectOn (tableOf table) (view state)))
 
 module _ (table : List ℕ) (ok : accepted table ≡ true) (fit : (i : ℕ) → getD table i 0 < 256) where
   pub grants : Granted (tableOf table)
   grants = granted table ok fit
 
   module _ (state : List ℕ) (b : SoundBuffer table state) where
-    after-collection : Sound (tableOf table) (collected (tableOf table) (view state))
-    after-collection = collected-sound (tableOf table) grants (view state) (view-sound table state b)
+    after-collection : Sound (tableOf table) (collectOn (tableOf table) (view state) .state)
+    after-collection = collect-on-kept (tableOf table) grants (view state) (view-sound table state b)
 
     collect-sound : SoundBuffer table (collectCall table state .state)
-    unfolding collectCall collectBy
-    collect-sound = rw (admitted table ok state b) (bytes-sound table _ after-collection)
+    unfolding collectCall
+    collect-sound = call-sound table ok Collected.Refused state b (collectOn (tableOf table) (view state)) after-collection
 
     -- the bytes after a collection hold the state after it
     pub collect-view : view (collectCall table state .state) ≡ collected (tableOf table) (view state)
-    unfolding collectCall collectBy
-    collect-view = rw (admitted table ok state b) (view-bytes _ (after-collection .orderly .shaped))
+    unfolding collectCall collectOn
+    collect-view = call-view table ok Collected.Refused state b (collectOn (tableOf table) (view state)) after-collection
 
     no-thread : (t : ℕ) → ltb t maxThreads ≡ false → thread (view state) t ≡ []
     no-thread t e =

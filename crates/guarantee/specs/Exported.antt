@@ -2,6 +2,7 @@
 -- say, in the numbers that C sees: a load is answered with refusal 0 exactly where the file loads; the calls leave the same bytes; and a call is answered
 -- with refusal 10 only where the claim has it so. Assumes nothing.
 use Prim.Native.Nat.{ℕ, _<_}
+use native.Mathlib.Omega.{arith}
 use mathlib.Core.Path.{_≡_, refl, sym, ap, _∙_}
 use mathlib.Core.List.{List}
 use mathlib.Core.Logic.{_≢_, _↔_}
@@ -10,7 +11,7 @@ use lib.ListN.{length}
 use lib.IntN.{ℤ, pos}
 use mir.Syntax.{w32}
 use mir.Val.{toZ, ofZ}
-use mir.Facts.{ofZ-toZ}
+use mir.Facts.{toZ-pos, ofZ-toZ}
 use borrow.Author.Tests.{eqb-true}
 use Rattle.numbers.specs.Search.Laws.{caseB}
 use Rattle.loader.specs.File.{fileTable}
@@ -37,6 +38,7 @@ use Rattle.rules.specs.declared.Ran.{Ran}
 use Rattle.rules.specs.declared.Ran.the-variants as Ran
 use Rattle.rules_laws.specs.Codes.{clash}
 use Rattle.engine.specs.Numbers.{refusalNumber}
+use Rattle.engine.specs.Numbers.Laws.{ground-range, same-number}
 use Rattle.engine_laws.specs.Lists.{step, give, take, run, after, RefusedWith}
 use Rattle.collector.specs.Collect.{collectCall}
 use Rattle.collector.specs.declared.Collected.{Collected}
@@ -145,51 +147,55 @@ left-so table state (on (take p)) = refl
 left-so table state (on (run n)) = refl
 left-so table state collect = refl
 
--- ---- 10 is the number of one ground alone
+-- ---- a number of a ground is the number of that ground alone, and of no call that is done
 
-ten-is : (r : Refusal) → toZ w32 (refusalNumber r) ≡ pos 10 → r ≡ Ground.State
-unfolding refusalNumber
-ten-is Ground.Length e = clash cc
-ten-is Ground.Table e = clash cc
-ten-is Ground.State e = refl
-ten-is Ground.Thread e = clash cc
-ten-is Ground.Port e = clash cc
-ten-is Ground.ThreadRow e = clash cc
-ten-is Ground.ChannelRow e = clash cc
+-- C sees the number of a ground as it is
+pub ground-signed : (r : Refusal) → toZ w32 (refusalNumber r) ≡ pos (refusalNumber r)
+ground-signed r = toZ-pos w32 {n = refusalNumber r} (omega (arith, ground-range r .1))
 
-step-ten : (a : Stepped) → stepNumbers a .refusal ≡ pos 10 → a ≡ Stepped.Refused Ground.State
-unfolding stepNumbers stepFields
-step-ten (Stepped.Done n d) e = clash cc
-step-ten (Stepped.Refused r) e = ap (λ x. Stepped.Refused x) (ten-is r e)
+number-is : (q r : Refusal) → toZ w32 (refusalNumber q) ≡ pos (refusalNumber r) → q ≡ r
+number-is q r e =
+    let f : pos (refusalNumber q) ≡ pos (refusalNumber r) = sym (ground-signed q) ∙ e in
+    let n : refusalNumber q ≡ refusalNumber r = cc in
+    same-number q r n
 
-give-ten : (a : Given) → giveNumbers a .refusal ≡ pos 10 → a ≡ Given.Refused Ground.State
-unfolding giveNumbers giveFields
-give-ten (Given.Met u) e = clash cc
-give-ten Given.Nobody e = clash cc
-give-ten (Given.Refused r) e = ap (λ x. Given.Refused x) (ten-is r e)
+pub not-zero : (r : Refusal) → pos 0 ≢ pos (refusalNumber r)
+not-zero r e = let n : 0 ≡ refusalNumber r = cc in omega (arith, ground-range r .0)
 
-take-ten : (a : Taken) → takeNumbers a .refusal ≡ pos 10 → a ≡ Taken.Refused Ground.State
-unfolding takeNumbers takeFields
-take-ten (Taken.Met u v) e = clash cc
-take-ten Taken.Nobody e = clash cc
-take-ten (Taken.Refused r) e = ap (λ x. Taken.Refused x) (ten-is r e)
+module _ (r : Refusal) where
+  pub step-number : (a : Stepped) → stepNumbers a .refusal ≡ pos (refusalNumber r) → a ≡ Stepped.Refused r
+  unfolding stepNumbers stepFields
+  step-number (Stepped.Done n d) e = absurd (not-zero r e)
+  step-number (Stepped.Refused q) e = ap (λ x. Stepped.Refused x) (number-is q r e)
 
-run-ten : (a : Ran) → runNumbers a .refusal ≡ pos 10 → a ≡ Ran.Refused Ground.State
-unfolding runNumbers runFields
-run-ten (Ran.Done n r) e = clash cc
-run-ten (Ran.Refused r) e = ap (λ x. Ran.Refused x) (ten-is r e)
+  give-number : (a : Given) → giveNumbers a .refusal ≡ pos (refusalNumber r) → a ≡ Given.Refused r
+  unfolding giveNumbers giveFields
+  give-number (Given.Met u) e = absurd (not-zero r e)
+  give-number Given.Nobody e = absurd (not-zero r e)
+  give-number (Given.Refused q) e = ap (λ x. Given.Refused x) (number-is q r e)
 
-collect-ten : (a : Collected) → collectNumbers a .refusal ≡ pos 10 → a ≡ Collected.Refused Ground.State
-unfolding collectNumbers collectFields
-collect-ten (Collected.Done n) e = clash cc
-collect-ten (Collected.Refused r) e = ap (λ x. Collected.Refused x) (ten-is r e)
+  take-number : (a : Taken) → takeNumbers a .refusal ≡ pos (refusalNumber r) → a ≡ Taken.Refused r
+  unfolding takeNumbers takeFields
+  take-number (Taken.Met u v) e = absurd (not-zero r e)
+  take-number Taken.Nobody e = absurd (not-zero r e)
+  take-number (Taken.Refused q) e = ap (λ x. Taken.Refused x) (number-is q r e)
+
+  run-number : (a : Ran) → runNumbers a .refusal ≡ pos (refusalNumber r) → a ≡ Ran.Refused r
+  unfolding runNumbers runFields
+  run-number (Ran.Done n x) e = absurd (not-zero r e)
+  run-number (Ran.Refused q) e = ap (λ x. Ran.Refused x) (number-is q r e)
+
+  collect-number : (a : Collected) → collectNumbers a .refusal ≡ pos (refusalNumber r) → a ≡ Collected.Refused r
+  unfolding collectNumbers collectFields
+  collect-number (Collected.Done n) e = absurd (not-zero r e)
+  collect-number (Collected.Refused q) e = ap (λ x. Collected.Refused x) (number-is q r e)
 
 -- a call that C sees refused with 10 is one that the claim has refused with 10; so none is
 pub refused-so : (table state : List ℕ) (k : Any) → refusal table state k ≡ pos 10 → RefusedBy table state k Ground.State
-unfolding refusal RefusedBy RefusedWith stepResult giveResult takeResult runResult collectResult inNumbers
-refused-so table state (on (step t)) e = step-ten (stepCall table state t .answer) e
+unfolding refusal RefusedBy RefusedWith stepResult giveResult takeResult runResult collectResult inNumbers refusalNumber
+refused-so table state (on (step t)) e = step-number Ground.State (stepCall table state t .answer) e
 refused-so table state (on (give p v h)) e =
-    give-ten (giveCall table state p v .answer) (sym (ap (λ x. giveNumbers (giveCall table state p x .answer) .refusal) (given-so v h)) ∙ e)
-refused-so table state (on (take p)) e = take-ten (takeCall table state p .answer) e
-refused-so table state (on (run n)) e = run-ten (runCall table state n .answer) e
-refused-so table state collect e = collect-ten (collectCall table state .answer) e
+    give-number Ground.State (giveCall table state p v .answer) (sym (ap (λ x. giveNumbers (giveCall table state p x .answer) .refusal) (given-so v h)) ∙ e)
+refused-so table state (on (take p)) e = take-number Ground.State (takeCall table state p .answer) e
+refused-so table state (on (run n)) e = run-number Ground.State (runCall table state n .answer) e
+refused-so table state collect e = collect-number Ground.State (collectCall table state .answer) e

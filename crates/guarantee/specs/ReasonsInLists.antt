@@ -26,10 +26,11 @@ use Rattle.rules.specs.declared.Ran.{Ran}
 use Rattle.rules.specs.declared.Ran.the-variants as Ran
 use Rattle.rules_laws.specs.Codes.{clash}
 use Rattle.engine.specs.Numbers.{refusalNumber, reasonNumber, heldUpNumber}
-use Rattle.rules_laws.specs.Refusals.{step-thread-row-iff, step-channel-row-iff}
+use Rattle.engine_laws.specs.Refusals.{step-thread-row-iff, step-channel-row-iff}
 use Rattle.engine_laws.specs.Reasons.{turnPast, due, Idle, dueAnswer, afterTurns, leftBy, RunEnds, run-ends}
 use Rattle.interface.specs.Interface.{inNumbers, stepFields, stepNumbers, stepResult, runFields, runNumbers, runResult}
 use Rattle.interface.specs.declared.RunAnswer.{RunAnswer}
+use Rattle.guarantee.specs.Exported.{ground-signed, not-zero, step-number}
 
 -- the first number of the answer to a step of the first ready thread from the turn on
 unfoldable pub dueRefusal : List ℕ → List ℕ → ℤ
@@ -83,51 +84,10 @@ three-is NoneReady e = clash cc
 three-is (LackedThread t) e = clash cc
 three-is (LackedChannel t) e = (t, refl)
 
-thirteen-is : (g : Refusal) → toZ w32 (refusalNumber g) ≡ pos 13 → g ≡ Ground.ThreadRow
-unfolding refusalNumber
-thirteen-is Ground.Length e = clash cc
-thirteen-is Ground.Table e = clash cc
-thirteen-is Ground.State e = clash cc
-thirteen-is Ground.Thread e = clash cc
-thirteen-is Ground.Port e = clash cc
-thirteen-is Ground.ThreadRow e = refl
-thirteen-is Ground.ChannelRow e = clash cc
-
-fourteen-is : (g : Refusal) → toZ w32 (refusalNumber g) ≡ pos 14 → g ≡ Ground.ChannelRow
-unfolding refusalNumber
-fourteen-is Ground.Length e = clash cc
-fourteen-is Ground.Table e = clash cc
-fourteen-is Ground.State e = clash cc
-fourteen-is Ground.Thread e = clash cc
-fourteen-is Ground.Port e = clash cc
-fourteen-is Ground.ThreadRow e = clash cc
-fourteen-is Ground.ChannelRow e = refl
-
--- a refusal's number is not 0
-not-zero : (g : Refusal) → toZ w32 (refusalNumber g) ≡ pos 0 → ⊥
-unfolding refusalNumber
-not-zero Ground.Length e = clash cc
-not-zero Ground.Table e = clash cc
-not-zero Ground.State e = clash cc
-not-zero Ground.Thread e = clash cc
-not-zero Ground.Port e = clash cc
-not-zero Ground.ThreadRow e = clash cc
-not-zero Ground.ChannelRow e = clash cc
-
-step-thirteen : (x : Stepped) → stepNumbers x .refusal ≡ pos 13 → x ≡ Stepped.Refused Ground.ThreadRow
-unfolding stepNumbers stepFields
-step-thirteen (Stepped.Done n d) e = clash cc
-step-thirteen (Stepped.Refused g) e = ap (λ x. Stepped.Refused x) (thirteen-is g e)
-
-step-fourteen : (x : Stepped) → stepNumbers x .refusal ≡ pos 14 → x ≡ Stepped.Refused Ground.ChannelRow
-unfolding stepNumbers stepFields
-step-fourteen (Stepped.Done n d) e = clash cc
-step-fourteen (Stepped.Refused g) e = ap (λ x. Stepped.Refused x) (fourteen-is g e)
-
 run-done : (x : Ran) → runNumbers x .refusal ≡ pos 0 → (k : ℕ) × (r : Reason) × (x ≡ Ran.Done k r)
 unfolding runNumbers runFields
 run-done (Ran.Done k r) e = (k, r, refl)
-run-done (Ran.Refused g) e = absurd (not-zero g e)
+run-done (Ran.Refused g) e = absurd (not-zero g (sym e ∙ ground-signed g))
 
 -- ---- a run as the rules have it
 
@@ -139,11 +99,11 @@ module _ (table b : List ℕ) where
 
   thread-row-number : (dueAnswer table b ≡ Stepped.Refused Ground.ThreadRow) ↔ (dueRefusal table b ≡ pos 13)
   unfolding dueRefusal stepResult inNumbers stepNumbers stepFields refusalNumber
-  thread-row-number = (λ e. ap (λ x. stepNumbers x .refusal) e, λ e. step-thirteen (dueAnswer table b) e)
+  thread-row-number = (λ e. ap (λ x. stepNumbers x .refusal) e, λ e. step-number Ground.ThreadRow (dueAnswer table b) e)
 
   channel-row-number : (dueAnswer table b ≡ Stepped.Refused Ground.ChannelRow) ↔ (dueRefusal table b ≡ pos 14)
   unfolding dueRefusal stepResult inNumbers stepNumbers stepFields refusalNumber
-  channel-row-number = (λ e. ap (λ x. stepNumbers x .refusal) e, λ e. step-fourteen (dueAnswer table b) e)
+  channel-row-number = (λ e. ap (λ x. stepNumbers x .refusal) e, λ e. step-number Ground.ChannelRow (dueAnswer table b) e)
 
   -- a thread whose step lacks a row is one of the 64
   can-low : canStep (view b) (due b) ≡ true → due b < maxThreads

@@ -11,6 +11,7 @@ use borrow.Author.Tests.{eq-eqb, ne-eqb, lt-ltb, le-ltb}
 use Rattle.numbers.specs.Count.{bit}
 use Rattle.numbers.specs.Rows.{at}
 use Rattle.numbers.specs.Search.Laws.{some-intro, some-zero, some-suc}
+use Rattle.table.specs.Fields as Field
 use Rattle.table.specs.Table.{Table, slotRow, slotCount}
 use Rattle.table.specs.Layout.{start, definitionOf}
 use Rattle.table.specs.declared.Part.the-variants.{Slots}
@@ -44,7 +45,7 @@ module _ (tb : Table) (from : ℕ) (row l : List ℕ) (k v : ℕ) (e : v ≡ slo
   unfolding ownBy
   own-high h = rw (← e, le-ltb v 128 h)
 
-  module _ (x : ℕ) (f : x ≡ at tb (from + k) 1) (h : v < 128) where
+  module _ (x : ℕ) (f : x ≡ at tb (from + k) Field.type) (h : v < 128) where
     pub own-number : x ≡ 0 → 128 ≡ ownBy tb from row l k
     unfolding ownBy
     own-number g = rw (← e, lt-ltb v 128 h, ← f, g)

@@ -5,25 +5,17 @@ ghost use lib.ListN.{replicate};
 ghost use Rattle.numbers.specs.Count.{bit};
 ghost use Rattle.table.specs.Table.{tableOf};
 ghost use Rattle.table.specs.Index.{Indexed};
-ghost use Rattle.state.specs.State.{stateOf, thread, isWaiting};
+ghost use Rattle.state.specs.State.{rowSlots, stateOf, thread, isWaiting};
 ghost use Rattle.holding.specs.Own.{room, ownList, ownRoom};
 ghost use Rattle.holding.specs.Own.Listing.{listed, ownBy, listedTo};
+use table::field;
 
 // The entries of a list of channels, one for each slot of a row.
-pub const LIST: usize = 16;
-
-const ROW_SLOTS: u32 = 16;
-
-const CHANNELS: u32 = 128;
-
-// The entry of a slot by which the row holds no channel that it does not hold by a slot before: the first number past the channels.
-const NO_CHANNEL: u8 = 128;
-
-const WAITING: u32 = 2;
+pub const LIST: usize = state::SLOTS as usize;
 
 // Whether one of the first n entries of a list is c.
 fn is_listed(list: &[u8; LIST], n: u32, c: u8) -> bool
-    requires { ⌜ n ≤ 16 ⌝ }
+    requires { ⌜ n ≤ rowSlots ⌝ }
     ensures { λ r. ⌜ r ≡ listed (now (list .entry)) n c ⌝ }
 {
     for i in 0..n {
@@ -47,20 +39,20 @@ fn own_at(
 ) -> u8
     requires { ⌜ Indexed (tableOf (now table)) (now index) ⌝ }
     requires { ⌜ from ≤ 12713792 ⌝ }
-    requires { ⌜ k ≤ 16 ⌝ }
+    requires { ⌜ k ≤ rowSlots ⌝ }
     ensures { λ r. ⌜ r ≡ ownBy (tableOf (now (table .entry))) from (thread (stateOf (now (state .entry))) t) (now (list .entry)) k ⌝ }
 {
     let c = program::slot(state, t, k);
-    if c < CHANNELS {
-        if table::cell_of(table, index, from + k as usize, 1) == 0 {
-            return NO_CHANNEL;
+    if c < state::CHANNELS {
+        if table::cell_of(table, index, from + k as usize, field::TYPE) == 0 {
+            return state::NO_CHANNEL;
         }
         if is_listed(list, k, c as u8) {
-            return NO_CHANNEL;
+            return state::NO_CHANNEL;
         }
         return c as u8;
     }
-    NO_CHANNEL
+    state::NO_CHANNEL
 }
 
 // The channels of thread t's first n slots are written into a list, each once.
@@ -75,7 +67,7 @@ fn list_own(
 )
     requires { ⌜ Indexed (tableOf (now table)) (now index) ⌝ }
     requires { ⌜ from ≤ 12713792 ⌝ }
-    requires { ⌜ n ≤ 16 ⌝ }
+    requires { ⌜ n ≤ rowSlots ⌝ }
     ensures { λ _. ⌜ now (list .exit) ≡ listedTo (tableOf (now (table .entry))) from (thread (stateOf (now (state .entry))) t) (now (list .entry)) n ⌝ }
 {
     for k in 0..n {
@@ -88,16 +80,16 @@ fn list_own(
 fn own_room(table: &[u8], index: &[u32], status: u32, d: u32) -> u32
     requires { ⌜ Indexed (tableOf (now table)) (now index) ⌝ }
     ensures { λ r. ⌜ r ≡ room (tableOf (now (table .entry))) status d ⌝ }
-    ensures { λ r. ⌜ r ≤ 16 ⌝ }
+    ensures { λ r. ⌜ r ≤ rowSlots ⌝ }
 {
-    if status == 0 {
+    if status == state::FREE {
         return 0;
     }
     let n = table::slot_count_of(table, index, d);
-    if n < ROW_SLOTS {
+    if n < state::SLOTS {
         return n;
     }
-    ROW_SLOTS
+    state::SLOTS
 }
 
 // The channels that thread t holds are listed, each once at the first slot that has it. Answers how many entries its slots fill: past them there is
@@ -112,11 +104,15 @@ pub fn own_channels(
     requires { ⌜ Indexed (tableOf (now table)) (now index) ⌝ }
     ensures { λ _. ⌜ now (list .exit) ≡ ownList (tableOf (now (table .entry))) (thread (stateOf (now (state .entry))) t) ⌝ }
     ensures { λ r. ⌜ r ≡ ownRoom (tableOf (now (table .entry))) (thread (stateOf (now (state .entry))) t) ⌝ }
-    ensures { λ r. ⌜ r ≤ 16 ⌝ }
+    ensures { λ r. ⌜ r ≤ rowSlots ⌝ }
 {
-    *list = [NO_CHANNEL; LIST];
-    let status = state::thread_word(state, t as usize, 0);
-    let d = program::definition_of(table, index, state::thread_word(state, t as usize, 1));
+    *list = [state::NO_CHANNEL; LIST];
+    let status = state::thread_word(state, t as usize, state::STATUS);
+    let d = program::definition_of(
+        table,
+        index,
+        state::thread_word(state, t as usize, state::NODE),
+    );
     let from = program::types_from(table, index, d);
     let n = own_room(table, index, status, d);
     list_own(table, index, from, state, t, n, list);
@@ -127,7 +123,7 @@ pub fn own_channels(
 pub fn weight(state: &[u32; state::WORDS], t: u32) -> u8
     ensures { λ r. ⌜ r ≡ bit (isWaiting (thread (stateOf (now (state .entry))) t)) ⌝ }
 {
-    if state::thread_word(state, t as usize, 0) == WAITING {
+    if state::thread_word(state, t as usize, state::STATUS) == state::WAITING {
         return 1;
     }
     0

@@ -8,7 +8,7 @@ ghost use Rattle.numbers.specs.Laid.{laid};
 ghost use Rattle.table.specs.Table.{tableOf};
 ghost use Rattle.table.specs.Layout.{blocks, endsPast};
 ghost use Rattle.table.specs.Form.{headerInRange};
-ghost use Rattle.table.specs.Index.{startsFrom, startsRoom, ownersFrom, ownersRoom, indexLength, indexOf, entry, Starts};
+ghost use Rattle.table.specs.Index.{startsFrom, startsRoom, ownersFrom, ownersRoom, rowsFrom, indexLength, indexOf, entry, Starts};
 use table::Part;
 use table::block_size;
 use table::blocks_of;
@@ -19,15 +19,6 @@ use table::node_row;
 use table::owners_from;
 use table::slot_row;
 use table::starts_from;
-
-// The places in an index of the first row of each kind of line.
-const DEFINITION_ROW: usize = 803;
-
-const SLOT_ROW: usize = 804;
-
-const NODE_ROW: usize = 805;
-
-const BRANCH_ROW: usize = 806;
 
 // Start i of a part, from the index.
 fn start_at(index: &[u32], part: Part, i: u32) -> u32
@@ -88,13 +79,13 @@ fn lay_owners(table: &[u8], index: &mut [u32], part: Part)
 
 // The first rows are laid behind what the index has already.
 fn lay_rows(table: &[u8], index: &mut [u32])
-    requires { ⌜ now index ≡ laid (entry (tableOf (now table))) 803 indexLength ⌝ }
+    requires { ⌜ now index ≡ laid (entry (tableOf (now table))) rowsFrom indexLength ⌝ }
     ensures { λ _. ⌜ now (index .exit) ≡ laid (entry (tableOf (now (table .entry)))) indexLength indexLength ⌝ }
 {
-    numbers::put_cell(index, DEFINITION_ROW, definition_row(table) as u32);
-    numbers::put_cell(index, SLOT_ROW, slot_row(table) as u32);
-    numbers::put_cell(index, NODE_ROW, node_row(table) as u32);
-    numbers::put_cell(index, BRANCH_ROW, branch_row(table) as u32);
+    numbers::put_cell(index, table::DEFINITION_ROW, definition_row(table) as u32);
+    numbers::put_cell(index, table::SLOT_ROW, slot_row(table) as u32);
+    numbers::put_cell(index, table::NODE_ROW, node_row(table) as u32);
+    numbers::put_cell(index, table::BRANCH_ROW, branch_row(table) as u32);
 }
 
 // The index of a table whose header is in range, into a slice of zeros.

@@ -1,4 +1,4 @@
--- Instances of the theorems on refusals (`rules_laws/specs/Entry.antt`, `Refusals.antt`): a call that each of the grounds 8 to 12 refuses, and one that it does
+-- Instances of the theorems on refusals (`engine_laws/specs/Entry.antt`, `Refusals.antt`): a call that each of the grounds 8 to 12 refuses, and one that it does
 -- not. Assumes nothing.
 use Prim.Native.Nat.{ℕ, zero, suc, _<_, _≤_}
 use native.Mathlib.Omega.{arith}
@@ -18,7 +18,8 @@ use Rattle.state.specs.State.{State, stateLength, view, stateBytes}
 use Rattle.rules.specs.Start.{started}
 use Rattle.rules.specs.Sound.{sound}
 use Rattle.rules.specs.Offers.{partnerOf}
-use Rattle.rules.specs.Calls.{admission, canStep, stepCall, bench, givenTo, giveBy, giveCall, takeCall, courseOf}
+use Rattle.rules.specs.Calls.{admission, canStep, stepCall, bench, givenTo, giveOn, giveCall, takeCall, courseOf}
+use Rattle.rules.specs.Calls.Laws.{call-admitted}
 use Rattle.rules.specs.declared.Direction.the-variants.{In}
 use Rattle.rules.specs.declared.Partner.the-variants.{Nobody, At}
 use Rattle.rules.specs.declared.Refusal.the-variants as Ground
@@ -28,9 +29,9 @@ use Rattle.rules.specs.declared.Given.the-variants as Given
 use Rattle.rules.specs.declared.Taken.the-variants as Taken
 use Rattle.rules_laws.specs.Shape.{Shaped}
 use Rattle.rules_laws.specs.Shape.Laws.{bytes-long, view-bytes}
-use Rattle.rules_laws.specs.Entry.{Admitted, length-iff, table-iff, state-iff, admitted-iff}
-use Rattle.rules_laws.specs.Bench.{NobodyOffers}
-use Rattle.rules_laws.specs.Refusals.{step-thread-iff, give-port-iff, take-port-iff, give-nobody-iff}
+use Rattle.engine_laws.specs.Entry.{Admitted, length-iff, table-iff, state-iff, admitted-iff}
+use Rattle.engine_laws.specs.Bench.{NobodyOffers}
+use Rattle.engine_laws.specs.Refusals.{step-thread-iff, give-port-iff, take-port-iff, give-nobody-iff}
 use Rattle.engine_laws.specs.Buffers.{bytes-sound}
 use Rattle.examples.specs.Builders.{stateWith}
 use Rattle.examples.specs.Tables.{portReceiver, endOnly}
@@ -165,12 +166,12 @@ unfolding running
 one-waits = refl
 
 pub nobody-there : giveCall receives (stateBytes (begun 0)) 0 7 .answer ≡ Given.Nobody
-unfolding giveCall giveBy givenTo
-nobody-there = rw (begun-admitted 0, table-holds portReceiver receiver-in-order, begun-view 0, none-waits)
+unfolding giveCall giveOn givenTo
+nobody-there = rw (call-admitted Given.Refused receives (stateBytes (begun 0)) _ (begun-admitted 0), table-holds portReceiver receiver-in-order, begun-view 0, none-waits)
 
 pub somebody-there : giveCall receives (stateBytes (begun 1)) 0 7 .answer ≡ Given.Met 0
-unfolding giveCall giveBy givenTo
-somebody-there = rw (begun-admitted 1, table-holds portReceiver receiver-in-order, begun-view 1, one-waits)
+unfolding giveCall giveOn givenTo
+somebody-there = rw (call-admitted Given.Refused receives (stateBytes (begun 1)) _ (begun-admitted 1), table-holds portReceiver receiver-in-order, begun-view 1, one-waits)
 
 -- by the law none of all 64 threads offers to receive there
 pub nobody-offers : NobodyOffers (tableOf receives) (view (stateBytes (begun 0))) In 0

@@ -14,16 +14,20 @@ use Rattle.loader.specs.Verdict.{groundNumber}
 use Rattle.loader.specs.Load as Load
 use Rattle.loader.specs.Load.{tableLength, Outcome, outcome, afterVerdict, loaded}
 use Rattle.loader.specs.declared.Loaded.the-variants.{Done}
-use Rattle.state.specs.State.{view, thread, isWaiting}
+use Rattle.state.specs.State.{view, thread, standsAt, isWaiting}
 use Rattle.rules.specs.Offers.{partnerOf}
 use Rattle.rules.specs.Moves.{move}
-use Rattle.rules.specs.Calls.{canStep, stepAnswer, stepEnd, stepBy, stepCall, bench, givenTo, giveBy, giveCall}
+use Rattle.rules.specs.Calls.{stepAnswer, canStep, stepOn, stepCall, bench, givenTo, giveOn, giveCall}
+use Rattle.rules.specs.Calls.Laws.{step-answered}
+use Rattle.rules.specs.declared.Deed.the-variants.{TookWith}
+use Rattle.rules.specs.declared.Stepped.the-variants as Stepped
+use Rattle.rules.specs.declared.Given.the-variants as Given
 use Rattle.rules.specs.declared.Direction.the-variants.{In}
 use Rattle.rules.specs.declared.Partner.the-variants.{At}
 use Rattle.rules.specs.declared.Move.the-variants.{Spawns}
 use Rattle.rules_laws.specs.Frames.{elem, movers}
 use Rattle.engine.specs.Numbers.{partnerNumber}
-use Rattle.engine_laws.specs.SoundCalls.{admitted}
+use Rattle.engine_laws.specs.SoundCalls.{call-made}
 use Rattle.engine_laws.specs.Lists.{Call, step, give, run}
 use Rattle.collector.specs.Collect.{collected, takenCount, collectCall}
 use Rattle.collector.specs.declared.Collected.the-variants as Collected
@@ -108,10 +112,14 @@ parent-offers = refl
 parent-found : partnerOf (tableOf table) (view worked) bench In 0 ≡ At 0 0
 parent-found = rw (held-table, bytes-view 5) parent-offers
 
+parent-met : giveCall table worked 0 7 .answer ≡ Given.Met 0
+unfolding giveCall giveOn givenTo
+parent-met = rw (call-made table accepts Given.Refused worked (bytes-sound 5) (giveOn (tableOf table) (view worked) 0 7), port-open, parent-found)
+
 -- thread 0 would have moved: a give on the port meets it
 pub parent-moves : elem 0 (movingAll table worked (give 0 7 (omega arith) ∷ [])) ≡ true
-unfolding movingAll moving giveCall giveBy givenTo metByGive elem
-parent-moves = rw (admitted table accepts worked (bytes-sound 5), port-open, parent-found)
+unfolding movingAll moving metByGive elem
+parent-moves = rw parent-met
 
 -- after the collection thread 0 is linked
 pub parent-linked : (r : List ℕ) × Series (tableOf table) (view (collectCall table worked .state)) 0 r
@@ -146,8 +154,8 @@ one-answered = rw one-collected
 
 -- a give on the port in its place names thread 0
 pub parent-named : moved table worked (give 0 7 (omega arith)) ≡ 0 ∷ []
-unfolding moving giveCall giveBy givenTo metByGive
-parent-named = moved-so table accepts worked (bytes-sound 5) (give 0 7 (omega arith)) ∙ rw (admitted table accepts worked (bytes-sound 5), port-open, parent-found)
+unfolding moving metByGive
+parent-named = moved-so table accepts worked (bytes-sound 5) (give 0 7 (omega arith)) ∙ rw parent-met
 
 -- after one step thread 0 is about to spawn: the answer of its step names thread 1, which it starts and does not meet
 spawns : (canStep (stateAfter 1) 0 ≡ true) × (move tb (stateAfter 1) 0 ≡ Spawns 0 1)
@@ -157,10 +165,12 @@ spawns = (refl, refl)
 child-moves : (canStep (view (bytesAfter 1)) 0 ≡ true) × (move (tableOf table) (view (bytesAfter 1)) 0 ≡ Spawns 0 1)
 child-moves = rw (held-table, bytes-view 1) spawns
 
+child-answer : stepCall table (bytesAfter 1) 0 .answer ≡ Stepped.Done (standsAt (thread (view (bytesAfter 1)) 0)) (TookWith 0 1)
+unfolding stepCall stepAnswer
+child-answer =
+    rw (call-made table accepts Stepped.Refused (bytesAfter 1) (bytes-sound 1) (stepOn (tableOf table) (view (bytesAfter 1)) 0))
+    (step-answered (tableOf table) (view (bytesAfter 1)) 0 ∙ rw (child-moves .0, child-moves .1))
+
 pub child-named : (stepResult table (bytesAfter 1) 0 .answer .partner ≡ pos 1) × (moved table (bytesAfter 1) (step 0) ≡ 0 ∷ [])
-unfolding stepResult inNumbers stepNumbers stepFields partnerNumber stepCall stepBy stepEnd stepAnswer moving unlessRefused movers
-child-named =
-    let a = admitted table accepts (bytesAfter 1) (bytes-sound 1) in (
-      rw (a, child-moves .0, child-moves .1),
-      moved-so table accepts (bytesAfter 1) (bytes-sound 1) (step 0) ∙ rw (a, child-moves .0, child-moves .1),
-    )
+unfolding stepResult inNumbers stepNumbers stepFields partnerNumber moving unlessRefused movers
+child-named = (rw child-answer, moved-so table accepts (bytesAfter 1) (bytes-sound 1) (step 0) ∙ rw (child-answer, child-moves .1))

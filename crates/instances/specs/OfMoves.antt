@@ -19,7 +19,7 @@ use Rattle.rules.specs.declared.Act.the-variants.{New, Spawn}
 use Rattle.rules.specs.declared.Move.the-variants.{Creates, Spawns, Meets, LacksThread, LacksChannel}
 use Rattle.rules_laws.specs.Frames.{elem, elem-nil, elem-cases, movers, waiting-stays}
 use Rattle.rules_laws.specs.Learnt.{Knew, learnt}
-use Rattle.rules_laws.specs.Lacking.{Takes, NoThreadRow, NoChannelRow, lacks-thread-iff, lacks-channel-iff}
+use Rattle.engine_laws.specs.Lacking.{Takes, NoThreadRow, NoChannelRow, lacks-thread-iff, lacks-channel-iff}
 use Rattle.examples.specs.Builders.{readyAt, channelWith, stateWith}
 use Rattle.examples.specs.Tables.{chain, spawner, maker, teaching}
 use Rattle.examples.specs.Computing.{running}

@@ -12,14 +12,13 @@ use Rattle.rules.specs.Start.{started}
 use Rattle.rules.specs.Calls.{courseOf}
 use Rattle.rules_laws.specs.Soundness.{Sound}
 use Rattle.engine_laws.specs.Buffers.{SoundBuffer}
+use Rattle.engine_laws.specs.SoundCalls.{start-view, run-view}
 use Rattle.engine_laws.specs.Lists.{run, after}
 use Rattle.examples.specs.Tables.{parting}
 use Rattle.examples.specs.Files as Files
 use Rattle.examples.specs.Files.{tableFor, table-holds, table-small, table-accepted, parting-in-order}
 use Rattle.guarantee.specs.Claim.{on, afterAny, afterList, reachedBy}
 use Rattle.guarantee.specs.Proof.{reached-sound}
-use Rattle.published_laws.specs.Running as Running
-use Rattle.published_laws.specs.Computation.{start-view}
 
 -- ---- the table
 
@@ -76,4 +75,4 @@ bytes-sound n = reached-sound table accepts small blank blank-long (on (run n) �
 
 pub bytes-view : (n : ℕ) → view (bytesAfter n) ≡ stateAfter n
 unfolding stateAfter afterList afterAny after
-bytes-view n = Running.run-view table accepts small begun begun-sound n ∙ rw (held-table, begun-view)
+bytes-view n = run-view table accepts small begun begun-sound n ∙ rw (held-table, begun-view)

@@ -84,9 +84,6 @@ pub struct CollectAnswer {
     pub threads: i32,
 }
 
-// The pattern of -1.
-const MINUS_ONE: u32 = 4294967295;
-
 // The functions `start_fields` to `collect_fields` make an answer of the patterns of its numbers.
 fn start_fields(refusal: u32) -> StartAnswer
     ensures { λ r. ⌜ r ≡ startFields refusal ⌝ }
@@ -179,7 +176,7 @@ pub fn give_numbers(answer: Given) -> GiveAnswer
 {
     match answer {
         Given::Met(thread) => give_fields(0, thread),
-        Given::Nobody => give_fields(0, MINUS_ONE),
+        Given::Nobody => give_fields(0, state::MINUS_ONE),
         Given::Refused(ground) => give_fields(answers::refusal_of(ground), 0),
     }
 }
@@ -189,7 +186,7 @@ pub fn take_numbers(answer: Taken) -> TakeAnswer
 {
     match answer {
         Taken::Met(thread, number) => take_fields(0, thread, number),
-        Taken::Nobody => take_fields(0, MINUS_ONE, 0),
+        Taken::Nobody => take_fields(0, state::MINUS_ONE, 0),
         Taken::Refused(ground) => take_fields(answers::refusal_of(ground), 0, 0),
     }
 }

@@ -7,16 +7,12 @@ ghost use lib.ListN.{length};
 ghost use lib.Seq.{sets};
 ghost use Rattle.numbers.specs.Count.{bit};
 ghost use Rattle.loader.specs.Verdict.{groundNumber};
-ghost use Rattle.state.specs.State.{stateOf};
+ghost use Rattle.state.specs.State.{maxThreads, stateOf};
 ghost use Rattle.rules.specs.Moves.{isFreeChannel};
 ghost use Rattle.listing_lines.specs.Lines.{line, heading, stepLine, channelsInUse};
 ghost use Rattle.listing_lines.specs.Laid.{goneLine, goneLines};
 use loader::Ground;
 use rules::Stepped;
-
-const THREADS: u32 = 64;
-
-const CHANNELS: u32 = 128;
 
 const HEADING: [u8; 37] = *b"  STEPTHREAD  NODE   ACTBRANCH  WITH\n";
 
@@ -84,7 +80,7 @@ pub fn put_step(out: &mut [u8], at: usize, k: u32, t: u32, answer: Stepped)
 fn in_use(state: &[u32; state::WORDS], c: u32) -> u32
     ensures { λ r. ⌜ r ≡ bit (not (isFreeChannel (stateOf (now (state .entry))) c)) ⌝ }
 {
-    if state::channel_word(state, c as usize, 0) == 0 {
+    if state::channel_word(state, c as usize, state::TYPE) == 0 {
         return 0;
     }
     1
@@ -95,7 +91,7 @@ pub fn channels_in_use(state: &[u32; state::WORDS]) -> u32
     ensures { λ r. ⌜ r ≡ channelsInUse (stateOf (now (state .entry))) ⌝ }
 {
     let mut n = 0u32;
-    for c in 0..CHANNELS {
+    for c in 0..state::CHANNELS {
         n += in_use(state, c);
     }
     n
@@ -113,13 +109,14 @@ fn put_gone(
     ensures { λ r. ⌜ r ≡ at + length (goneLine (stateOf (now (before .entry))) (stateOf (now (after .entry))) t) ⌝ }
     ensures { λ _. ⌜ now (out .exit) ≡ sets (now (out .entry)) at (goneLine (stateOf (now (before .entry))) (stateOf (now (after .entry))) t) ⌝ }
 {
-    if state::thread_word(before, t as usize, 0) == 0 {
+    if state::thread_word(before, t as usize, state::STATUS) == state::FREE {
         return at;
     }
-    if state::thread_word(after, t as usize, 0) != 0 {
+    if state::thread_word(after, t as usize, state::STATUS) != state::FREE {
         return at;
     }
-    put_line(out, at, &[t, state::thread_word(before, t as usize, 1)])
+    let node = state::thread_word(before, t as usize, state::NODE);
+    put_line(out, at, &[t, node])
 }
 
 // The lines of all threads whose rows were in use and are free now, lowest first. Answers the place behind them.
@@ -130,11 +127,11 @@ pub fn list_gone(
     after: &[u32; state::WORDS],
 ) -> usize
     requires { ⌜ at + 832 ≤ length (now out) ⌝ }
-    ensures { λ r. ⌜ r ≡ at + length (goneLines (stateOf (now (before .entry))) (stateOf (now (after .entry))) 64) ⌝ }
-    ensures { λ _. ⌜ now (out .exit) ≡ sets (now (out .entry)) at (goneLines (stateOf (now (before .entry))) (stateOf (now (after .entry))) 64) ⌝ }
+    ensures { λ r. ⌜ r ≡ at + length (goneLines (stateOf (now (before .entry))) (stateOf (now (after .entry))) maxThreads) ⌝ }
+    ensures { λ _. ⌜ now (out .exit) ≡ sets (now (out .entry)) at (goneLines (stateOf (now (before .entry))) (stateOf (now (after .entry))) maxThreads) ⌝ }
 {
     let mut end = at;
-    for t in 0..THREADS {
+    for t in 0..state::THREADS {
         end = put_gone(out, end, before, after, t);
     }
     end

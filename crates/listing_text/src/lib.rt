@@ -19,12 +19,6 @@ use loader::Loaded;
 use rules::Reason;
 use rules::Turn;
 
-const TABLE: usize = 20760;
-
-const INDEX: usize = 807;
-
-const THREADS: u32 = 64;
-
 const STEPS: u32 = 1000;
 
 // The characters of a step's line, and of the heading.
@@ -56,10 +50,10 @@ fn list_turn(
     ensures { λ _. ⌜ Sound (tableOf (now (table .entry))) (stateOf (now (state .exit))) ⌝ }
     ensures { λ r. ⌜ now (out .exit) ≡ sets (now (out .entry)) (past i) (shownTurn r (tableOf (now (table .entry))) i (stateOf (now (state .entry)))) ⌝ }
 {
-    let t = decision::next_ready(state, THREADS);
-    if t < THREADS {
-        let node = state::thread_word(state, t as usize, 1);
-        let round = turns::turn_of(table, index, state, t, THREADS);
+    let t = decision::next_ready(state, state::THREADS);
+    if t < state::THREADS {
+        let node = state::thread_word(state, t as usize, state::NODE);
+        let round = turns::turn_of(table, index, state, t, state::THREADS);
         turns::settle_waiting(table, index, state);
         let m = round.decided;
         listing_lines::put_step(
@@ -151,7 +145,7 @@ fn list_table(table: &[u8], out: &mut [u8]) -> usize
     ensures { λ r. ⌜ r ≡ length (runLines (tableOf (now (table .entry)))) ⌝ }
     ensures { λ _. ⌜ now (out .exit) ≡ sets (now (out .entry)) 0 (runLines (tableOf (now (table .entry)))) ⌝ }
 {
-    let mut index = [0u32; INDEX];
+    let mut index = [0u32; table::INDEX];
     let mut state = [0u32; state::WORDS];
     loader::accept(table, &mut index);
     starts::write_started(table, &index, &mut state);
@@ -164,7 +158,7 @@ pub fn list(file: &[u8], out: &mut [u8; LONGEST]) -> usize
     ensures { λ r. ⌜ take r (now (out .exit)) ≡ listing (now (file .entry)) ⌝ }
     ensures { λ r. ⌜ drop r (now (out .exit)) ≡ drop r (now (out .entry)) ⌝ }
 {
-    let mut table = [0u8; TABLE];
+    let mut table = [0u8; table::BYTES];
     match loader::load(file, &mut table) {
         Loaded::FileRefused(ground, fault) => listing_lines::list_refusal(out, ground, fault),
         Loaded::Done => list_table(&table, out),

@@ -6,6 +6,7 @@ use mathlib.Core.List.{List}
 use lib.Dec.{eqb}
 use lib.ListN.{length}
 use Rattle.numbers.specs.Bytes.{encode, joined}
+pub use Rattle.table.specs.Table.{tableLength}
 use Rattle.table.specs.Table.{Table, tableOf}
 use Rattle.loader.specs.File.{fileTable}
 use Rattle.loader.specs.Verdict.{groundNumber, verdict, acceptable}
@@ -13,9 +14,6 @@ use Rattle.loader.specs.declared.Verdict.{Verdict}
 use Rattle.loader.specs.declared.Verdict.the-variants.{Sound, Fault}
 use Rattle.loader.specs.declared.Loaded.{Loaded}
 use Rattle.loader.specs.declared.Loaded.the-variants.{Done, FileRefused, WrongLength}
-
-abbrev pub tableLength : ℕ
-tableLength = 20760
 
 -- the bytes of a table: its numbers of 16 bits, row by row
 unfoldable pub tableBytes : Table → List ℕ

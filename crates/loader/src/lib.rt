@@ -15,18 +15,6 @@ use text::Reading;
 
 const LINE: usize = 73;
 
-const MAX_ROWS: usize = 865;
-
-const ROW_NUMBERS: usize = 12;
-
-const ROW_BYTES: usize = 24;
-
-const TABLE: usize = 20760;
-
-const INDEX: usize = 807;
-
-const MAX_NODES: usize = 192;
-
 // Why a file is refused. Ground 3 has its four tests apart, in their order: header, total, kind, sums.
 pub enum Ground {
     Lines,
@@ -62,9 +50,9 @@ fn read_line(file: &[u8], table: &mut [u8], line: usize) -> bool
     ensures { λ r. ⌜ r ≡ wellFormed (now (file .entry)) line ⌝ }
     ensures { λ r. ⌜ (r ≡ true → shorts (now (table .exit)) ≡ laid (numberIn (now (file .entry))) (line * rowNumbers + rowNumbers) tableNumbers) ⌝ }
 {
-    for column in 0..ROW_NUMBERS {
+    for column in 0..table::ROW_NUMBERS {
         match text::read_field(text::field(file, line, column)) {
-            Reading::Value(v) => numbers::put_short(table, line * ROW_NUMBERS + column, v),
+            Reading::Value(v) => numbers::put_short(table, line * table::ROW_NUMBERS + column, v),
             Reading::Wrong => return false,
         }
     }
@@ -96,7 +84,7 @@ fn not_lines(file: &[u8]) -> bool
     if n < 1 {
         return true;
     }
-    if n > MAX_ROWS {
+    if n > table::MAX_ROWS {
         return true;
     }
     file.len() % LINE != 0
@@ -117,7 +105,7 @@ fn judge_flow(table: &[u8], index: &[u32], n: usize) -> Verdict
     requires { ⌜ Indexed (tableOf (now table)) (now index) ⌝ }
     ensures { λ r. ⌜ r ≡ judgedFlow (tableOf (now (table .entry))) n ⌝ }
 {
-    let mut marks = [0u32; MAX_NODES];
+    let mut marks = [0u32; table::MAX_NODES as usize];
     flow::mark_flow(table, index, &mut marks);
     let unwritten = paths::first_reads_unwritten(table, index, &marks, n);
     if unwritten < n {
@@ -184,7 +172,7 @@ fn judge_file(file: &[u8], table: &mut [u8]) -> Verdict
     if malformed < n {
         return Verdict::Fault(Ground::Field, malformed + 1);
     }
-    let mut index = [0u32; INDEX];
+    let mut index = [0u32; table::INDEX];
     judge(table, &mut index, n)
 }
 
@@ -192,11 +180,11 @@ fn judge_file(file: &[u8], table: &mut [u8]) -> Verdict
 pub fn load(file: &[u8], table: &mut [u8]) -> Loaded
     ensures { λ r. ⌜ _≡_ {A = Outcome} (record { answer = r; table = now (table .exit) }) (loaded (now (file .entry)) (now (table .entry))) ⌝ }
 {
-    let mut own = [0u8; TABLE];
+    let mut own = [0u8; table::BYTES];
     match judge_file(file, &mut own) {
         Verdict::Fault(ground, line) => Loaded::FileRefused(ground, line),
         Verdict::Sound => {
-            if table.len() != TABLE {
+            if table.len() != table::BYTES {
                 return Loaded::WrongLength;
             }
             copy_table(&own, table);
@@ -213,9 +201,9 @@ fn rest_is_zero(table: &[u8], n: usize) -> bool
     requires { ⌜ n ≡ lineTotal (tableOf (now table)) ⌝ }
     ensures { λ r. ⌜ r ≡ every (restZero (tableOf (now (table .entry)))) maxRows ⌝ }
 {
-    let from = n * ROW_BYTES;
+    let from = n * table::ROW_BYTES;
     let mut all: u8 = 0;
-    for i in from..TABLE {
+    for i in from..table::BYTES {
         all = all | table[i];
     }
     all == 0
@@ -228,7 +216,7 @@ pub fn accept(table: &[u8], index: &mut [u32]) -> bool
     ensures { λ r. ⌜ r ≡ accepted (now (table .entry)) ⌝ }
     ensures { λ r. ⌜ (r ≡ true → Indexed (tableOf (now (table .entry))) (now (index .exit))) ⌝ }
 {
-    if table.len() != TABLE {
+    if table.len() != table::BYTES {
         return false;
     }
     let n = table::line_total(table);

@@ -10,7 +10,8 @@ use Rattle.numbers.specs.Rows.{at}
 use Rattle.numbers.specs.Search.{first}
 use Rattle.numbers.specs.Search.Laws.{caseB, first-below}
 use Rattle.numbers.specs.Tests.{and-left, parts}
-use Rattle.table.specs.Table.{Table, definitions, nodes, branches, definitionRow, slotRow, nodeRow, branchRow, lineTotal, parameters, slotCount, nodeCount}
+use Rattle.table.specs.Fields as Field
+use Rattle.table.specs.Table.{Table, maxParameters, maxOwnSlots, maxOwnNodes, maxOwnBranches, definitions, nodes, branches, definitionRow, slotRow, nodeRow, branchRow, lineTotal, parameters, slotCount, nodeCount}
 use Rattle.table.specs.Layout.{blocks, lines, size, branchCount, definitionOf}
 use Rattle.table.specs.Form.{within, headerInRange, kindDue, kindWrong, sumsAgree}
 use Rattle.table.specs.Form.Laws.{within-most}
@@ -29,9 +30,9 @@ pub record FormedTo (tb : Table) (m : ℕ) : Type 0 where
 module _ (tb : Table) {m : ℕ} (g : FormedTo tb m) where
   -- ---- rows
 
-  pub kind-is : (r : ℕ) → r < lineTotal tb → at tb r 0 ≡ kindDue tb r
+  pub kind-is : (r : ℕ) → r < lineTotal tb → at tb r Field.kind ≡ kindDue tb r
   unfolding kindWrong
-  kind-is r h = eqb-true (at tb r 0) (kindDue tb r) (not-false _ (first-below (kindWrong tb) (lineTotal tb) r (rw (g .kinds) h)))
+  kind-is r h = eqb-true (at tb r Field.kind) (kindDue tb r) (not-false _ (first-below (kindWrong tb) (lineTotal tb) r (rw (g .kinds) h)))
 
   pub row-in-range : (r : ℕ) → r < m → rowInRange tb r ≡ true
   unfolding outOfRange
@@ -55,20 +56,20 @@ module _ (tb : Table) {m : ℕ} (g : FormedTo tb m) where
   branch-due r h =
       rw (le-ltb r 1 (omega arith), le-ltb r (definitionRow tb) (omega arith), le-ltb r (slotRow tb) (omega arith), le-ltb r (nodeRow tb) (omega arith), le-ltb r (branchRow tb) h)
 
-  pub definition-kind : (d : ℕ) → d < definitions tb → at tb (definitionRow tb + d) 0 ≡ 3
+  pub definition-kind : (d : ℕ) → d < definitions tb → at tb (definitionRow tb + d) Field.kind ≡ 3
   unfolding kindDue
   definition-kind d h =
       let r = definitionRow tb + d in
       kind-is r (omega arith) ∙ rw (le-ltb r 1 (omega arith), le-ltb r (definitionRow tb) (omega arith), lt-ltb r (slotRow tb) (omega arith))
 
-  pub node-kind : (n : ℕ) → n < nodes tb → at tb (nodeRow tb + n) 0 ≡ 5
+  pub node-kind : (n : ℕ) → n < nodes tb → at tb (nodeRow tb + n) Field.kind ≡ 5
   node-kind n h = kind-is (nodeRow tb + n) (omega arith) ∙ node-due (nodeRow tb + n) (omega arith) (omega arith)
 
-  pub branch-kind : (b : ℕ) → b < branches tb → at tb (branchRow tb + b) 0 ≡ 6
+  pub branch-kind : (b : ℕ) → b < branches tb → at tb (branchRow tb + b) Field.kind ≡ 6
   branch-kind b h = kind-is (branchRow tb + b) (omega arith) ∙ branch-due (branchRow tb + b) (omega arith)
 
   -- a row of kind 5 is a node's, and one of kind 6 a branch's
-  pub node-row : (r : ℕ) → r < lineTotal tb → at tb r 0 ≡ 5 → (n : ℕ) × (n < nodes tb) × (r ≡ nodeRow tb + n)
+  pub node-row : (r : ℕ) → r < lineTotal tb → at tb r Field.kind ≡ 5 → (n : ℕ) × (n < nodes tb) × (r ≡ nodeRow tb + n)
   node-row r h e =
       let k = kind-is r h in
       caseB (ltb r (nodeRow tb)) (λ y. absurd (omega (arith, low-due r (ltb-true r (nodeRow tb) y))))
@@ -76,7 +77,7 @@ module _ (tb : Table) {m : ℕ} (g : FormedTo tb m) where
       (λ z. (r - nodeRow tb, omega (arith, ltb-true r (branchRow tb) z, ltb-false r (nodeRow tb) y), omega (arith, ltb-false r (nodeRow tb) y)))
       (λ z. absurd (omega (arith, branch-due r (ltb-false r (branchRow tb) z)))))
 
-  pub branch-row : (r : ℕ) → r < lineTotal tb → at tb r 0 ≡ 6 → (b : ℕ) × (b < branches tb) × (r ≡ branchRow tb + b)
+  pub branch-row : (r : ℕ) → r < lineTotal tb → at tb r Field.kind ≡ 6 → (b : ℕ) × (b < branches tb) × (r ≡ branchRow tb + b)
   branch-row r h e =
       let k = kind-is r h in
       caseB (ltb r (branchRow tb))
@@ -93,17 +94,17 @@ module _ (tb : Table) {m : ℕ} (g : FormedTo tb m) where
     definition-in-range d h = rw (definition-kind d h) at (row-in-range (definitionRow tb + d) (omega arith))
 
     module _ (d : ℕ) (h : d < definitions tb) where
-      pub parameters-few : parameters tb d ≤ 8
+      pub parameters-few : parameters tb d ≤ maxParameters
       unfolding definitionInRange
-      parameters-few = let q = definition-in-range d h in within-most 0 8 (parameters tb d) (search parts depth 9)
+      parameters-few = let q = definition-in-range d h in within-most 0 maxParameters (parameters tb d) (search parts depth 9)
 
-      pub slots-few : slotCount tb d ≤ 16
+      pub slots-few : slotCount tb d ≤ maxOwnSlots
       unfolding definitionInRange
-      slots-few = let q = definition-in-range d h in within-most (parameters tb d) 16 (slotCount tb d) (search parts depth 9)
+      slots-few = let q = definition-in-range d h in within-most (parameters tb d) maxOwnSlots (slotCount tb d) (search parts depth 9)
 
-      pub nodes-few : nodeCount tb d ≤ 192
+      pub nodes-few : nodeCount tb d ≤ maxOwnNodes
       unfolding definitionInRange
-      nodes-few = let q = definition-in-range d h in within-most 1 192 (nodeCount tb d) (search parts depth 9)
+      nodes-few = let q = definition-in-range d h in within-most 1 maxOwnNodes (nodeCount tb d) (search parts depth 9)
 
     definition-sizes : Filled tb Slots × Filled tb Nodes
     unfolding sumsAgree size blocks
@@ -133,11 +134,11 @@ module _ (tb : Table) {m : ℕ} (g : FormedTo tb m) where
     unfolding rowInRange
     node-in-range n h = rw (node-kind n h) at (row-in-range (nodeRow tb + n) (omega arith))
 
-    pub branches-few : (n : ℕ) → n < nodes tb → branchCount tb n ≤ 8
+    pub branches-few : (n : ℕ) → n < nodes tb → branchCount tb n ≤ maxOwnBranches
     unfolding branchCount nodeInRange
-    branches-few n h = caseB (eqb (at tb (nodeRow tb + n) 1) 1)
-        (λ y. let q : (within 1 8 (at tb (nodeRow tb + n) 2) && restUnused tb (nodeRow tb + n) 3) ≡ true = rw (eqb-true (at tb (nodeRow tb + n) 1) 1 y) at (node-in-range n h) in
-        rw y (within-most 1 8 (at tb (nodeRow tb + n) 2) (and-left _ _ q)))
+    branches-few n h = caseB (eqb (at tb (nodeRow tb + n) Field.nodeKind) 1)
+        (λ y. let q : (within 1 maxOwnBranches (at tb (nodeRow tb + n) Field.ownBranches) && restUnused tb (nodeRow tb + n) 3) ≡ true = rw (eqb-true (at tb (nodeRow tb + n) Field.nodeKind) 1 y) at (node-in-range n h) in
+        rw y (within-most 1 maxOwnBranches (at tb (nodeRow tb + n) Field.ownBranches) (and-left _ _ q)))
         (λ y. rw y (omega arith))
 
     pub branches-filled : Filled tb Branches

@@ -10,7 +10,8 @@ use borrow.Author.Tests.{ltb-true}
 use Rattle.numbers.specs.Rows.{at}
 use Rattle.numbers.specs.Search.Laws.{caseB, contra, every-elim}
 use Rattle.numbers.specs.Tests.{and-left, and-right, parts}
-use Rattle.table.specs.Table.{Table, definitions, nodes, branches, definitionRow, nodeRow, branchRow, lineTotal, parameters, slotCount, nodeCount}
+use Rattle.table.specs.Fields as Field
+use Rattle.table.specs.Table.{Table, maxParameters, maxOwnSlots, maxOwnBranches, definitions, nodes, branches, definitionRow, nodeRow, branchRow, lineTotal, parameters, slotCount, nodeCount}
 use Rattle.table.specs.Layout.{blocks, lines, size, start, branchCount, definitionOf, nodeOf}
 use Rattle.table.specs.Form.Laws.{header-counts}
 use Rattle.table.specs.Roles.{operand, operandRole, reads, writes}
@@ -61,16 +62,16 @@ module _ (tb : Table) (g : Formed tb) where
   pub definition-in-range : (d : ℕ) → d < definitions tb → definitionInRange tb (definitionRow tb + d) ≡ true
   definition-in-range = R.definition-in-range tb g (omega arith)
 
-  pub parameters-few : (d : ℕ) → d < definitions tb → parameters tb d ≤ 8
+  pub parameters-few : (d : ℕ) → d < definitions tb → parameters tb d ≤ maxParameters
   parameters-few = R.parameters-few tb g (omega arith)
 
-  pub slots-few : (d : ℕ) → d < definitions tb → slotCount tb d ≤ 16
+  pub slots-few : (d : ℕ) → d < definitions tb → slotCount tb d ≤ maxOwnSlots
   slots-few = R.slots-few tb g (omega arith)
 
   pub node-in-range : (n : ℕ) → n < nodes tb → nodeInRange tb (nodeRow tb + n) ≡ true
   node-in-range = R.node-in-range tb g (omega arith)
 
-  pub branches-few : (n : ℕ) → n < nodes tb → branchCount tb n ≤ 8
+  pub branches-few : (n : ℕ) → n < nodes tb → branchCount tb n ≤ maxOwnBranches
   branches-few = R.branches-few tb g (omega arith)
 
   pub branch-in-range : (b : ℕ) → b < branches tb → branchInRange tb (branchRow tb + b) (nodeOf tb b) (definitionOf tb (nodeOf tb b)) ≡ true
@@ -126,9 +127,9 @@ module _ (tb : Table) (g : Formed tb) where
         let d = definitionOf tb n in
         let r = rowOf tb n i in
         let q : targetsInRange tb r (n - firstNode tb n) (nodeCount tb d) ≡ true = let p = own-branch-in-range in search parts depth 9 in
-        ⊎-elim (λ a. rw a (target n (at tb r 8) h (and-left _ _ q)))
-        (λ b. let k = and-right (ahead (n - firstNode tb n) (nodeCount tb d) (at tb r 8)) _ q in
-        rw (b .1) (target n (at tb r 9) h (rw (b .0) at k))) e
+        ⊎-elim (λ a. rw a (target n (at tb r Field.next) h (and-left _ _ q)))
+        (λ b. let k = and-right (ahead (n - firstNode tb n) (nodeCount tb d) (at tb r Field.next)) _ q in
+        rw (b .1) (target n (at tb r Field.child) h (rw (b .0) at k))) e
 
     -- a slot that the branch names is one of its definition's, of which there are at most 16
     pub operand-slot : (k : ℕ) → k < 5 → named (operandRole tb (rowOf tb n i) k) ≡ true → operand tb (rowOf tb n i) k < 16
@@ -151,7 +152,7 @@ module _ (tb : Table) (g : Formed tb) where
         (λ z. let q : _≡_ {A = ℕ} 17 16 = rw (y, z) at e in omega arith))
 
   -- a branch's row is that of a branch of some node
-  pub branch-row-of : (r : ℕ) → r < lineTotal tb → at tb r 0 ≡ 6 → (n : ℕ) × (i : ℕ) × (n < nodes tb) × (i < branchCount tb n) × (r ≡ rowOf tb n i)
+  pub branch-row-of : (r : ℕ) → r < lineTotal tb → at tb r Field.kind ≡ 6 → (n : ℕ) × (i : ℕ) × (n < nodes tb) × (i < branchCount tb n) × (r ≡ rowOf tb n i)
   unfolding lines blocks size
   branch-row-of r h e =
       let (b, l, q) = branch-row tb g r h e in

@@ -8,6 +8,7 @@ use mathlib.Core.Path.{_≡_}
 use mathlib.Core.Logic.{_⊎_}
 use mathlib.Core.Bool.{true}
 use Rattle.numbers.specs.Rows.{at}
+use Rattle.table.specs.Fields as Field
 use Rattle.table.specs.Table.{Table, nodes, nodeRow, branchRow, parameters}
 use Rattle.table.specs.Layout.{start, branchCount, definitionOf}
 use Rattle.table.specs.Roles.{operand, operandRole, reads, writes}
@@ -24,7 +25,7 @@ module _ (tb : Table) where
 
   -- where the branch in row r leads, in a definition that starts at node f: to its next node, and a spawn to its child too
   abbrev pub Leads : ℕ → ℕ → ℕ → Type 0
-  Leads f r t = (t ≡ f + at tb r 8) ⊎ ((at tb r 4 ≡ 4) × (t ≡ f + at tb r 9))
+  Leads f r t = (t ≡ f + at tb r Field.next) ⊎ ((at tb r Field.action ≡ 4) × (t ≡ f + at tb r Field.child))
 
   -- branch i of node n leads to node t
   pub record Edge (n i t : ℕ) : Type 0 where
@@ -38,7 +39,7 @@ module _ (tb : Table) where
 
   -- the call at node n reads slot k, as one of its arguments
   abbrev pub CallReads : ℕ → ℕ → Type 0
-  CallReads n k = (j : ℕ) × (at tb (nodeRow tb + n) 1 ≡ 2) × (j < parameters tb (at tb (nodeRow tb + n) 2)) × (k ≡ at tb (nodeRow tb + n) (3 + j))
+  CallReads n k = (j : ℕ) × (at tb (nodeRow tb + n) Field.nodeKind ≡ 2) × (j < parameters tb (at tb (nodeRow tb + n) Field.callee)) × (k ≡ at tb (nodeRow tb + n) (Field.arguments + j))
 
   -- the branch in row r reads slot k, as one of its operands
   abbrev pub BranchReads : ℕ → ℕ → Type 0

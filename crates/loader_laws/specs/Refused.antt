@@ -20,7 +20,8 @@ use mir.Syntax.{w16}
 use mir.Val.{toZ}
 use Rattle.numbers.specs.Rows.{at}
 use Rattle.text.specs.Text.{figures, rightJustified, fieldOf}
-use Rattle.table.specs.Table.{Table, types, nodes, ports, definitionRow, nodeRow, branchRow, carried, parameters}
+use Rattle.table.specs.Fields as Field
+use Rattle.table.specs.Table.{Table, maxRows, rowNumbers, maxTypes, maxDefinitions, maxSlots, maxNodes, maxBranches, maxPorts, maxParameters, maxOwnSlots, maxOwnNodes, maxOwnBranches, types, nodes, ports, definitionRow, nodeRow, branchRow, carried, parameters}
 use Rattle.table.specs.Layout.{blocks, lines, size, start, branchCount, definitionOf, nodeOf, slotType}
 use Rattle.table.specs.Form.{kindDue}
 use Rattle.table.specs.Roles.{operandRole}
@@ -28,7 +29,7 @@ use Rattle.table.specs.declared.Part.{Part}
 use Rattle.table.specs.declared.Part.the-variants.{Nodes}
 use Rattle.table.specs.declared.Role.{Role}
 use Rattle.table.specs.declared.Role.the-variants.{Unused, Constant, ReadNumber, ReadChannel, ReadCarried, WriteNumber, WriteChannel, WriteCarried}
-use Rattle.loader.specs.File.{lineCount, fileTable}
+use Rattle.loader.specs.File.{lineLength, lineCount, fileTable}
 use Rattle.loader.specs.declared.Ground.{Ground}
 use Rattle.loader.specs.declared.Ground.the-variants.{Lines, Field, Header, Total, Kind, Sums, Range, Types, Unwritten, Unreachable}
 use Rattle.loader_laws.specs.Sums.{sumZ}
@@ -78,17 +79,17 @@ number tb r k = toZ w16 (at tb r k)
 module _ (file : List ℕ) where
   -- empty, not whole lines, or over 865 of them
   abbrev pub NotLines : Type 0
-  NotLines = (length file ≡ 0) ⊎ ((¬ ((n : ℕ) × (length file ≡ n * 73))) ⊎ (865 * 73 < length file))
+  NotLines = (length file ≡ 0) ⊎ ((¬ ((n : ℕ) × (length file ≡ n * lineLength))) ⊎ (maxRows * lineLength < length file))
 
   -- in row r: a field that is the print of no number, or another character for the newline
   abbrev pub Malformed : ℕ → Type 0
-  Malformed r = ((k : ℕ) × (k < 12) × ((z : ℤ) → Within anyNumber z → fieldOf file r k ≢ printed z)) ⊎ (getD file (r * 73 + 72) 0 ≢ 10)
+  Malformed r = ((k : ℕ) × (k < rowNumbers) × ((z : ℤ) → Within anyNumber z → fieldOf file r k ≢ printed z)) ⊎ (getD file (r * lineLength + 72) 0 ≢ 10)
 
 -- ---- ground 3, in the order of its tests
 
 -- the header: types, definitions, slots, nodes, branches, ports
 abbrev pub headerLimits : List Limits
-headerLimits = from 0 16 ∷ from 1 16 ∷ from 0 256 ∷ from 1 192 ∷ from 0 384 ∷ from 0 8 ∷ []
+headerLimits = from 0 maxTypes ∷ from 1 maxDefinitions ∷ from 0 maxSlots ∷ from 1 maxNodes ∷ from 0 maxBranches ∷ from 0 maxPorts ∷ []
 
 module _ (tb : Table) where
   -- a count out of its limits
@@ -101,7 +102,7 @@ module _ (tb : Table) where
 
   -- another kind than the header's counts give row r
   abbrev pub KindWrong : ℕ → Type 0
-  KindWrong r = number tb r 0 ≢ pos (kindDue tb r)
+  KindWrong r = number tb r Field.kind ≢ pos (kindDue tb r)
 
   -- the definitions' slots, the definitions' nodes or the choices' branches add up to another number than the header's
   abbrev pub SumsWrong : Type 0
@@ -123,14 +124,14 @@ roleLimits WriteCarried s = numbered s
 module _ (tb : Table) where
   -- how many slots and nodes definition d has
   abbrev pub slotsOf : ℕ → ℤ
-  slotsOf d = number tb (definitionRow tb + d) 2
+  slotsOf d = number tb (definitionRow tb + d) Field.ownSlots
 
   abbrev pub nodesOf : ℕ → ℤ
-  nodesOf d = number tb (definitionRow tb + d) 3
+  nodesOf d = number tb (definitionRow tb + d) Field.ownNodes
 
-  -- a type's line, and a slot's: a type, of which there are number tb 0 1
+  -- a type's line, and a slot's: a type, of which the header says how many there are
   unfoldable pub typeLimits : List Limits
-  typeLimits = record { least = pos 0; most = number tb 0 1 } ∷ []
+  typeLimits = record { least = pos 0; most = number tb 0 Field.types } ∷ []
 
   -- next and child of a branch of node n, in definition d: the nodes of d past n, as d numbers them
   unfoldable pub onward : ℕ → ℕ → Limits
@@ -139,14 +140,14 @@ module _ (tb : Table) where
 module _ (tb : Table) (r : ℕ) where
   -- a definition's: parameters, slots, nodes
   unfoldable pub definitionLimits : List Limits
-  definitionLimits = from 0 8 ∷ record { least = number tb r 1; most = pos 16 } ∷ from 1 192 ∷ []
+  definitionLimits = from 0 maxParameters ∷ record { least = number tb r Field.parameters; most = pos maxOwnSlots } ∷ from 1 maxOwnNodes ∷ []
 
   -- a node's, in definition d: an end; a choice, and how many branches; a call, the definition called and for each of its parameters a slot of d
   unfoldable pub callLimits : ℕ → List Limits
-  callLimits d = numbered (number tb 0 2) ∷ replicate (parameters tb (at tb r 2)) (numbered (slotsOf tb d))
+  callLimits d = numbered (number tb 0 Field.definitions) ∷ replicate (parameters tb (at tb r Field.callee)) (numbered (slotsOf tb d))
 
   unfoldable pub nodeLimits : ℕ → List Limits
-  nodeLimits d = from 0 2 ∷ cond (eqb (at tb r 1) 1) (from 1 8 ∷ []) (cond (eqb (at tb r 1) 2) (callLimits d) [])
+  nodeLimits d = from 0 2 ∷ cond (eqb (at tb r Field.nodeKind) 1) (from 1 maxOwnBranches ∷ []) (cond (eqb (at tb r Field.nodeKind) 2) (callLimits d) [])
 
   -- a branch's, of node n in definition d: guard, its two operands, action, its three operands, next, and child if it is a spawn
   unfoldable pub operandLimits : ℕ → ℕ → Limits
@@ -156,16 +157,16 @@ module _ (tb : Table) (r : ℕ) where
   branchLimits n d =
       from 0 4 ∷ operandLimits d 0 ∷ operandLimits d 1
       ∷ from 0 7 ∷ operandLimits d 2 ∷ operandLimits d 3 ∷ operandLimits d 4
-      ∷ onward tb n d ∷ cond (eqb (at tb r 4) 4) (onward tb n d) unused ∷ []
+      ∷ onward tb n d ∷ cond (eqb (at tb r Field.action) 4) (onward tb n d) unused ∷ []
 
   -- by the line's kind
   unfoldable pub lineLimits : List Limits
   lineLimits =
-      cond (eqb (at tb r 0) 1) headerLimits
-      (cond (eqb (at tb r 0) 2) (typeLimits tb)
-      (cond (eqb (at tb r 0) 3) definitionLimits
-      (cond (eqb (at tb r 0) 4) (typeLimits tb)
-      (cond (eqb (at tb r 0) 5) (nodeLimits (definitionOf tb (r - nodeRow tb)))
+      cond (eqb (at tb r Field.kind) 1) headerLimits
+      (cond (eqb (at tb r Field.kind) 2) (typeLimits tb)
+      (cond (eqb (at tb r Field.kind) 3) definitionLimits
+      (cond (eqb (at tb r Field.kind) 4) (typeLimits tb)
+      (cond (eqb (at tb r Field.kind) 5) (nodeLimits (definitionOf tb (r - nodeRow tb)))
       (branchLimits (nodeOf tb (r - branchRow tb)) (definitionOf tb (nodeOf tb (r - branchRow tb))))))))
 
   -- a field out of its limits. The header's counts are among them, which ground 3 has passed
@@ -183,7 +184,7 @@ module _ (tb : Table) where
 
   -- the call in row r, of definition d: an argument has its parameter's type
   abbrev pub CallAgrees : ℕ → ℕ → Type 0
-  CallAgrees r d = (i : ℕ) → i < parameters tb (at tb r 2) → slotType tb d (at tb r (3 + i)) ≡ slotType tb (at tb r 2) i
+  CallAgrees r d = (i : ℕ) → i < parameters tb (at tb r Field.callee) → slotType tb d (at tb r (Field.arguments + i)) ≡ slotType tb (at tb r Field.callee) i
 
   -- slot k of definition d
   abbrev pub IsNumber : ℕ → ℕ → Type 0
@@ -194,12 +195,12 @@ module _ (tb : Table) where
 
   -- the branch in row r, of definition d: its guard is in place 1 with operands in 2 and 3, its action in place 4 with a, b, c in 5, 6, 7
   pub record BranchAgrees (r d : ℕ) : Type 0 where
-    pub constant-guard : (at tb r 1 ≡ 1) ⊎ (at tb r 1 ≡ 2) → IsNumber d (at tb r 2)
-    pub slot-guard : (at tb r 1 ≡ 3) ⊎ (at tb r 1 ≡ 4) → IsNumber d (at tb r 2) × IsNumber d (at tb r 3)
-    pub send-receive : (at tb r 4 ≡ 1) ⊎ (at tb r 4 ≡ 2) → IsChannel d (at tb r 5) × (slotType tb d (at tb r 6) ≡ carried tb (slotType tb d (at tb r 5)))
-    pub new-channel : at tb r 4 ≡ 3 → IsChannel d (at tb r 5)
-    pub set-number : at tb r 4 ≡ 5 → IsNumber d (at tb r 5)
-    pub sums : (at tb r 4 ≡ 6) ⊎ (at tb r 4 ≡ 7) → IsNumber d (at tb r 5) × IsNumber d (at tb r 6) × IsNumber d (at tb r 7)
+    pub constant-guard : (at tb r Field.guard ≡ 1) ⊎ (at tb r Field.guard ≡ 2) → IsNumber d (at tb r Field.first)
+    pub slot-guard : (at tb r Field.guard ≡ 3) ⊎ (at tb r Field.guard ≡ 4) → IsNumber d (at tb r Field.first) × IsNumber d (at tb r Field.second)
+    pub send-receive : (at tb r Field.action ≡ 1) ⊎ (at tb r Field.action ≡ 2) → IsChannel d (at tb r Field.a) × (slotType tb d (at tb r Field.b) ≡ carried tb (slotType tb d (at tb r Field.a)))
+    pub new-channel : at tb r Field.action ≡ 3 → IsChannel d (at tb r Field.a)
+    pub set-number : at tb r Field.action ≡ 5 → IsNumber d (at tb r Field.a)
+    pub sums : (at tb r Field.action ≡ 6) ⊎ (at tb r Field.action ≡ 7) → IsNumber d (at tb r Field.a) × IsNumber d (at tb r Field.b) × IsNumber d (at tb r Field.c)
 
 module _ (tb : Table) (r : ℕ) where
   -- row r is the line of a node n, and P n
@@ -214,7 +215,7 @@ module _ (tb : Table) (r : ℕ) where
   abbrev pub TypesDisagree : Type 0
   TypesDisagree =
       ((r ≡ definitionRow tb) × (¬ PortsAgree tb))
-      ⊎ (AtNode (λ n. (at tb r 1 ≡ 2) × (¬ CallAgrees tb r (definitionOf tb n)))
+      ⊎ (AtNode (λ n. (at tb r Field.nodeKind ≡ 2) × (¬ CallAgrees tb r (definitionOf tb n)))
       ⊎ AtBranch (λ n. ¬ BranchAgrees tb r (definitionOf tb n)))
 
   -- ---- ground 6: a slot is read that is no parameter, and that some path leaves unwritten

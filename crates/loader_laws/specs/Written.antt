@@ -10,6 +10,7 @@ use Rattle.numbers.specs.Rows.{at}
 use Rattle.numbers.specs.Search.{every}
 use Rattle.numbers.specs.Search.Laws.{caseB, every-elim, every-intro}
 use Rattle.numbers.specs.Tests.{parts}
+use Rattle.table.specs.Fields as Field
 use Rattle.table.specs.Table.{Table, nodes, nodeRow, branchRow, parameters, slotCount}
 use Rattle.table.specs.Layout.{branchCount, definitionOf, start}
 use Rattle.table.specs.Roles.{operand, operandRole, reads}
@@ -37,15 +38,15 @@ module _ (tb : Table) (g : Formed tb) where
   sure n k h l = let w = written-iff tb (edges tb g) n k h l in
       (λ e. w .0 (not-true (mayLack tb n k) e), λ s. rw (w .1 s))
 
-  pub argument-slot : (n j : ℕ) → n < nodes tb → at tb (nodeRow tb + n) 1 ≡ 2 → j < parameters tb (at tb (nodeRow tb + n) 2) → at tb (nodeRow tb + n) (3 + j) < 16
+  pub argument-slot : (n j : ℕ) → n < nodes tb → at tb (nodeRow tb + n) Field.nodeKind ≡ 2 → j < parameters tb (at tb (nodeRow tb + n) Field.callee) → at tb (nodeRow tb + n) (Field.arguments + j) < 16
   unfolding nodeInRange callInRange argumentInRange
   argument-slot n j h c z =
       let r = nodeRow tb + n in
       let m : r - nodeRow tb ≡ n = omega arith in
       let s = slotCount tb (definitionOf tb n) in
       let p : callInRange tb r s ≡ true = rw (c, m) at (node-in-range tb g n h) in
-      let q : argumentInRange tb r s j ≡ true = every-elim (argumentInRange tb r s) (parameters tb (at tb r 2)) j (search parts) z in
-      omega (arith, ltb-true (at tb r (3 + j)) s q, slots-few tb g (definitionOf tb n) (definition-of tb g n h))
+      let q : argumentInRange tb r s j ≡ true = every-elim (argumentInRange tb r s) (parameters tb (at tb r Field.callee)) j (search parts) z in
+      omega (arith, ltb-true (at tb r (Field.arguments + j)) s q, slots-few tb g (definitionOf tb n) (definition-of tb g n h))
 
   pub call-iff : (n : ℕ) → n < nodes tb → (readsUnwritten tb (nodeRow tb + n) ≡ false) ↔ ((k : ℕ) → CallReads tb n k → SurelyWritten tb n k)
   unfolding readsUnwritten rowWritten callWritten argumentWritten
@@ -54,11 +55,11 @@ module _ (tb : Table) (g : Formed tb) where
       let m : r - nodeRow tb ≡ n = omega arith in
       rw (node-kind tb g n h, m) (
         λ e k s. let (j, c, z, q) = s in
-            let w : every (argumentWritten tb r n) (parameters tb (at tb r 2)) ≡ true = rw c at (not-false (callWritten tb r n) e) in
-            rw q (sure n (at tb r (3 + j)) h (argument-slot n j h c z) .0 (every-elim (argumentWritten tb r n) (parameters tb (at tb r 2)) j w z)),
-        λ f. caseB (eqb (at tb r 1) 2)
-            (λ y. let c = eqb-true (at tb r 1) 2 y in
-            rw (y, every-intro (argumentWritten tb r n) (parameters tb (at tb r 2)) (λ j z. sure n (at tb r (3 + j)) h (argument-slot n j h c z) .1 (f (at tb r (3 + j)) (j, c, z, refl)))))
+            let w : every (argumentWritten tb r n) (parameters tb (at tb r Field.callee)) ≡ true = rw c at (not-false (callWritten tb r n) e) in
+            rw q (sure n (at tb r (Field.arguments + j)) h (argument-slot n j h c z) .0 (every-elim (argumentWritten tb r n) (parameters tb (at tb r Field.callee)) j w z)),
+        λ f. caseB (eqb (at tb r Field.nodeKind) 2)
+            (λ y. let c = eqb-true (at tb r Field.nodeKind) 2 y in
+            rw (y, every-intro (argumentWritten tb r n) (parameters tb (at tb r Field.callee)) (λ j z. sure n (at tb r (Field.arguments + j)) h (argument-slot n j h c z) .1 (f (at tb r (Field.arguments + j)) (j, c, z, refl)))))
             (λ y. rw y),
       )
 

@@ -6,13 +6,9 @@ ghost use lib.ListN.{getD, set, replicate};
 ghost use Rattle.numbers.specs.Count.{bit};
 ghost use Rattle.table.specs.Table.{tableOf, ports};
 ghost use Rattle.table.specs.Index.{Indexed};
-ghost use Rattle.state.specs.State.{stateOf, thread};
+ghost use Rattle.state.specs.State.{maxThreads, maxChannels, stateOf, thread};
 ghost use Rattle.marking.specs.Enabled.{nobody, enabledSet};
 ghost use Rattle.marking.specs.Marking.{portsTo, comes, markedIf, knownIf, Marking, Still, unmarked};
-
-const THREADS: u32 = 64;
-
-const READY: u32 = 1;
 
 // Mark i of a list of marks; false outside.
 pub fn mark_at(list: &[bool], i: usize) -> bool
@@ -40,7 +36,7 @@ fn note_channels(
     state: &[u32; state::WORDS],
     t: u32,
     came: bool,
-    known: &mut [bool; 128],
+    known: &mut [bool; state::CHANNELS as usize],
 )
     requires { ⌜ Indexed (tableOf (now table)) (now index) ⌝ }
     ensures { λ _. ⌜ now (known .exit) ≡ knownIf came (tableOf (now (table .entry))) (thread (stateOf (now (state .entry))) t) (now (known .entry)) ⌝ }
@@ -51,7 +47,7 @@ fn note_channels(
 }
 
 // Thread t is marked, if it came.
-fn mark_thread(marks: &mut [bool; 64], t: u32, came: bool)
+fn mark_thread(marks: &mut [bool; state::THREADS as usize], t: u32, came: bool)
     ensures { λ _. ⌜ now (marks .exit) ≡ markedIf came (now (marks .entry)) t ⌝ }
 {
     if came {
@@ -65,8 +61,8 @@ fn joins_now(
     index: &[u32],
     state: &[u32; state::WORDS],
     t: u32,
-    marks: &[bool; 64],
-    known: &[bool; 128],
+    marks: &[bool; state::THREADS as usize],
+    known: &[bool; state::CHANNELS as usize],
 ) -> bool
     requires { ⌜ Indexed (tableOf (now table)) (now index) ⌝ }
     ensures { λ r. ⌜ r ≡ comes (tableOf (now (table .entry))) (stateOf (now (state .entry))) (now (marks .entry)) (now (known .entry)) t ⌝ }
@@ -74,7 +70,7 @@ fn joins_now(
     if mark_at(marks, t as usize) {
         return false;
     }
-    if threads::status_of(state, t) == READY {
+    if threads::status_of(state, t) == state::READY {
         return true;
     }
     threads::offers_marked(table, index, state, t, known)
@@ -86,8 +82,8 @@ fn visit(
     index: &[u32],
     state: &[u32; state::WORDS],
     t: u32,
-    marks: &mut [bool; 64],
-    known: &mut [bool; 128],
+    marks: &mut [bool; state::THREADS as usize],
+    known: &mut [bool; state::CHANNELS as usize],
 ) -> bool
     requires { ⌜ Indexed (tableOf (now table)) (now index) ⌝ }
     ensures { λ r. ⌜ r ≡ comes (tableOf (now (table .entry))) (stateOf (now (state .entry))) (now (marks .entry)) (now (known .entry)) t ⌝ }
@@ -115,17 +111,17 @@ fn round(
     table: &[u8],
     index: &[u32],
     state: &[u32; state::WORDS],
-    marks: &mut [bool; 64],
-    known: &mut [bool; 128],
+    marks: &mut [bool; state::THREADS as usize],
+    known: &mut [bool; state::CHANNELS as usize],
 ) -> bool
     requires { ⌜ Indexed (tableOf (now table)) (now index) ⌝ }
     requires { ⌜ Marking (tableOf (now table)) (stateOf (now state)) (now marks) (now known) ⌝ }
     ensures { λ _. ⌜ Marking (tableOf (now (table .entry))) (stateOf (now (state .entry))) (now (marks .exit)) (now (known .exit)) ⌝ }
     ensures { λ r. ⌜ unmarked (now (marks .exit)) + bit r ≤ unmarked (now (marks .entry)) ⌝ }
-    ensures { λ r. ⌜ (r ≡ false → Still (tableOf (now (table .entry))) (stateOf (now (state .entry))) (now (marks .exit)) (now (known .exit)) 64) ⌝ }
+    ensures { λ r. ⌜ (r ≡ false → Still (tableOf (now (table .entry))) (stateOf (now (state .entry))) (now (marks .exit)) (now (known .exit)) maxThreads) ⌝ }
 {
     let mut changed = false;
-    for t in 0..THREADS {
+    for t in 0..state::THREADS {
         let came = visit(table, index, state, t, marks, known);
         changed = either(changed, came);
     }
@@ -133,9 +129,9 @@ fn round(
 }
 
 // The ports become known: the bench holds them, whoever else does.
-fn know_ports(table: &[u8], index: &[u32], known: &mut [bool; 128])
+fn know_ports(table: &[u8], index: &[u32], known: &mut [bool; state::CHANNELS as usize])
     requires { ⌜ Indexed (tableOf (now table)) (now index) ⌝ }
-    requires { ⌜ now known ≡ replicate 128 false ⌝ }
+    requires { ⌜ now known ≡ replicate maxChannels false ⌝ }
     ensures { λ _. ⌜ now (known .exit) ≡ portsTo (ports (tableOf (now (table .entry)))) ⌝ }
 {
     let n = threads::port_count(table, index);
@@ -149,13 +145,13 @@ pub fn mark_enabled(
     table: &[u8],
     index: &[u32],
     state: &[u32; state::WORDS],
-    marks: &mut [bool; 64],
+    marks: &mut [bool; state::THREADS as usize],
 )
     requires { ⌜ Indexed (tableOf (now table)) (now index) ⌝ }
-    requires { ⌜ now marks ≡ replicate 64 false ⌝ }
+    requires { ⌜ now marks ≡ replicate maxThreads false ⌝ }
     ensures { λ _. ⌜ now (marks .exit) ≡ enabledSet (tableOf (now (table .entry))) (stateOf (now (state .entry))) nobody ⌝ }
 {
-    let mut known = [false; 128];
+    let mut known = [false; state::CHANNELS as usize];
     know_ports(table, index, &mut known);
     let mut more = true;
     while more {

@@ -6,6 +6,7 @@ use borrow.Author.Tests.{ne-eqb}
 use Rattle.numbers.specs.Rows.{at}
 use Rattle.numbers.specs.Search.{every, first}
 use Rattle.numbers.specs.Search.Laws.{first-more, first-hit}
+use Rattle.table.specs.Fields as Field
 use Rattle.table.specs.Table.{Table, nodeRow, branchRow, parameters}
 use Rattle.table.specs.Layout.{nodeOf}
 use Rattle.table.specs.Roles.{operand, operandRole, reads}
@@ -19,7 +20,7 @@ module _ (tb : Table) (ms : Marks) (e : ms ≡ flow tb) where
   lacks n k t f = f ∙ rw e
 
   module _ (r n k x : ℕ) (t : Bool) (f : t ≡ marked ms n x) where
-    pub argument-is : x ≡ at tb r (3 + k) → not t ≡ argumentWritten tb r n k
+    pub argument-is : x ≡ at tb r (Field.arguments + k) → not t ≡ argumentWritten tb r n k
     unfolding argumentWritten
     argument-is g = rw (lacks n x t f, g)
 
@@ -27,7 +28,7 @@ module _ (tb : Table) (ms : Marks) (e : ms ≡ flow tb) where
     unfolding operandWritten
     operand-read a u g h i j = rw (← g, ← h, i, lacks n x t f, j)
 
-  pub node-reached : (r a n : ℕ) (t : Bool) → a ≡ at tb r 0 → a ≡ 5 → n ≡ r - nodeRow tb → t ≡ marked ms n 16 → not t ≡ unreachable tb r
+  pub node-reached : (r a n : ℕ) (t : Bool) → a ≡ at tb r Field.kind → a ≡ 5 → n ≡ r - nodeRow tb → t ≡ marked ms n 16 → not t ≡ unreachable tb r
   unfolding unreachable
   node-reached r a n t f g h i = rw (← f, g, lacks n 16 t i, h)
 
@@ -36,12 +37,12 @@ module _ (tb : Table) (r : ℕ) where
   unfolding operandWritten
   operand-idle n k a u g h i = rw (← g, ← h, i)
 
-  pub no-node : (a : ℕ) → a ≡ at tb r 0 → (a ≡ 5 → ⊥) → false ≡ unreachable tb r
+  pub no-node : (a : ℕ) → a ≡ at tb r Field.kind → (a ≡ 5 → ⊥) → false ≡ unreachable tb r
   unfolding unreachable
   no-node a f g = rw (← f, ne-eqb a 5 g)
 
-  module _ (n a : ℕ) (e : a ≡ at tb r 1) where
-    pub call-is : (d p : ℕ) (t : Bool) → a ≡ 2 → d ≡ at tb r 2 → p ≡ parameters tb d → t ≡ every (argumentWritten tb r n) p → t ≡ callWritten tb r n
+  module _ (n a : ℕ) (e : a ≡ at tb r Field.nodeKind) where
+    pub call-is : (d p : ℕ) (t : Bool) → a ≡ 2 → d ≡ at tb r Field.callee → p ≡ parameters tb d → t ≡ every (argumentWritten tb r n) p → t ≡ callWritten tb r n
     unfolding callWritten
     call-is d p t f h i j = j ∙ rw (← e, f, i, h)
 
@@ -49,7 +50,7 @@ module _ (tb : Table) (r : ℕ) where
     unfolding callWritten
     call-other f = rw (← e, ne-eqb a 2 f)
 
-  module _ (k : ℕ) (e : k ≡ at tb r 0) where
+  module _ (k : ℕ) (e : k ≡ at tb r Field.kind) where
     pub row-node : (n : ℕ) (t : Bool) → k ≡ 5 → n ≡ r - nodeRow tb → t ≡ callWritten tb r n → t ≡ rowWritten tb r
     unfolding rowWritten
     row-node n t f g h = h ∙ rw (← e, f, g)

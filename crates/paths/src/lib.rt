@@ -4,9 +4,11 @@ ghost use Prim.Native.Nat.{_<_};
 ghost use Rattle.numbers.specs.Search.{every, first};
 ghost use Rattle.table.specs.Table.{tableOf};
 ghost use Rattle.table.specs.Index.{Indexed};
+ghost use Rattle.table.specs.Roles.{operandCount};
 ghost use Rattle.flow.specs.Flow.{flow, argumentWritten, callWritten, operandWritten, rowWritten, readsUnwritten, unreachable};
 ghost use Rattle.flow.specs.Marks.{marksOf};
 use flow::is_marked;
+use table::field;
 
 // The mark of the path itself.
 const PATH_MARK: u32 = 16;
@@ -16,7 +18,8 @@ fn argument_written(table: &[u8], marks: &[u32], row: usize, n: usize, i: u32) -
     requires { ⌜ marksOf (now marks) ≡ flow (tableOf (now table)) ⌝ }
     ensures { λ r. ⌜ r ≡ argumentWritten (tableOf (now (table .entry))) row n i ⌝ }
 {
-    !is_marked(marks, n, table::cell(table, row, 3 + i as usize))
+    let argument = table::cell(table, row, field::ARGUMENTS + i as usize);
+    !is_marked(marks, n, argument)
 }
 
 // Whether all arguments of the call in a row, at node n, are surely written.
@@ -37,8 +40,8 @@ fn call_written(table: &[u8], marks: &[u32], row: usize, n: usize) -> bool
     requires { ⌜ marksOf (now marks) ≡ flow (tableOf (now table)) ⌝ }
     ensures { λ r. ⌜ r ≡ callWritten (tableOf (now (table .entry))) row n ⌝ }
 {
-    if table::cell(table, row, 1) == 2 {
-        let count = table::parameters_of(table, table::cell(table, row, 2));
+    if table::cell(table, row, field::NODE_KIND) == 2 {
+        let count = table::parameters_of(table, table::cell(table, row, field::CALLEE));
         return arguments_written(table, marks, row, n, count);
     }
     true
@@ -47,7 +50,7 @@ fn call_written(table: &[u8], marks: &[u32], row: usize, n: usize) -> bool
 // Whether operand k of the branch in a row, of node n, is surely written where it is read.
 fn operand_written(table: &[u8], marks: &[u32], row: usize, n: usize, k: u32) -> bool
     requires { ⌜ marksOf (now marks) ≡ flow (tableOf (now table)) ⌝ }
-    requires { ⌜ k < 5 ⌝ }
+    requires { ⌜ k < operandCount ⌝ }
     ensures { λ r. ⌜ r ≡ operandWritten (tableOf (now (table .entry))) row n k ⌝ }
 {
     if roles::is_read(roles::role_of(table, row, k)) {
@@ -59,9 +62,9 @@ fn operand_written(table: &[u8], marks: &[u32], row: usize, n: usize, k: u32) ->
 // Whether all operands of the branch in a row, of node n, are surely written where they are read.
 fn operands_written(table: &[u8], marks: &[u32], row: usize, n: usize) -> bool
     requires { ⌜ marksOf (now marks) ≡ flow (tableOf (now table)) ⌝ }
-    ensures { λ r. ⌜ r ≡ every (operandWritten (tableOf (now (table .entry))) row n) 5 ⌝ }
+    ensures { λ r. ⌜ r ≡ every (operandWritten (tableOf (now (table .entry))) row n) operandCount ⌝ }
 {
-    for k in 0..5 {
+    for k in 0..table::OPERANDS {
         if !operand_written(table, marks, row, n, k) {
             return false;
         }
@@ -75,7 +78,7 @@ fn row_written(table: &[u8], index: &[u32], marks: &[u32], row: usize) -> bool
     requires { ⌜ marksOf (now marks) ≡ flow (tableOf (now table)) ⌝ }
     ensures { λ r. ⌜ r ≡ rowWritten (tableOf (now (table .entry))) row ⌝ }
 {
-    let kind = table::cell(table, row, 0);
+    let kind = table::cell(table, row, field::KIND);
     if kind == 5 {
         return call_written(table, marks, row, table::node_in(table, row));
     }
@@ -109,7 +112,7 @@ fn is_unreachable(table: &[u8], marks: &[u32], row: usize) -> bool
     requires { ⌜ marksOf (now marks) ≡ flow (tableOf (now table)) ⌝ }
     ensures { λ r. ⌜ r ≡ unreachable (tableOf (now (table .entry))) row ⌝ }
 {
-    if table::cell(table, row, 0) == 5 {
+    if table::cell(table, row, field::KIND) == 5 {
         return !is_marked(marks, table::node_in(table, row), PATH_MARK);
     }
     false

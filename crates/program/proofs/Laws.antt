@@ -13,6 +13,7 @@ use borrow.Author.Tests.{ne-eqb, lt-ltb, le-ltb}
 use Rattle.numbers.specs.Rows.{at}
 use Rattle.numbers.specs.Signed.{residue, wrap, lower, widened}
 use Rattle.numbers.specs.Signed.Laws.{residue-below}
+use Rattle.table.specs.Fields as Field
 use Rattle.table.specs.Table.{Table, slotCount}
 use Rattle.table.specs.Layout.{slotType}
 use Rattle.state.specs.State.{slotOf}
@@ -21,25 +22,25 @@ use Rattle.rules.specs.declared.Direction.{Direction}
 
 -- the guard in row r of the table: k is its kind, a and b are its operands, l is the first slot's number
 module _ (tb : Table) (r : ℕ) (row : List ℕ) (k : ℕ) where
-  pub guard-always : k ≡ at tb r 1 → k ≡ 0 → true ≡ guardHolds tb r row
+  pub guard-always : k ≡ at tb r Field.guard → k ≡ 0 → true ≡ guardHolds tb r row
   unfolding guardHolds
   guard-always e i = rw (← e, i)
 
   module _ (a b l : ℕ) where
-    pub guard-equals-constant : (w : ℕ) → w ≡ widened b → l ≡ slotOf row a → a ≡ at tb r 2 → b ≡ at tb r 3 → k ≡ at tb r 1 → k ≡ 1 → eqb l w ≡ guardHolds tb r row
+    pub guard-equals-constant : (w : ℕ) → w ≡ widened b → l ≡ slotOf row a → a ≡ at tb r Field.first → b ≡ at tb r Field.second → k ≡ at tb r Field.guard → k ≡ 1 → eqb l w ≡ guardHolds tb r row
     unfolding guardHolds
     guard-equals-constant w j h f g e i = rw (← e, i, h, j, f, g)
 
-    pub guard-equals-slot : (m : ℕ) → m ≡ slotOf row b → l ≡ slotOf row a → a ≡ at tb r 2 → b ≡ at tb r 3 → k ≡ at tb r 1 → k ≡ 3 → eqb l m ≡ guardHolds tb r row
+    pub guard-equals-slot : (m : ℕ) → m ≡ slotOf row b → l ≡ slotOf row a → a ≡ at tb r Field.first → b ≡ at tb r Field.second → k ≡ at tb r Field.guard → k ≡ 3 → eqb l m ≡ guardHolds tb r row
     unfolding guardHolds
     guard-equals-slot m j h f g e i = rw (← e, i, h, j, f, g)
 
     module _ (m : ℕ) (x : Bool) (q : x ≡ lower l m) where
-      pub guard-below-constant : m ≡ widened b → l ≡ slotOf row a → a ≡ at tb r 2 → b ≡ at tb r 3 → k ≡ at tb r 1 → k ≡ 2 → x ≡ guardHolds tb r row
+      pub guard-below-constant : m ≡ widened b → l ≡ slotOf row a → a ≡ at tb r Field.first → b ≡ at tb r Field.second → k ≡ at tb r Field.guard → k ≡ 2 → x ≡ guardHolds tb r row
       unfolding guardHolds
       guard-below-constant j h f g e i = rw (← e, i, q, h, j, f, g)
 
-      pub guard-below-slot : m ≡ slotOf row b → l ≡ slotOf row a → a ≡ at tb r 2 → b ≡ at tb r 3 → k ≡ at tb r 1
+      pub guard-below-slot : m ≡ slotOf row b → l ≡ slotOf row a → a ≡ at tb r Field.first → b ≡ at tb r Field.second → k ≡ at tb r Field.guard
           → (k ≡ 0 → ⊥) → (k ≡ 1 → ⊥) → (k ≡ 2 → ⊥) → (k ≡ 3 → ⊥) → x ≡ guardHolds tb r row
       unfolding guardHolds
       guard-below-slot j h f g e n0 n1 n2 n3 = rw (← e, ne-eqb k 0 n0, ne-eqb k 1 n1, ne-eqb k 2 n2, ne-eqb k 3 n3, q, h, j, f, g)
@@ -61,18 +62,18 @@ module _ (x y : ℕ) (a b z : ℤ) (v : ℕ) (f : Fits w32 x) (g : Fits w32 y) (
 
 -- the assignment in row r of the table: k is its action, a and b are its fields
 module _ (tb : Table) (r : ℕ) (row : List ℕ) (k a v : ℕ) where
-  pub assigned-constant : v ≡ widened a → a ≡ at tb r 6 → k ≡ at tb r 4 → k ≡ 5 → v ≡ assigned tb r row
+  pub assigned-constant : v ≡ widened a → a ≡ at tb r Field.b → k ≡ at tb r Field.action → k ≡ 5 → v ≡ assigned tb r row
   unfolding assigned
   assigned-constant h f e i = rw (← e, i, h, f)
 
   module _ (b x y : ℕ) where
-    pub assigned-sum : v ≡ wrappedSum x y → x ≡ slotOf row a → y ≡ slotOf row b → a ≡ at tb r 6 → b ≡ at tb r 7
-        → k ≡ at tb r 4 → k ≡ 6 → v ≡ assigned tb r row
+    pub assigned-sum : v ≡ wrappedSum x y → x ≡ slotOf row a → y ≡ slotOf row b → a ≡ at tb r Field.b → b ≡ at tb r Field.c
+        → k ≡ at tb r Field.action → k ≡ 6 → v ≡ assigned tb r row
     unfolding assigned
     assigned-sum h p q f g e i = rw (← e, i, h, p, q, f, g)
 
-    pub assigned-difference : v ≡ wrappedDifference x y → x ≡ slotOf row a → y ≡ slotOf row b → a ≡ at tb r 6 → b ≡ at tb r 7
-        → k ≡ at tb r 4 → (k ≡ 5 → ⊥) → (k ≡ 6 → ⊥) → v ≡ assigned tb r row
+    pub assigned-difference : v ≡ wrappedDifference x y → x ≡ slotOf row a → y ≡ slotOf row b → a ≡ at tb r Field.b → b ≡ at tb r Field.c
+        → k ≡ at tb r Field.action → (k ≡ 5 → ⊥) → (k ≡ 6 → ⊥) → v ≡ assigned tb r row
     unfolding assigned
     assigned-difference h p q f g e n5 n6 = rw (← e, ne-eqb k 5 n5, ne-eqb k 6 n6, h, p, q, f, g)
 

@@ -10,6 +10,7 @@ ghost use Rattle.rules.specs.Program.{wrappedSum, wrappedDifference, typeAt, ch
 use rules::Act;
 use rules::Direction;
 use table::Part;
+use table::field;
 
 // The definition of node n.
 pub fn definition_of(table: &[u8], index: &[u32], n: u32) -> u32
@@ -37,7 +38,12 @@ pub fn type_at(table: &[u8], index: &[u32], n: u32, k: u32) -> u32
 {
     let d = definition_of(table, index, n);
     let place = table::start_within(table, index, Part::Slots, d) as usize + k as usize;
-    table::cell_of(table, index, table::slot_row_of(table, index) + place, 1)
+    table::cell_of(
+        table,
+        index,
+        table::slot_row_of(table, index) + place,
+        field::TYPE,
+    )
 }
 
 // Whether slot k of definition d is a channel slot.
@@ -57,7 +63,7 @@ pub fn blank_of(table: &[u8], index: &[u32], d: u32, k: u32) -> u32
     ensures { λ r. ⌜ r ≡ blank (tableOf (now (table .entry))) d k ⌝ }
 {
     if channel_slot(table, index, d, k) {
-        return 4294967295;
+        return state::MINUS_ONE;
     }
     0
 }
@@ -85,7 +91,12 @@ pub fn next_of(table: &[u8], index: &[u32], n: u32, row: usize) -> u32
     requires { ⌜ Indexed (tableOf (now table)) (now index) ⌝ }
     ensures { λ r. ⌜ r ≡ nextOf (tableOf (now (table .entry))) n row ⌝ }
 {
-    node_within(table, index, n, table::cell_of(table, index, row, 8))
+    node_within(
+        table,
+        index,
+        n,
+        table::cell_of(table, index, row, field::NEXT),
+    )
 }
 
 // The node at which the child begins that the branch in a row, of node n, spawns.
@@ -93,7 +104,12 @@ pub fn child_of(table: &[u8], index: &[u32], n: u32, row: usize) -> u32
     requires { ⌜ Indexed (tableOf (now table)) (now index) ⌝ }
     ensures { λ r. ⌜ r ≡ childOf (tableOf (now (table .entry))) n row ⌝ }
 {
-    node_within(table, index, n, table::cell_of(table, index, row, 9))
+    node_within(
+        table,
+        index,
+        n,
+        table::cell_of(table, index, row, field::CHILD),
+    )
 }
 
 // What the branch in a row does.
@@ -101,7 +117,7 @@ pub fn act_of(table: &[u8], index: &[u32], row: usize) -> Act
     requires { ⌜ Indexed (tableOf (now table)) (now index) ⌝ }
     ensures { λ r. ⌜ r ≡ actOf (tableOf (now (table .entry))) row ⌝ }
 {
-    match table::cell_of(table, index, row, 4) {
+    match table::cell_of(table, index, row, field::ACTION) {
         1 => Act::Meeting(Direction::Out),
         2 => Act::Meeting(Direction::In),
         3 => Act::New,
@@ -115,7 +131,7 @@ pub fn act_of(table: &[u8], index: &[u32], row: usize) -> Act
 pub fn slot(state: &[u32; state::WORDS], t: u32, k: u32) -> u32
     ensures { λ r. ⌜ r ≡ slotOf (thread (stateOf (now (state .entry))) t) k ⌝ }
 {
-    state::thread_word(state, t as usize, 2 + k as usize)
+    state::thread_word(state, t as usize, state::FIRST_SLOT + k as usize)
 }
 
 // Whether the guard of the branch in a row is true of thread t.
@@ -129,13 +145,13 @@ pub fn guard_holds(
     requires { ⌜ Indexed (tableOf (now table)) (now index) ⌝ }
     ensures { λ r. ⌜ r ≡ guardHolds (tableOf (now (table .entry))) row (thread (stateOf (now (state .entry))) t) ⌝ }
 {
-    let kind = table::cell_of(table, index, row, 1);
-    if kind == 0 {
+    let guard = table::cell_of(table, index, row, field::GUARD);
+    if guard == 0 {
         return true;
     }
-    let left = slot(state, t, table::cell_of(table, index, row, 2));
-    let right = table::cell_of(table, index, row, 3);
-    match kind {
+    let left = slot(state, t, table::cell_of(table, index, row, field::FIRST));
+    let right = table::cell_of(table, index, row, field::SECOND);
+    match guard {
         1 => left == numbers::widen(right),
         2 => numbers::below(left, numbers::widen(right)),
         3 => left == slot(state, t, right),
@@ -168,9 +184,9 @@ pub fn assigned_value(
     requires { ⌜ Indexed (tableOf (now table)) (now index) ⌝ }
     ensures { λ r. ⌜ r ≡ assigned (tableOf (now (table .entry))) row (thread (stateOf (now (state .entry))) t) ⌝ }
 {
-    let first = table::cell_of(table, index, row, 6);
-    let second = table::cell_of(table, index, row, 7);
-    match table::cell_of(table, index, row, 4) {
+    let first = table::cell_of(table, index, row, field::B);
+    let second = table::cell_of(table, index, row, field::C);
+    match table::cell_of(table, index, row, field::ACTION) {
         5 => numbers::widen(first),
         6 => sum_of(slot(state, t, first), slot(state, t, second)),
         _ => difference_of(slot(state, t, first), slot(state, t, second)),

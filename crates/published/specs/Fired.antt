@@ -3,8 +3,11 @@ use Prim.Native.Nat.{ℕ, suc, _+_}
 use native.Mathlib.Omega.{arith}
 use mathlib.Core.Path.{_≡_, sym, ap}
 use mathlib.Core.Logic.{_⊎_, inl}
-use mathlib.Core.Bool.{Bool}
+use mathlib.Core.Bool.{Bool, false}
 use mathlib.Core.List.{List, [], _∷_}
+use lib.Dec.{eqb}
+use borrow.Author.Tests.{eq-eqb}
+use Rattle.numbers.specs.Search.Laws.{contra}
 use Rattle.published.specs.Syntax.{Process}
 use Rattle.published.specs.Agents.{Commitment, gives, takes, Thread, thread, Channels, Agent, agent}
 use Rattle.published.specs.Rules.{Acts, step, new, spawn, next, call, inert, send, out, recv, inn, more, Nothing, Ours, skip, assigns, zeros, Run, last, pass, Turn, Stepped, Reduces, Reaches, stays}
@@ -24,6 +27,22 @@ pub data Rule : Type 0 where
   by-passing : Rule
   -- document 01's assignment and zeros
   by-assigns by-zeros : Rule
+
+-- a number for each rule: rules with different numbers are different
+unfoldable pub kind : Rule → ℕ
+kind by-inert = 0
+kind by-call = 1
+kind by-step = 2
+kind (by-new c) = 3
+kind (by-spawn t) = 4
+kind (by-send t k) = 5
+kind (by-recv t k) = 6
+kind by-passing = 7
+kind by-assigns = 8
+kind by-zeros = 9
+
+pub apart : {A : Type 0} {r r′ : Rule} → r ≡ r′ → eqb (kind r) (kind r′) ≡ false → A
+apart {r = r} {r′ = r′} e h = contra (eq-eqb (kind r) (kind r′) (ap kind e)) h
 
 -- a rule, and the branch of the choice by which it fired, counted from 0; for (inert), (call) and zeros, which are no branch's, 0
 pub record Fired : Type 0 where

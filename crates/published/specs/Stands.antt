@@ -11,8 +11,7 @@ use Rattle.numbers.specs.Search.Laws.{contra}
 use Rattle.published.specs.Syntax.{always, Process, end, choice, invoke, Sum, nothing, branch, wait, Prefix, tau, output, input, newChannel, newThread, assign, andWait}
 use Rattle.published.specs.Agents.{_∈_, channel, number, Env, bind, holds, Commitment, takes, Thread, thread, Channels, Agent, agent}
 use Rattle.published.specs.Rules.{Acts, step, new, spawn, next, call, inert, send, out, recv, inn, more, Ours, skip, assigns, zeros, stays, Run, last, pass}
-use Rattle.published.specs.Fired.{Rule, by-inert, by-call, by-step, by-new, by-spawn, by-send, by-recv, by-passing, by-assigns, by-zeros, Fired, fired, behind, Labels, ours-fire, firing, Ends, SteppedBy, Had, Turns, had}
-use Rattle.published.specs.Bindings.{clash}
+use Rattle.published.specs.Fired.{Rule, by-inert, by-call, by-step, by-new, by-spawn, by-send, by-recv, by-passing, by-assigns, by-zeros, kind, apart, Fired, fired, behind, Labels, ours-fire, firing, Ends, SteppedBy, Had, Turns, had}
 use Rattle.published.specs.ProductLaws.{same-order, in-rearranged}
 
 -- ---- which rules are of which prefix, with a true guard
@@ -61,27 +60,27 @@ and-wait δ (wait Q) i r x = x
 
 -- no prefix is a call's
 never-call : (δ : Env) (α : Prefix) → Suits δ α by-call → ⊥
-unfolding Suits
-never-call δ tau e = clash cc
-never-call δ (output c v) (inl e) = clash cc
-never-call δ (output c v) (inr (u, k, e)) = clash cc
-never-call δ (input c v) (inl e) = clash cc
-never-call δ (input c v) (inr (u, k, e)) = clash cc
-never-call δ (newChannel c) (ĉ, e) = clash cc
-never-call δ (newThread P) e = clash cc
-never-call δ (assign x e) q = clash cc
+unfolding Suits kind
+never-call δ tau e = apart e refl
+never-call δ (output c v) (inl e) = apart e refl
+never-call δ (output c v) (inr (u, k, e)) = apart e refl
+never-call δ (input c v) (inl e) = apart e refl
+never-call δ (input c v) (inr (u, k, e)) = apart e refl
+never-call δ (newChannel c) (ĉ, e) = apart e refl
+never-call δ (newThread P) e = apart e refl
+never-call δ (assign x e) q = apart q refl
 
 no-call : (δ : Env) (Q : Sum) (i : ℕ) → InSum δ Q i by-call → ⊥
-unfolding InSum
+unfolding InSum kind
 no-call δ nothing i x = x
-no-call δ (branch g α P Q) zero (inl (y, e)) = clash cc
+no-call δ (branch g α P Q) zero (inl (y, e)) = apart e refl
 no-call δ (branch g α P Q) zero (inr (y, x)) = never-call δ α x
 no-call δ (branch g α P Q) (suc i) (p, x) = no-call δ Q i x
 no-call δ (wait Q) i x = x
 
 call-stands : (δ : Env) (P : Process) (f : Fired) → f .rule ≡ by-call → StandsIn δ P f → StandsIn δ P (fired 0 by-call)
-unfolding StandsIn
-call-stands δ end f e x = clash (let z : by-inert ≡ by-call = sym x ∙ e in cc)
+unfolding StandsIn kind
+call-stands δ end f e x = apart (sym x ∙ e) refl
 call-stands δ (choice Q) f e x = absurd (no-call δ Q (f .branch) (rw e at x))
 call-stands δ (invoke D vs) f e x = refl
 
@@ -145,28 +144,28 @@ module _ (def : ℕ → Process) (forNumbers : ℕ → ℕ → Bool) where
   -- what stands behind a branch that is passed over
   acts-past : {A B : Agent} (r : Acts def More A B) → fires r .rule ≡ by-passing → (f : Fired) → StandsFirst (B .threads) f
       → StandsFirst (A .threads) (behind (suc (fires r .branch)) f)
-  unfolding StandsFirst StandsIn InSum Meets firing ours-fire behind
-  acts-past (step g) e f x = clash cc
-  acts-past (new ĉ g y) e f x = clash cc
-  acts-past (spawn g) e f x = clash cc
+  unfolding StandsFirst StandsIn InSum Meets firing ours-fire behind kind
+  acts-past (step g) e f x = apart e refl
+  acts-past (new ĉ g y) e f x = apart e refl
+  acts-past (spawn g) e f x = apart e refl
   acts-past (next {δ = δ} g r) e f x = rw (one-more (fires r .branch), two-more (fires r .branch) (f .branch)) (inl g, acts-past r e f x)
-  acts-past (call ws y) e f x = clash cc
-  acts-past inert e f x = clash cc
-  acts-past (send ĉ y w g c i v) e f x = clash cc
+  acts-past (call ws y) e f x = apart e refl
+  acts-past inert e f x = apart e refl
+  acts-past (send ĉ y w g c i v) e f x = apart e refl
   acts-past (out {δ = δ} {Q = Q} ĉ g c y) e f x = rw (one-more (f .branch)) (inr tt, and-wait δ Q (f .branch) (f .rule) x)
-  acts-past (recv ĉ v w g c i y) e f x = clash cc
+  acts-past (recv ĉ v w g c i y) e f x = apart e refl
   acts-past (inn {δ = δ} {Q = Q} ĉ g c y) e f x = rw (one-more (f .branch)) (inr tt, and-wait δ Q (f .branch) (f .rule) x)
   acts-past (more (skip {δ = δ} {Q = Q} g)) e f x = rw (one-more (f .branch)) (inl g, and-wait δ Q (f .branch) (f .rule) x)
-  acts-past (more (assigns g)) e f x = clash cc
-  acts-past (more (zeros D z)) e f x = clash cc
+  acts-past (more (assigns g)) e f x = apart e refl
+  acts-past (more (zeros D z)) e f x = apart e refl
 
   run-stands : {A B : Agent} (w : Run def More A B) (f : Fired) → Ends def More own w f → f .rule ≢ by-zeros → StandsFirst (A .threads) f
-  unfolding Ends StandsFirst StandsIn
+  unfolding Ends StandsFirst StandsIn kind
   run-stands (last r) f e n = rw e at (acts-stands r (λ z. n (ap (λ (g : Fired). g .rule) (sym e) ∙ z)))
   run-stands (pass r w) f (inl (g, p, y, q)) n =
       rw q (acts-past r p g (run-stands w g y (λ z. n (ap (λ (h : Fired). h .rule) q ∙ same-rule (suc (fires r .branch)) g ∙ z))))
   run-stands (pass {t = t} r w) f (inr (p, y, q)) n =
-      rw q (call-stands (t .env) (t .process) (fires r) p (acts-stands r (λ z. clash (let v : by-call ≡ by-zeros = sym p ∙ z in cc))))
+      rw q (call-stands (t .env) (t .process) (fires r) p (acts-stands r (λ z. apart (sym p ∙ z) refl)))
 
   -- the rule with which a turn of thread t ends stands in t
   pub rule-stands : {A B : Agent} {t : Thread} (f : Fired) → SteppedBy def (Ours def forNumbers) (ours-fire def forNumbers) A t f B → f .rule ≢ by-zeros
@@ -245,7 +244,8 @@ module _ (def : ℕ → Process) (forNumbers : ℕ → ℕ → Bool) where
 
   twofold-not-sent : {A B : Agent} (δ : Env) (u : Thread) (k : Commitment)
       → SteppedBy def (Ours def forNumbers) (ours-fire def forNumbers) A (twofold δ) (fired 1 (by-send u k)) B → ⊥
-  twofold-not-sent δ u k h = let (e, q) = twofold-only δ (fired 1 (by-send u k)) h (λ z. clash cc) in let z : ⊥ = omega arith in z
+  unfolding kind
+  twofold-not-sent δ u k h = let (e, q) = twofold-only δ (fired 1 (by-send u k)) h (λ z. apart z refl) in let z : ⊥ = omega arith in z
 
   -- ---- another: [true] c!v, end beside a thread that waits to receive on c; variables 0 and 1 of the sender are c and v
 

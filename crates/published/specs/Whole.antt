@@ -8,8 +8,7 @@ use mathlib.Core.Option.{some}
 use Rattle.published.specs.Syntax.{Process, end, choice, invoke, Sum, nothing, branch, wait, Prefix, tau, output, input, newChannel, newThread, assign, waits, waiting}
 use Rattle.published.specs.Agents.{_∈_, Value, channel, Env, look, bind, Commitment, gives, takes, Thread, thread, Channels, adding, Agent, agent}
 use Rattle.published.specs.Rules.{Rearranged, Acts, step, new, spawn, next, call, inert, send, out, recv, inn, more, Nothing, Run, last, pass, Turn, zeroed}
-use Rattle.published.specs.Bindings.{clash}
-use Rattle.published.specs.Fired.{Rule, by-inert, by-call, by-step, by-new, by-spawn, by-send, by-recv, by-passing, by-assigns, by-zeros, Fired, fired, behind, nothing-fires, firing, Ends, ActsBy, TurnBy}
+use Rattle.published.specs.Fired.{Rule, by-inert, by-call, by-step, by-new, by-spawn, by-send, by-recv, by-passing, by-assigns, by-zeros, kind, apart, Fired, fired, behind, nothing-fires, firing, Ends, ActsBy, TurnBy}
 use Rattle.published.specs.Choices.{commits, ByCommitment, ByPrefix, BySum, ByProcess, Of, acts-of}
 
 -- ---- whole turns
@@ -160,17 +159,17 @@ module _ (def : ℕ → Process) where
 
   -- zeros is no rule of 002
   never-zeros : {A T : Agent} (r : Acts def Nothing A T) → firing def Nothing nothing-fires r .rule ≡ by-zeros → ⊥
-  unfolding firing behind Nothing
-  never-zeros (step g) e = clash cc
-  never-zeros (new ĉ g f) e = clash cc
-  never-zeros (spawn g) e = clash cc
+  unfolding firing behind Nothing kind
+  never-zeros (step g) e = apart e refl
+  never-zeros (new ĉ g f) e = apart e refl
+  never-zeros (spawn g) e = apart e refl
   never-zeros (next g r) e = never-zeros r e
-  never-zeros (call ws q) e = clash cc
-  never-zeros inert e = clash cc
-  never-zeros (send ĉ x w g c i v) e = clash cc
-  never-zeros (out ĉ g c f) e = clash cc
-  never-zeros (recv ĉ v w g c i q) e = clash cc
-  never-zeros (inn ĉ g c f) e = clash cc
+  never-zeros (call ws q) e = apart e refl
+  never-zeros inert e = apart e refl
+  never-zeros (send ĉ x w g c i v) e = apart e refl
+  never-zeros (out ĉ g c f) e = apart e refl
+  never-zeros (recv ĉ v w g c i q) e = apart e refl
+  never-zeros (inn ĉ g c f) e = apart e refl
   never-zeros (more m) e = absurd m
 
   ends-otherwise : {A T : Agent} (w : Run def Nothing A T) (f : Fired) → Ends def Nothing nothing-fires w f → f .rule ≡ by-zeros → ⊥

@@ -11,7 +11,7 @@ use borrow.Author.Tests.{ltb-true}
 use Rattle.numbers.specs.Search.{tabulate}
 use Rattle.numbers.specs.Search.Laws.{caseB, contra, getD-tabulate, length-tabulate}
 use Rattle.table.specs.Table.{Table, ports}
-use Rattle.state.specs.State.{State, maxThreads, maxChannels, thread, inUse, isWaiting, typeIn}
+use Rattle.state.specs.State.{State, maxThreads, maxChannels, thread, inUse, isWaiting, typeIn, withThreads}
 use Rattle.rules.specs.Holding.{holds}
 use Rattle.rules.specs.Start.{freeRow}
 use Rattle.rules.specs.Offers.{offers}
@@ -154,7 +154,7 @@ module _ (tb : Table) (g : Granted tb) (rd : Readable tb) (s : State) (ok : Soun
   pub reclaimed-after : Many Reclaims (agent (channelsOf s) leftThreads) (agentOf tb b (collected tb s))
   unfolding collected agentOf channelsOf
   reclaimed-after =
-      let freed : State = record { marks = s .marks; threads = leftRows; channels = s .channels } in
+      let freed : State = withThreads s leftRows in
       counted-anew tb freed (ok .orderly .shaped .all-channels) b bn
 
   -- the whole collection, by any rules that have these

@@ -7,31 +7,25 @@ use mathlib.Core.Bool.{true, false}
 use mathlib.Core.Logic.{inl, inr}
 use mathlib.Core.List.{List, [], _∷_}
 use mathlib.Core.Option.{Option, none, some}
-use lib.Dec.{ltb}
 use lib.ListN.{length, getD}
-use borrow.Author.Tests.{ltb-true, eqb-true}
-use Rattle.numbers.specs.Search.Laws.{caseB}
-use Rattle.numbers.specs.Tests.{and-left}
 use Rattle.table.specs.Table.{Table, tableOf, ports}
-use Rattle.loader.specs.Load.{tableLength, accepted}
+use Rattle.loader.specs.Load.{accepted}
 use Rattle.state.specs.State.{stateLength, view, thread}
 use Rattle.rules.specs.Start.{entered, started}
-use Rattle.rules.specs.Calls.{startBy, startCall, stepCall, giveBy, giveCall, takeBy, takeCall, courseOf, runCall}
+use Rattle.rules.specs.Calls.{startCall, stepCall, giveOn, giveCall, takeOn, takeCall, courseOf, runCall}
+use Rattle.rules.specs.Calls.Laws.{call-answer}
 use Rattle.rules.specs.declared.Stepped.{Stepped}
 use Rattle.rules.specs.declared.Stepped.the-variants as Stepped
 use Rattle.rules.specs.declared.Given.{Given}
 use Rattle.rules.specs.declared.Given.the-variants as Given
 use Rattle.rules.specs.declared.Taken.{Taken}
 use Rattle.rules.specs.declared.Taken.the-variants as Taken
-use Rattle.rules_laws.specs.Accepted.{granted}
 use Rattle.rules_laws.specs.Codes.{clash}
-use Rattle.rules_laws.specs.Shape.Laws.{view-bytes}
-use Rattle.rules_laws.specs.Started.{started-sound}
-use Rattle.rules_laws.specs.Entry.{RightLengths, start-admitted-iff}
+use Rattle.engine_laws.specs.Bench.{give-met, take-met}
 use Rattle.engine_laws.specs.Buffers.{SoundBuffer}
-use Rattle.engine_laws.specs.SoundCalls.{admitted, start-done, start-sound}
+use Rattle.engine_laws.specs.SoundCalls.{start-done, start-sound, start-view}
 use Rattle.engine_laws.specs.Lists.{step, give, take, run, after}
-use Rattle.rules_laws.specs.Refusals.{step-refused-keeps, give-refused-keeps, take-refused-keeps, give-nobody-keeps, take-nobody-keeps}
+use Rattle.engine_laws.specs.Refusals.{step-refused-keeps, give-refused-keeps, take-refused-keeps, give-nobody-keeps, take-nobody-keeps}
 use Rattle.collector.specs.Collect.{collectCall}
 use Rattle.guarantee.specs.Claim.{Any, on, collect, afterAny, afterList, reachedBy}
 use Rattle.guarantee.specs.ClaimKept.{list-sound}
@@ -186,7 +180,7 @@ module _ (table : List ℕ) (ok : accepted table ≡ true) (fit : (i : ℕ) → 
         stepped-reaches (bodyOf tb) (OurRules tb) (agentOf tb (benchAt o E) (view state)) (threadOf tb (thread (view state) t))
         (agentOf tb (benchAt o E) (view (stepCall table state t .state)))
         (step-call-reduced table ok fit state sb (benchAt o E) (bench-is tb o (own-refers o h) E w) t n d e .2 .stepped)
-    stepped-by t (Stepped.Refused r) e = nothing-happens state (stepCall table state t .state) (step-refused-keeps table state t r e) o E
+    stepped-by t (Stepped.Refused r) e = nothing-happens state (stepCall table state t .state) (step-refused-keeps table state (sb .small) t r e) o E
 
     ran-by : (n : ℕ) → Leads state (runCall table state n .state) o E o E
     ran-by n =
@@ -200,9 +194,10 @@ module _ (table : List ℕ) (ok : accepted table ≡ true) (fit : (i : ℕ) → 
     -- ---- give
 
     given-port : (p v u : ℕ) → giveCall table state p v .answer ≡ Given.Met u → p < ports tb
-    unfolding giveCall giveBy
+    unfolding giveCall
     given-port p v u e =
-        caseB (ltb p (ports tb)) (λ y. ltb-true p (ports tb) y) (λ y. clash (let z = rw (admitted table ok state sb, y) at e in cc))
+        let k = giveOn tb (view state) p v in
+        give-met tb (view state) p v u (call-answer Given.Refused table state k (Given.Met u) (λ r f i. clash cc) .0 e .1) .0
 
     abbrev sending : ℕ → Process
     sending p = choice (branch always (output p (ports (tableOf table))) E nothing)
@@ -222,15 +217,16 @@ module _ (table : List ℕ) (ok : accepted table ≡ true) (fit : (i : ℕ) → 
         many-on (Reduces (bodyOf tb) (OurRules tb)) (set-first p v)
         (stepped-reaches (bodyOf tb) (OurRules tb) (agentOf tb (benchAt n (sending p)) (view state)) (benchAt n (sending p))
         (agentOf tb (benchAt n E) (view (giveCall table state p v .state))) sent)
-    given-by p v l Given.Nobody e = nothing-happens state (giveCall table state p v .state) (give-nobody-keeps table state p v e) o E
-    given-by p v l (Given.Refused r) e = nothing-happens state (giveCall table state p v .state) (give-refused-keeps table state p v r e) o E
+    given-by p v l Given.Nobody e = nothing-happens state (giveCall table state p v .state) (give-nobody-keeps table state (sb .small) p v e) o E
+    given-by p v l (Given.Refused r) e = nothing-happens state (giveCall table state p v .state) (give-refused-keeps table state (sb .small) p v r e) o E
 
     -- ---- take
 
     taken-port : (p u v : ℕ) → takeCall table state p .answer ≡ Taken.Met u v → p < ports tb
-    unfolding takeCall takeBy
+    unfolding takeCall
     taken-port p u v e =
-        caseB (ltb p (ports tb)) (λ y. ltb-true p (ports tb) y) (λ y. clash (let z = rw (admitted table ok state sb, y) at e in cc))
+        let k = takeOn tb (view state) p in
+        take-met tb (view state) p u v (call-answer Taken.Refused table state k (Taken.Met u v) (λ r f i. clash cc) .0 e .1) .0
 
     abbrev receiving : ℕ → Process
     receiving p = choice (branch always (input p (ports (tableOf table))) E nothing)
@@ -244,8 +240,8 @@ module _ (table : List ℕ) (ok : accepted table ≡ true) (fit : (i : ℕ) → 
         rw (← q) (stepped-reaches (bodyOf tb) (OurRules tb) (agentOf tb (benchAt o (receiving p)) (view state)) (benchAt o (receiving p)) _
         (take-call-reduced table ok fit state sb (bodyOf tb) (OurRules tb) (OurLabels tb) p (portsAnd tb o) p (ports tb) E nothing
         (look-port tb o p (taken-port p u v e)) v (rw q bn) u e .1 .stepped))
-    taken-by p Taken.Nobody e = nothing-happens state (takeCall table state p .state) (take-nobody-keeps table state p e) o E
-    taken-by p (Taken.Refused r) e = nothing-happens state (takeCall table state p .state) (take-refused-keeps table state p r e) o E
+    taken-by p Taken.Nobody e = nothing-happens state (takeCall table state p .state) (take-nobody-keeps table state (sb .small) p e) o E
+    taken-by p (Taken.Refused r) e = nothing-happens state (takeCall table state p .state) (take-refused-keeps table state (sb .small) p r e) o E
 
     -- ---- any call
 
@@ -282,16 +278,6 @@ module _ (table : List ℕ) (ok : accepted table ≡ true) (fit : (i : ℕ) → 
 
   -- ---- so what 002 proves of computations holds of the engine's states: Proposition 2, for one
 
-  right-lengths : (state : List ℕ) → length state ≡ stateLength → RightLengths table state
-  unfolding accepted
-  right-lengths state long = (eqb-true (length table) tableLength (and-left _ _ ok), long)
-
-  pub start-view : (state : List ℕ) → length state ≡ stateLength → view (startCall table state .state) ≡ started (tableOf table)
-  unfolding startCall startBy
-  start-view state long =
-      let shaped = started-sound tb (granted table ok fit) .orderly .shaped in
-      rw (start-admitted-iff table state .1 (right-lengths state long, ok)) (view-bytes (started tb) shaped)
-
   start-bare : (o : Option Value) (E : Process) → Bare (agentOf tb (benchAt o E) (started tb) .threads)
   unfolding agentOf
   start-bare o E x (inl e) = rw e
@@ -308,6 +294,6 @@ module _ (table : List ℕ) (ok : accepted table ≡ true) (fit : (i : ℕ) → 
   reached-polarity state long ks j k l m n =
       let E = benchFor table (startCall table state .state) ks end in
       let o = numberAfter table (startCall table state .state) ks none in
-      let p = rw (start-view state long) at (computation state long ks end refl) in
+      let p = rw (start-view table ok fit state long) at (computation state long ks end refl) in
       our-proposition-2 (bodyOf tb) (forNumbers tb) (agentOf tb (benchAt none E) (started tb)) (agentOf tb (benchAt o end) (view (reachedBy table state ks)))
       (start-bare none E) p (suc j) (suc k) (omega arith) (omega arith) (λ q. n (omega arith))

@@ -13,6 +13,7 @@ use borrow.Author.Tests.{ltb-true, ltb-false, lt-ltb, eqb-true, eqb-false, eq-eq
 use Rattle.numbers.specs.Rows.{at}
 use Rattle.numbers.specs.Search.{tabulate}
 use Rattle.numbers.specs.Search.Laws.{caseB, contra, same-truth, getD-tabulate, length-tabulate, tabulate-cong, is-tabulate}
+use Rattle.table.specs.Fields as Field
 use Rattle.table.specs.Table.{Table, slotCount}
 use Rattle.table.specs.Layout.{branchCount, definitionOf, slotType}
 use Rattle.flow.specs.Flow.{mayLack}
@@ -170,28 +171,28 @@ module _ (tb : Table) (g : Granted tb) (rd : Readable tb) (ty : ℕ → ℕ) (ro
     unfolding guardHolds guardOf Agents.holds
     guard-same =
         let h = rd .reading (standsAt row) i (r .node-in u) l in
-        caseB (eqb (at tb b 1) 0) (λ e. rw e)
-        (λ e. let x = number-read (at tb b 2) (h .guard-first (eqb-false (at tb b 1) 0 e)) in
-        caseB (eqb (at tb b 1) 1) (λ f. rw (e, f, x))
-        (λ f. caseB (eqb (at tb b 1) 2) (λ j. rw (e, f, j, x))
-        (λ j. let y = number-read (at tb b 3) (h .guard-second (omega (arith, eqb-false (at tb b 1) 0 e, eqb-false (at tb b 1) 1 f, eqb-false (at tb b 1) 2 j))) in
-        caseB (eqb (at tb b 1) 3) (λ k. rw (e, f, j, k, x, y)) (λ k. rw (e, f, j, k, x, y)))))
+        caseB (eqb (at tb b Field.guard) 0) (λ e. rw e)
+        (λ e. let x = number-read (at tb b Field.first) (h .guard-first (eqb-false (at tb b Field.guard) 0 e)) in
+        caseB (eqb (at tb b Field.guard) 1) (λ f. rw (e, f, x))
+        (λ f. caseB (eqb (at tb b Field.guard) 2) (λ j. rw (e, f, j, x))
+        (λ j. let y = number-read (at tb b Field.second) (h .guard-second (omega (arith, eqb-false (at tb b Field.guard) 0 e, eqb-false (at tb b Field.guard) 1 f, eqb-false (at tb b Field.guard) 2 j))) in
+        caseB (eqb (at tb b Field.guard) 3) (λ k. rw (e, f, j, k, x, y)) (λ k. rw (e, f, j, k, x, y)))))
 
-    assignment-code : actOf tb b ≡ Assignment → 5 ≤ at tb b 4
+    assignment-code : actOf tb b ≡ Assignment → 5 ≤ at tb b Field.action
     unfolding actOf
     assignment-code m =
-        caseB (eqb (at tb b 4) 1) (λ e. clash (let q = rw e at m in cc))
-        (λ e. caseB (eqb (at tb b 4) 2) (λ f. clash (let q = rw (e, f) at m in cc))
-        (λ f. caseB (eqb (at tb b 4) 3) (λ j. clash (let q = rw (e, f, j) at m in cc))
-        (λ j. caseB (eqb (at tb b 4) 4) (λ k. clash (let q = rw (e, f, j, k) at m in cc))
-        (λ k. caseB (eqb (at tb b 4) 0) (λ z. clash (let q = rw (e, f, j, k, z) at m in cc))
+        caseB (eqb (at tb b Field.action) 1) (λ e. clash (let q = rw e at m in cc))
+        (λ e. caseB (eqb (at tb b Field.action) 2) (λ f. clash (let q = rw (e, f) at m in cc))
+        (λ f. caseB (eqb (at tb b Field.action) 3) (λ j. clash (let q = rw (e, f, j) at m in cc))
+        (λ j. caseB (eqb (at tb b Field.action) 4) (λ k. clash (let q = rw (e, f, j, k) at m in cc))
+        (λ k. caseB (eqb (at tb b Field.action) 0) (λ z. clash (let q = rw (e, f, j, k, z) at m in cc))
         (λ z. omega (
           arith,
-          eqb-false (at tb b 4) 0 z,
-          eqb-false (at tb b 4) 1 e,
-          eqb-false (at tb b 4) 2 f,
-          eqb-false (at tb b 4) 3 j,
-          eqb-false (at tb b 4) 4 k,
+          eqb-false (at tb b Field.action) 0 z,
+          eqb-false (at tb b Field.action) 1 e,
+          eqb-false (at tb b Field.action) 2 f,
+          eqb-false (at tb b Field.action) 3 j,
+          eqb-false (at tb b Field.action) 4 k,
         ))))))
 
     -- what is assigned
@@ -201,8 +202,8 @@ module _ (tb : Table) (g : Granted tb) (rd : Readable tb) (ty : ℕ → ℕ) (ro
     assigned-same m =
         let h = rd .reading (standsAt row) i (r .node-in u) l in
         let c = assignment-code m in
-        caseB (eqb (at tb b 4) 5) (λ e. rw e)
-        (λ e. let above : 5 < at tb b 4 = omega (arith, eqb-false (at tb b 4) 5 e) in
+        caseB (eqb (at tb b Field.action) 5) (λ e. rw e)
+        (λ e. let above : 5 < at tb b Field.action = omega (arith, eqb-false (at tb b Field.action) 5 e) in
         let x = number-read (fieldB tb b) (h .sum-first above) in
         let y = number-read (fieldC tb b) (h .sum-second above) in
-        caseB (eqb (at tb b 4) 6) (λ f. rw (e, f, x, y)) (λ f. rw (e, f, x, y)))
+        caseB (eqb (at tb b Field.action) 6) (λ f. rw (e, f, x, y)) (λ f. rw (e, f, x, y)))

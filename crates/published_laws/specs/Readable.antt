@@ -12,7 +12,8 @@ use borrow.Author.Tests.{lt-ltb, le-ltb, eqb-true, ne-eqb, not-false}
 use Rattle.numbers.specs.Rows.{at}
 use Rattle.numbers.specs.Search.Laws.{caseB, first-below, every-elim}
 use Rattle.numbers.specs.Tests.{parts}
-use Rattle.table.specs.Table.{Table, tableOf, nodes, definitionRow, nodeRow, branchRow, lineTotal, slotCount}
+use Rattle.table.specs.Fields as Field
+use Rattle.table.specs.Table.{Table, maxOwnBranches, tableOf, nodes, definitionRow, nodeRow, branchRow, lineTotal, slotCount}
 use Rattle.table.specs.Layout.{start, branchCount, definitionOf, slotType}
 use Rattle.table.specs.Form.Laws.{within-least, header-counts}
 use Rattle.table.specs.Roles.{guardRole, actionRole, operandPlace, operand, operandRole, reads}
@@ -37,10 +38,10 @@ module _ (tb : Table) where
   pub record Reading (n r : ℕ) : Type 0 where
     pub next-later : n < nextOf tb n r
     pub child-later : actOf tb r ≡ Spawn → n < childOf tb n r
-    pub guard-first : at tb r 1 ≢ 0 → NumberSlot n (at tb r 2)
-    pub guard-second : 3 ≤ at tb r 1 → NumberSlot n (at tb r 3)
-    pub sum-first : 5 < at tb r 4 → NumberSlot n (fieldB tb r)
-    pub sum-second : 5 < at tb r 4 → NumberSlot n (fieldC tb r)
+    pub guard-first : at tb r Field.guard ≢ 0 → NumberSlot n (at tb r Field.first)
+    pub guard-second : 3 ≤ at tb r Field.guard → NumberSlot n (at tb r Field.second)
+    pub sum-first : 5 < at tb r Field.action → NumberSlot n (fieldB tb r)
+    pub sum-second : 5 < at tb r Field.action → NumberSlot n (fieldC tb r)
 
   pub record Readable : Type 0 where
     pub some-branch : (n : ℕ) → n < nodes tb → kindOf tb n ≡ 1 → 0 < branchCount tb n
@@ -67,7 +68,7 @@ module _ (tb : Table) (a : Passed tb) where
   some-branches n h k =
       let p = node-in-range tb (a .formed) n h in
       let q = rw k at p in
-      rw k (within-least 1 8 (at tb (nodeRow tb + n) 2) (search parts))
+      rw k (within-least 1 maxOwnBranches (at tb (nodeRow tb + n) Field.ownBranches) (search parts))
 
   module _ (n i : ℕ) (h : n < nodes tb) (l : i < branchCount tb n) where
     abbrev r : ℕ
@@ -100,10 +101,10 @@ module _ (tb : Table) (a : Passed tb) where
     reading-of = record {
       next-later = edges tb (a .formed) .up n i (nextOf tb n r) h (record { branch = l; leads = inl refl });
       child-later = λ m. edges tb (a .formed) .up n i (childOf tb n r) h (record { branch = l; leads = inr (spawns-by tb r m, refl) });
-      guard-first = λ f. reads-number 0 (omega arith) (first-role (at tb r 1) f);
-      guard-second = λ f. reads-number 1 (omega arith) (rw (ne-eqb (at tb r 1) 0 (λ q. omega arith), le-ltb (at tb r 1) 3 f));
-      sum-first = λ f. reads-number 3 (omega arith) (sum-role (at tb r 4) f 1 (omega arith));
-      sum-second = λ f. reads-number 4 (omega arith) (sum-role (at tb r 4) f 2 (omega arith));
+      guard-first = λ f. reads-number 0 (omega arith) (first-role (at tb r Field.guard) f);
+      guard-second = λ f. reads-number 1 (omega arith) (rw (ne-eqb (at tb r Field.guard) 0 (λ q. omega arith), le-ltb (at tb r Field.guard) 3 f));
+      sum-first = λ f. reads-number 3 (omega arith) (sum-role (at tb r Field.action) f 1 (omega arith));
+      sum-second = λ f. reads-number 4 (omega arith) (sum-role (at tb r Field.action) f 2 (omega arith));
     }
 
 -- every accepted table is so

@@ -8,6 +8,7 @@ use lib.Dec.{ltb, eqb}
 use Rattle.numbers.specs.Rows.{at}
 use Rattle.numbers.specs.Search.{tabulate}
 use Rattle.numbers.specs.Signed.{widened}
+use Rattle.table.specs.Fields as Field
 use Rattle.table.specs.Table.{Table, nodes, parameters, slotCount}
 use Rattle.table.specs.Layout.{start, branchCount, definitionOf, slotType}
 use Rattle.table.specs.declared.Part.the-variants.{Nodes}
@@ -45,17 +46,17 @@ module _ (tb : Table) where
   -- the guard of the branch in row r
   unfoldable pub guardOf : ℕ → Guard
   guardOf r =
-      cond (eqb (at tb r 1) 0) always
-      (cond (eqb (at tb r 1) 1) (equals (at tb r 2) (widened (at tb r 3)))
-      (cond (eqb (at tb r 1) 2) (below (at tb r 2) (widened (at tb r 3)))
-      (cond (eqb (at tb r 1) 3) (same (at tb r 2) (at tb r 3))
-      (less (at tb r 2) (at tb r 3)))))
+      cond (eqb (at tb r Field.guard) 0) always
+      (cond (eqb (at tb r Field.guard) 1) (equals (at tb r Field.first) (widened (at tb r Field.second)))
+      (cond (eqb (at tb r Field.guard) 2) (below (at tb r Field.first) (widened (at tb r Field.second)))
+      (cond (eqb (at tb r Field.guard) 3) (same (at tb r Field.first) (at tb r Field.second))
+      (less (at tb r Field.first) (at tb r Field.second)))))
 
   -- what its assignment assigns
   unfoldable pub expressionOf : ℕ → Expression
   expressionOf r =
-      cond (eqb (at tb r 4) 5) (constant (widened (fieldB tb r)))
-      (cond (eqb (at tb r 4) 6) (plus (fieldB tb r) (fieldC tb r)) (minus (fieldB tb r) (fieldC tb r)))
+      cond (eqb (at tb r Field.action) 5) (constant (widened (fieldB tb r)))
+      (cond (eqb (at tb r Field.action) 6) (plus (fieldB tb r) (fieldC tb r)) (minus (fieldB tb r) (fieldC tb r)))
 
   -- its prefix, by its act, where a child would begin with the process P
   unfoldable pub prefixOf : Process → ℕ → Act → Prefix

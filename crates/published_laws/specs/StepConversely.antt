@@ -1,37 +1,31 @@
 -- The other direction of the refinement, over the bytes that the bench software sees: every whole turn by 002's rules of a thread whose step is done. Assumes
 -- nothing.
 use Prim.Native.Nat.{ℕ, _<_}
-use mathlib.Core.Path.{_≡_, sym, _∙_}
+use mathlib.Core.Path.{_≡_}
 use mathlib.Core.Bool.{true}
 use mathlib.Core.List.{List}
 use lib.ListN.{getD}
 use borrow.Author.Tests.{ltb-true}
-use Rattle.numbers.specs.Search.Laws.{caseB}
 use Rattle.numbers.specs.Tests.{parts}
 use Rattle.table.specs.Table.{Table, tableOf}
 use Rattle.loader.specs.Load.{accepted}
 use Rattle.state.specs.State.{State, maxThreads, view, thread, standsAt, isReady}
-use Rattle.rules.specs.Moves.{move, perform}
-use Rattle.rules.specs.Calls.{stepAnswer, canStep, stepBy, stepCall}
+use Rattle.rules.specs.Moves.{move}
+use Rattle.rules.specs.Calls.{canStep, stepCall}
 use Rattle.rules.specs.declared.Stepped.the-variants as Stepped
 use Rattle.rules.specs.declared.Deed.{Deed}
 use Rattle.rules_laws.specs.Granted.{Granted}
-use Rattle.rules_laws.specs.Codes.{clash}
 use Rattle.rules_laws.specs.Accepted.{granted}
 use Rattle.rules_laws.specs.Soundness.{Sound}
-use Rattle.rules_laws.specs.Lasting.{move-kept}
 use Rattle.engine_laws.specs.Buffers.{SoundBuffer, view-sound}
-use Rattle.rules_laws.specs.Shape.Laws.{view-bytes}
-use Rattle.engine_laws.specs.SoundCalls.{admitted}
 use Rattle.published.specs.Agents.{Thread, Agent}
 use Rattle.published.specs.Rules.{Reclaims, Many}
 use Rattle.published.specs.Whole.{WholeTurn, UpTo}
 use Rattle.published_laws.specs.Readable.{Readable, readable}
 use Rattle.published_laws.specs.Standing.{bodyOf, forNumbers, threadOf, agentOf}
 use Rattle.published_laws.specs.Products.{Bench}
-use Rattle.published_laws.specs.Stepping.{Allowed}
 use Rattle.published_laws.specs.Conversely.{step-conversely}
-use Rattle.published_laws.specs.Running.{done-allowed, end-answer, end-state}
+use Rattle.published_laws.specs.Running.{done-allowed, step-did}
 
 may-step : (s : State) (t : ℕ) → canStep s t ≡ true → (t < maxThreads) × (isReady (thread s t) ≡ true)
 unfolding canStep
@@ -50,23 +44,6 @@ module _ (table : List ℕ) (ok : accepted table ≡ true) (fit : (i : ℕ) → 
   sound : Sound tb (view state)
   sound = view-sound table state sb
 
-  -- what a step that is done says of the bytes: the thread was ready and lacked no row, and its move was made
-  step-did : (t k : ℕ) (d : Deed) → stepCall table state t .answer ≡ Stepped.Done k d
-      → (t < maxThreads) × (isReady (thread (view state) t) ≡ true) × Allowed (move (tableOf table) (view state) t)
-      × (view (stepCall table state t .state) ≡ perform (tableOf table) (view state) t (move (tableOf table) (view state) t))
-  unfolding stepCall stepBy
-  step-did t k d e =
-      let m = move tb (view state) t in
-      let a = stepAnswer (standsAt (thread (view state) t)) m in
-      let after = perform tb (view state) t m in
-      let ad = admitted table ok state sb in
-      caseB (canStep (view state) t)
-      (λ y. let q : a ≡ Stepped.Done k d = sym (end-answer a state after) ∙ (rw (ad, y) at e) in
-      let (l, ready) = may-step (view state) t y in
-      let shaped = move-kept tb g (view state) sound t l ready .orderly .shaped in
-      (l, ready, done-allowed (standsAt (thread (view state) t)) m k d q, rw (ad, y, end-state a k d q state after) (view-bytes after shaped)))
-      (λ y. clash (let q = rw (ad, y) at e in cc))
-
   -- it ends, up to what 002 leaves open, in an agent that uses of (reclaim) take to that of the bytes after the call
   pub step-call-conversely : (b : Thread) → Bench (tableOf table) b → (t k : ℕ) (d : Deed) → stepCall table state t .answer ≡ Stepped.Done k d → (T : Agent)
       → WholeTurn (bodyOf (tableOf table)) (agentOf (tableOf table) b (view state)) (threadOf (tableOf table) (thread (view state) t)) T
@@ -74,5 +51,7 @@ module _ (table : List ℕ) (ok : accepted table ≡ true) (fit : (i : ℕ) → 
       (threadOf (tableOf table) (thread (view state) t)) T E
       × Many Reclaims E (agentOf (tableOf table) b (view (stepCall table state t .state)))
   step-call-conversely b bn t k d e T h =
-      let (l, ready, z, q) = step-did t k d e in
+      let (c, a, q) = step-did table ok fit state sb t k d e in
+      let (l, ready) = may-step (view state) t c in
+      let z = done-allowed (standsAt (thread (view state) t)) (move tb (view state) t) k d a in
       rw q (step-conversely tb g rd (view state) sound t l ready b bn z T h)

@@ -7,7 +7,8 @@ use borrow.Author.Tests.{not-true, not-false, lt-ltb, le-ltb, ne-eqb}
 use Rattle.numbers.specs.Rows.{at}
 use Rattle.numbers.specs.Search.{every, first}
 use Rattle.numbers.specs.Search.Laws.{first-more, first-hit}
-use Rattle.table.specs.Table.{Table, types, definitions, nodeRow, branchRow, parameters, slotCount, nodeCount}
+use Rattle.table.specs.Fields as Field
+use Rattle.table.specs.Table.{Table, maxParameters, maxOwnSlots, maxOwnNodes, maxOwnBranches, types, definitions, nodeRow, branchRow, parameters, slotCount, nodeCount}
 use Rattle.table.specs.Layout.{start, definitionOf, nodeOf}
 use Rattle.table.specs.Form.{within}
 use Rattle.table.specs.declared.Part.the-variants.{Nodes}
@@ -26,7 +27,7 @@ module _ (tb : Table) (r k i : ℕ) where
 
 -- ---- a type, and a slot: a names a type, of which there are m
 
-module _ (tb : Table) (r m a : ℕ) (t : Bool) (e : m ≡ types tb) (f : a ≡ at tb r 1) (g : t ≡ within 0 m a) where
+module _ (tb : Table) (r m a : ℕ) (t : Bool) (e : m ≡ types tb) (f : a ≡ at tb r Field.type) (g : t ≡ within 0 m a) where
   pub type-not : not t ≡ true → false ≡ typeInRange tb r
   unfolding typeInRange
   type-not h = rw (← e, ← f, ← g, not-true t h)
@@ -37,17 +38,17 @@ module _ (tb : Table) (r m a : ℕ) (t : Bool) (e : m ≡ types tb) (f : a ≡ a
 
 -- ---- a definition: a, b and c are its counts
 
-module _ (tb : Table) (r a : ℕ) (t : Bool) (e : a ≡ at tb r 1) (f : t ≡ within 0 8 a) where
+module _ (tb : Table) (r a : ℕ) (t : Bool) (e : a ≡ at tb r Field.parameters) (f : t ≡ within 0 maxParameters a) where
   pub parameters-out : not t ≡ true → false ≡ definitionInRange tb r
   unfolding definitionInRange
   parameters-out g = rw (← e, ← f, not-true t g)
 
-  module _ (g : not t ≡ false) (b : ℕ) (u : Bool) (h : b ≡ at tb r 2) (i : u ≡ within a 16 b) where
+  module _ (g : not t ≡ false) (b : ℕ) (u : Bool) (h : b ≡ at tb r Field.ownSlots) (i : u ≡ within a maxOwnSlots b) where
     pub slots-out : not u ≡ true → false ≡ definitionInRange tb r
     unfolding definitionInRange
     slots-out j = rw (← e, ← f, not-false t g, ← h, ← i, not-true u j)
 
-    module _ (j : not u ≡ false) (c : ℕ) (v : Bool) (k : c ≡ at tb r 3) (l : v ≡ within 1 192 c) where
+    module _ (j : not u ≡ false) (c : ℕ) (v : Bool) (k : c ≡ at tb r Field.ownNodes) (l : v ≡ within 1 maxOwnNodes c) where
       pub nodes-out : not v ≡ true → false ≡ definitionInRange tb r
       unfolding definitionInRange
       nodes-out m = rw (← e, ← f, not-false t g, ← h, ← i, not-false u j, ← k, ← l, not-true v m)
@@ -58,7 +59,7 @@ module _ (tb : Table) (r a : ℕ) (t : Bool) (e : a ≡ at tb r 1) (f : t ≡ wi
 
 -- ---- a call: a is the definition that it calls, of which there are m
 
-module _ (tb : Table) (r s a m : ℕ) (e : a ≡ at tb r 2) (f : m ≡ definitions tb) where
+module _ (tb : Table) (r s a m : ℕ) (e : a ≡ at tb r Field.callee) (f : m ≡ definitions tb) where
   pub call-past : m ≤ a → false ≡ callInRange tb r s
   unfolding callInRange
   call-past h = rw (← e, ← f, le-ltb a m h)
@@ -74,12 +75,12 @@ module _ (tb : Table) (r s a m : ℕ) (e : a ≡ at tb r 2) (f : m ≡ definitio
 
 -- ---- a node: f is its form
 
-module _ (tb : Table) (r f : ℕ) (e : f ≡ at tb r 1) where
+module _ (tb : Table) (r f : ℕ) (e : f ≡ at tb r Field.nodeKind) where
   pub node-end : (x : Bool) → f ≡ 0 → x ≡ restUnused tb r 2 → x ≡ nodeInRange tb r
   unfolding nodeInRange
   node-end x h i = rw (← e, h) i
 
-  module _ (h : f ≡ 1) (a : ℕ) (t : Bool) (i : a ≡ at tb r 2) (j : t ≡ within 1 8 a) where
+  module _ (h : f ≡ 1) (a : ℕ) (t : Bool) (i : a ≡ at tb r Field.ownBranches) (j : t ≡ within 1 maxOwnBranches a) where
     pub choice-not : not t ≡ true → false ≡ nodeInRange tb r
     unfolding nodeInRange
     choice-not k = rw (← e, h, ← i, ← j, not-true t k)
@@ -98,12 +99,12 @@ module _ (tb : Table) (r f : ℕ) (e : f ≡ at tb r 1) where
 
 -- ---- the targets of a branch: a is its next node, k its action
 
-module _ (tb : Table) (r own n a : ℕ) (t : Bool) (e : a ≡ at tb r 8) (f : t ≡ ahead own n a) where
+module _ (tb : Table) (r own n a : ℕ) (t : Bool) (e : a ≡ at tb r Field.next) (f : t ≡ ahead own n a) where
   pub next-not : not t ≡ true → false ≡ targetsInRange tb r own n
   unfolding targetsInRange
   next-not g = rw (← e, ← f, not-true t g)
 
-  module _ (g : not t ≡ false) (k b : ℕ) (h : k ≡ at tb r 4) (i : b ≡ at tb r 9) where
+  module _ (g : not t ≡ false) (k b : ℕ) (h : k ≡ at tb r Field.action) (i : b ≡ at tb r Field.child) where
     pub child-ahead : (x : Bool) → k ≡ 4 → x ≡ ahead own n b → x ≡ targetsInRange tb r own n
     unfolding targetsInRange
     child-ahead x j l = rw (← e, ← f, not-false t g, ← h, j, ← i) l
@@ -114,12 +115,12 @@ module _ (tb : Table) (r own n a : ℕ) (t : Bool) (e : a ≡ at tb r 8) (f : t 
 
 -- ---- a branch of node n, in definition d: a is its guard, b its action
 
-module _ (tb : Table) (r n d a : ℕ) (t : Bool) (e : a ≡ at tb r 1) (f : t ≡ within 0 4 a) where
+module _ (tb : Table) (r n d a : ℕ) (t : Bool) (e : a ≡ at tb r Field.guard) (f : t ≡ within 0 4 a) where
   pub guard-out : not t ≡ true → false ≡ branchInRange tb r n d
   unfolding branchInRange
   guard-out g = rw (← e, ← f, not-true t g)
 
-  module _ (g : not t ≡ false) (b : ℕ) (u : Bool) (h : b ≡ at tb r 4) (i : u ≡ within 0 7 b) where
+  module _ (g : not t ≡ false) (b : ℕ) (u : Bool) (h : b ≡ at tb r Field.action) (i : u ≡ within 0 7 b) where
     pub action-out : not u ≡ true → false ≡ branchInRange tb r n d
     unfolding branchInRange
     action-out j = rw (← e, ← f, not-false t g, ← h, ← i, not-true u j)
@@ -140,7 +141,7 @@ module _ (tb : Table) (r n d a : ℕ) (t : Bool) (e : a ≡ at tb r 1) (f : t �
 
 -- ---- a row: k is its kind
 
-module _ (tb : Table) (r k : ℕ) (x : Bool) (e : k ≡ at tb r 0) where
+module _ (tb : Table) (r k : ℕ) (x : Bool) (e : k ≡ at tb r Field.kind) where
   pub row-header : k ≡ 1 → x ≡ restUnused tb r 7 → x ≡ rowInRange tb r
   unfolding rowInRange
   row-header h i = rw (← e, h) i

@@ -7,13 +7,19 @@ ghost use Rattle.table.specs.Table.{tableOf};
 ghost use Rattle.table.specs.Layout.{start};
 ghost use Rattle.table.specs.Index.{Indexed};
 ghost use Rattle.table.specs.declared.Part.the-variants.{Nodes};
+ghost use Rattle.table.specs.Roles.{operandCount};
 ghost use Rattle.ranges.specs.Ranges.{roleInRange, ahead, unusedFrom, restUnused, typeInRange, definitionInRange, argumentInRange, callInRange, nodeInRange, operandInRange, targetsInRange, branchInRange, rowInRange, outOfRange};
 use roles::operand_of;
 use roles::role_of;
+use table::MAX_OWN_BRANCHES;
+use table::MAX_OWN_NODES;
+use table::MAX_OWN_SLOTS;
+use table::MAX_PARAMETERS;
 use table::Part;
 use table::Role;
 use table::cell;
 use table::definition_at;
+use table::field;
 use table::is_within;
 use table::node_at;
 use table::nodes_of;
@@ -21,18 +27,6 @@ use table::owner_of;
 use table::parameters_of;
 use table::slots_of;
 use table::start_of;
-
-const ROW_NUMBERS: usize = 12;
-
-const MAX_PARAMETERS: u32 = 8;
-
-const MAX_OWN_SLOTS: u32 = 16;
-
-const MAX_OWN_NODES: u32 = 192;
-
-const MAX_OWN_BRANCHES: u32 = 8;
-
-const OPERANDS: u32 = 5;
 
 // Whether number i of a row is 0, if it is one from number k on.
 fn unused_from(table: &[u8], row: usize, k: usize, i: usize) -> bool
@@ -48,7 +42,7 @@ fn unused_from(table: &[u8], row: usize, k: usize, i: usize) -> bool
 fn rest_unused(table: &[u8], row: usize, k: usize) -> bool
     ensures { λ r. ⌜ r ≡ restUnused (tableOf (now (table .entry))) row k ⌝ }
 {
-    for i in 0..ROW_NUMBERS {
+    for i in 0..table::ROW_NUMBERS {
         if !unused_from(table, row, k, i) {
             return false;
         }
@@ -60,7 +54,11 @@ fn rest_unused(table: &[u8], row: usize, k: usize) -> bool
 fn type_in_range(table: &[u8], row: usize) -> bool
     ensures { λ r. ⌜ r ≡ typeInRange (tableOf (now (table .entry))) row ⌝ }
 {
-    if !is_within(0, cell(table, 0, 1), cell(table, row, 1)) {
+    if !is_within(
+        0,
+        cell(table, 0, field::TYPES),
+        cell(table, row, field::TYPE),
+    ) {
         return false;
     }
     rest_unused(table, row, 2)
@@ -70,14 +68,15 @@ fn type_in_range(table: &[u8], row: usize) -> bool
 fn definition_in_range(table: &[u8], row: usize) -> bool
     ensures { λ r. ⌜ r ≡ definitionInRange (tableOf (now (table .entry))) row ⌝ }
 {
-    let parameters = cell(table, row, 1);
+    let parameters = cell(table, row, field::PARAMETERS);
     if !is_within(0, MAX_PARAMETERS, parameters) {
         return false;
     }
-    if !is_within(parameters, MAX_OWN_SLOTS, cell(table, row, 2)) {
+    let slots = cell(table, row, field::OWN_SLOTS);
+    if !is_within(parameters, MAX_OWN_SLOTS, slots) {
         return false;
     }
-    if !is_within(1, MAX_OWN_NODES, cell(table, row, 3)) {
+    if !is_within(1, MAX_OWN_NODES, cell(table, row, field::OWN_NODES)) {
         return false;
     }
     rest_unused(table, row, 4)
@@ -87,7 +86,7 @@ fn definition_in_range(table: &[u8], row: usize) -> bool
 fn argument_in_range(table: &[u8], row: usize, s: u32, i: u32) -> bool
     ensures { λ r. ⌜ r ≡ argumentInRange (tableOf (now (table .entry))) row s i ⌝ }
 {
-    cell(table, row, 3 + i as usize) < s
+    cell(table, row, field::ARGUMENTS + i as usize) < s
 }
 
 // Whether the n arguments of the call in a row are slots of the calling definition, which has s slots.
@@ -106,13 +105,13 @@ fn arguments_in_range(table: &[u8], row: usize, s: u32, n: u32) -> bool
 fn call_in_range(table: &[u8], row: usize, s: u32) -> bool
     ensures { λ r. ⌜ r ≡ callInRange (tableOf (now (table .entry))) row s ⌝ }
 {
-    let called = cell(table, row, 2);
-    if called < cell(table, 0, 2) {
+    let called = cell(table, row, field::CALLEE);
+    if called < cell(table, 0, field::DEFINITIONS) {
         let n = parameters_of(table, called);
         if !arguments_in_range(table, row, s, n) {
             return false;
         }
-        return rest_unused(table, row, 3 + n as usize);
+        return rest_unused(table, row, field::ARGUMENTS + n as usize);
     }
     false
 }
@@ -122,12 +121,12 @@ fn node_in_range(table: &[u8], index: &[u32], row: usize) -> bool
     requires { ⌜ Indexed (tableOf (now table)) (now index) ⌝ }
     ensures { λ r. ⌜ r ≡ nodeInRange (tableOf (now (table .entry))) row ⌝ }
 {
-    let form = cell(table, row, 1);
+    let form = cell(table, row, field::NODE_KIND);
     if form == 0 {
         return rest_unused(table, row, 2);
     }
     if form == 1 {
-        if !is_within(1, MAX_OWN_BRANCHES, cell(table, row, 2)) {
+        if !is_within(1, MAX_OWN_BRANCHES, cell(table, row, field::OWN_BRANCHES)) {
             return false;
         }
         return rest_unused(table, row, 3);
@@ -160,7 +159,7 @@ fn role_in_range(role: Role, s: u32, v: u32) -> bool
 
 // Whether operand k of the branch in a row is in the range of its role, in a definition of s slots.
 fn operand_in_range(table: &[u8], row: usize, s: u32, k: u32) -> bool
-    requires { ⌜ k < 5 ⌝ }
+    requires { ⌜ k < operandCount ⌝ }
     ensures { λ r. ⌜ r ≡ operandInRange (tableOf (now (table .entry))) row s k ⌝ }
 {
     role_in_range(role_of(table, row, k), s, operand_of(table, row, k))
@@ -168,9 +167,9 @@ fn operand_in_range(table: &[u8], row: usize, s: u32, k: u32) -> bool
 
 // Whether all operands of the branch in a row are in the ranges of their roles, in a definition of s slots.
 fn operands_in_range(table: &[u8], row: usize, s: u32) -> bool
-    ensures { λ r. ⌜ r ≡ every (operandInRange (tableOf (now (table .entry))) row s) 5 ⌝ }
+    ensures { λ r. ⌜ r ≡ every (operandInRange (tableOf (now (table .entry))) row s) operandCount ⌝ }
 {
-    for k in 0..OPERANDS {
+    for k in 0..table::OPERANDS {
         if !operand_in_range(table, row, s, k) {
             return false;
         }
@@ -192,13 +191,13 @@ fn is_ahead(own: u32, n: u32, v: u32) -> bool
 fn targets_in_range(table: &[u8], row: usize, own: u32, n: u32) -> bool
     ensures { λ r. ⌜ r ≡ targetsInRange (tableOf (now (table .entry))) row own n ⌝ }
 {
-    if !is_ahead(own, n, cell(table, row, 8)) {
+    if !is_ahead(own, n, cell(table, row, field::NEXT)) {
         return false;
     }
-    if cell(table, row, 4) == 4 {
-        return is_ahead(own, n, cell(table, row, 9));
+    if cell(table, row, field::ACTION) == 4 {
+        return is_ahead(own, n, cell(table, row, field::CHILD));
     }
-    cell(table, row, 9) == 0
+    cell(table, row, field::CHILD) == 0
 }
 
 // Whether the line of a branch, of a node of definition d, is in range.
@@ -207,10 +206,10 @@ fn branch_in_range(table: &[u8], index: &[u32], row: usize, node: u32, d: u32) -
     requires { ⌜ start (tableOf (now table)) Nodes d ≤ node ⌝ }
     ensures { λ r. ⌜ r ≡ branchInRange (tableOf (now (table .entry))) row node d ⌝ }
 {
-    if !is_within(0, 4, cell(table, row, 1)) {
+    if !is_within(0, 4, cell(table, row, field::GUARD)) {
         return false;
     }
-    if !is_within(0, 7, cell(table, row, 4)) {
+    if !is_within(0, 7, cell(table, row, field::ACTION)) {
         return false;
     }
     if !operands_in_range(table, row, slots_of(table, d)) {
@@ -228,7 +227,7 @@ fn row_in_range(table: &[u8], index: &[u32], row: usize) -> bool
     requires { ⌜ Indexed (tableOf (now table)) (now index) ⌝ }
     ensures { λ r. ⌜ r ≡ rowInRange (tableOf (now (table .entry))) row ⌝ }
 {
-    let kind = cell(table, row, 0);
+    let kind = cell(table, row, field::KIND);
     if kind == 1 {
         return rest_unused(table, row, 7);
     }

@@ -6,7 +6,7 @@ ghost use Rattle.numbers.specs.Count.{bit};
 ghost use Rattle.numbers.specs.Search.{tabulate};
 ghost use Rattle.table.specs.Table.{tableOf};
 ghost use Rattle.table.specs.Index.{Indexed};
-ghost use Rattle.state.specs.State.{stateOf, thread, isWaiting, maxChannels};
+ghost use Rattle.state.specs.State.{rowSlots, stateOf, thread, isWaiting, maxChannels};
 ghost use Rattle.rules.specs.Holding.{holders, waiters};
 ghost use Rattle.recount.specs.Tally.{added, addedTo, rowAdded};
 
@@ -33,7 +33,7 @@ fn add(counts: &mut [u8], c: u8, w: u8)
 
 // Each of the first n channels of a list counts once among those held, and w times among those held waiting.
 fn add_listed(list: &[u8; holding::LIST], n: u32, w: u8, held: &mut [u8], waiting: &mut [u8])
-    requires { ⌜ n ≤ 16 ⌝ }
+    requires { ⌜ n ≤ rowSlots ⌝ }
     ensures { λ _. ⌜ now (held .exit) ≡ addedTo (now (list .entry)) 1 (now (held .entry)) n ⌝ }
     ensures { λ _. ⌜ now (waiting .exit) ≡ addedTo (now (list .entry)) w (now (waiting .entry)) n ⌝ }
 {

@@ -2,9 +2,10 @@
 ghost use mathlib.Core.Path.{_≡_};
 ghost use Prim.Native.Nat.{_<_};
 ghost use Rattle.table.specs.Table.{tableOf};
-ghost use Rattle.table.specs.Roles.{guardRole, actionRole, operandPlace, operand, operandRole, reads, writes};
+ghost use Rattle.table.specs.Roles.{guardRole, actionRole, operandCount, operandPlace, operand, operandRole, reads, writes};
 use table::Role;
 use table::cell;
+use table::field;
 
 // The role of operand k of guard g.
 pub fn guard_role(g: u32, k: u32) -> Role
@@ -70,18 +71,18 @@ pub fn action_role(a: u32, k: u32) -> Role
 
 // The number of a branch's row that operand k is: two operands are its guard's, then three its action's.
 fn operand_place(k: u32) -> usize
-    requires { ⌜ k < 5 ⌝ }
+    requires { ⌜ k < operandCount ⌝ }
     ensures { λ r. ⌜ r ≡ operandPlace k ⌝ }
 {
     if k < 2 {
-        return 2 + k as usize;
+        return field::FIRST + k as usize;
     }
     3 + k as usize
 }
 
 // Operand k of the branch in a row.
 pub fn operand_of(table: &[u8], row: usize, k: u32) -> u32
-    requires { ⌜ k < 5 ⌝ }
+    requires { ⌜ k < operandCount ⌝ }
     ensures { λ r. ⌜ r ≡ operand (tableOf (now (table .entry))) row k ⌝ }
     ensures { λ r. ⌜ r < 65536 ⌝ }
 {
@@ -93,9 +94,9 @@ pub fn role_of(table: &[u8], row: usize, k: u32) -> Role
     ensures { λ r. ⌜ r ≡ operandRole (tableOf (now (table .entry))) row k ⌝ }
 {
     if k < 2 {
-        return guard_role(cell(table, row, 1), k);
+        return guard_role(cell(table, row, field::GUARD), k);
     }
-    action_role(cell(table, row, 4), k - 2)
+    action_role(cell(table, row, field::ACTION), k - 2)
 }
 
 // Whether a role reads its slot.

@@ -1,4 +1,5 @@
--- The calls of the engine: their grounds in order, their answers, and the bytes that they leave.
+-- The calls of the engine, each on a state and then on buffers: their grounds in order, their answers, and what they leave.
+pub mod Laws
 use Prim.Native.Nat.{ℕ, zero, suc}
 use mathlib.Core.Bool.{Bool, not, _&&_, cond}
 use mathlib.Core.List.{List}
@@ -6,6 +7,7 @@ use lib.Dec.{ltb, eqb}
 use lib.ListN.{length}
 use Rattle.table.specs.Table.{Table, tableOf, ports}
 use Rattle.loader.specs.Load.{tableLength, accepted}
+use Rattle.state.specs.Words as Word
 use Rattle.state.specs.State.{State, maxThreads, stateLength, view, stateBytes, turn, thread, standsAt, isReady, withMark}
 use Rattle.rules.specs.Start.{started}
 use Rattle.rules.specs.Offers.{partnerOf}
@@ -45,7 +47,21 @@ pub record Outcome (A : Type 0) : Type 0 where
 abbrev pub outcome : {A : Type 0} → A → List ℕ → Outcome A
 outcome a b = record { answer = a; state = b }
 
+-- an answer, and the state after a call on a state
+pub record After (A : Type 0) : Type 0 where
+  pub answer : A
+  pub state : State
+
+abbrev pub afterwards : {A : Type 0} → A → State → After A
+afterwards a s = record { answer = a; state = s }
+
 -- ---- grounds 8, 9 and 10, in this order, of a table's buffer and a state's buffer
+
+-- further grounds are asked where none before them refuses
+unfoldable pub andThen : Admission → Admission → Admission
+andThen (Admission.Refused r) further = Admission.Refused r
+andThen Admission.Admitted further = further
+
 module _ (table state : List ℕ) where
   unfoldable pub lengthsRight : Bool
   lengthsRight = eqb (length table) tableLength && eqb (length state) stateLength
@@ -55,20 +71,25 @@ module _ (table state : List ℕ) where
   startAdmission = cond lengthsRight (cond (accepted table) Admission.Admitted (Admission.Refused Ground.Table)) (Admission.Refused Ground.Length)
 
   unfoldable pub admission : Admission
-  admission =
-      cond lengthsRight
-      (cond (accepted table)
-      (cond (sound (tableOf table) (view state)) Admission.Admitted (Admission.Refused Ground.State))
-      (Admission.Refused Ground.Table))
-      (Admission.Refused Ground.Length)
+  admission = andThen startAdmission (cond (sound (tableOf table) (view state)) Admission.Admitted (Admission.Refused Ground.State))
+
+-- ---- a call on buffers: its admission, and then the call on the state that the state's buffer holds
+
+-- a call that its admission refuses leaves every byte as it was; else the buffer gets the bytes of the state after the call
+unfoldable pub byAdmission : {A : Type 0} → (Refusal → A) → Admission → List ℕ → After A → Outcome A
+byAdmission refused (Admission.Refused r) state k = outcome (refused r) state
+byAdmission refused Admission.Admitted state k = outcome (k .answer) (stateBytes (k .state))
+
+-- every call but start is asked all three grounds
+unfoldable pub onBuffers : {A : Type 0} → (Refusal → A) → List ℕ → List ℕ → After A → Outcome A
+onBuffers refused table state k = byAdmission refused (admission table state) state k
 
 -- ---- start
-unfoldable pub startBy : Admission → List ℕ → List ℕ → Outcome Started
-startBy (Admission.Refused r) table state = outcome (Started.Refused r) state
-startBy Admission.Admitted table state = outcome Started.Done (stateBytes (started (tableOf table)))
+unfoldable pub startOn : Table → After Started
+startOn tb = afterwards Started.Done (started tb)
 
 unfoldable pub startCall : List ℕ → List ℕ → Outcome Started
-startCall table state = startBy (startAdmission table state) table state
+startCall table state = byAdmission Started.Refused (startAdmission table state) state (startOn (tableOf table))
 
 -- ---- step
 
@@ -84,60 +105,49 @@ stepAnswer n (Meets i u j) = Stepped.Done n (TookWith i u)
 stepAnswer n LacksThread = Stepped.Refused Ground.ThreadRow
 stepAnswer n LacksChannel = Stepped.Refused Ground.ChannelRow
 
--- a step that is refused leaves the bytes as they were
-unfoldable pub stepEnd : Stepped → List ℕ → State → Outcome Stepped
-stepEnd (Stepped.Done n d) state s = outcome (Stepped.Done n d) (stateBytes s)
-stepEnd (Stepped.Refused r) state s = outcome (Stepped.Refused r) state
+-- a step that is refused leaves the state s as it was, and one that is done leaves s′
+unfoldable pub stepEnd : Stepped → State → State → After Stepped
+stepEnd (Stepped.Done n d) s s′ = afterwards (Stepped.Done n d) s′
+stepEnd (Stepped.Refused r) s s′ = afterwards (Stepped.Refused r) s
 
 -- ground 11: the thread number is above 63, or the thread is not ready
 unfoldable pub canStep : State → ℕ → Bool
 canStep s t = ltb t maxThreads && isReady (thread s t)
 
-unfoldable pub stepBy : Admission → List ℕ → List ℕ → ℕ → Outcome Stepped
-stepBy (Admission.Refused r) table state t = outcome (Stepped.Refused r) state
-stepBy Admission.Admitted table state t =
-    cond (canStep (view state) t)
-    (stepEnd (stepAnswer (standsAt (thread (view state) t)) (move (tableOf table) (view state) t)) state
-    (perform (tableOf table) (view state) t (move (tableOf table) (view state) t)))
-    (outcome (Stepped.Refused Ground.Thread) state)
+unfoldable pub stepOn : Table → State → ℕ → After Stepped
+stepOn tb s t =
+    cond (canStep s t)
+    (stepEnd (stepAnswer (standsAt (thread s t)) (move tb s t)) s (perform tb s t (move tb s t)))
+    (afterwards (Stepped.Refused Ground.Thread) s)
 
 unfoldable pub stepCall : List ℕ → List ℕ → ℕ → Outcome Stepped
-stepCall table state t = stepBy (admission table state) table state t
+stepCall table state t = onBuffers Stepped.Refused table state (stepOn (tableOf table) (view state) t)
 
 -- ---- give and take: meetings with the bench, which is no thread and so has the number past the last
 abbrev pub bench : ℕ
 bench = maxThreads
 
-unfoldable pub givenTo : Partner → List ℕ → List ℕ → ℕ → Outcome Given
-givenTo Nobody table state v = outcome Given.Nobody state
-givenTo (At u j) table state v = outcome (Given.Met u) (stateBytes (metByBench (tableOf table) (view state) u j v))
+-- nothing changes where nobody is met
+unfoldable pub givenTo : Table → State → Partner → ℕ → After Given
+givenTo tb s Nobody v = afterwards Given.Nobody s
+givenTo tb s (At u j) v = afterwards (Given.Met u) (metByBench tb s u j v)
 
--- ground 12: the port is not below P
-unfoldable pub giveBy : Admission → List ℕ → List ℕ → ℕ → ℕ → Outcome Given
-giveBy (Admission.Refused r) table state p v = outcome (Given.Refused r) state
-giveBy Admission.Admitted table state p v =
-    cond (ltb p (ports (tableOf table)))
-    (givenTo (partnerOf (tableOf table) (view state) bench In p) table state v)
-    (outcome (Given.Refused Ground.Port) state)
+-- ground 12: the port is not below P. v is the number's 32-bit pattern
+unfoldable pub giveOn : Table → State → ℕ → ℕ → After Given
+giveOn tb s p v = cond (ltb p (ports tb)) (givenTo tb s (partnerOf tb s bench In p) v) (afterwards (Given.Refused Ground.Port) s)
 
--- v is the number's 32-bit pattern
 unfoldable pub giveCall : List ℕ → List ℕ → ℕ → ℕ → Outcome Given
-giveCall table state p v = giveBy (admission table state) table state p v
+giveCall table state p v = onBuffers Given.Refused table state (giveOn (tableOf table) (view state) p v)
 
-unfoldable pub takenFrom : Partner → List ℕ → List ℕ → Outcome Taken
-takenFrom Nobody table state = outcome Taken.Nobody state
-takenFrom (At u j) table state =
-    outcome (Taken.Met u (valueBy (tableOf table) (thread (view state) u) j)) (stateBytes (metByBench (tableOf table) (view state) u j 0))
+unfoldable pub takenFrom : Table → State → Partner → After Taken
+takenFrom tb s Nobody = afterwards Taken.Nobody s
+takenFrom tb s (At u j) = afterwards (Taken.Met u (valueBy tb (thread s u) j)) (metByBench tb s u j 0)
 
-unfoldable pub takeBy : Admission → List ℕ → List ℕ → ℕ → Outcome Taken
-takeBy (Admission.Refused r) table state p = outcome (Taken.Refused r) state
-takeBy Admission.Admitted table state p =
-    cond (ltb p (ports (tableOf table)))
-    (takenFrom (partnerOf (tableOf table) (view state) bench Out p) table state)
-    (outcome (Taken.Refused Ground.Port) state)
+unfoldable pub takeOn : Table → State → ℕ → After Taken
+takeOn tb s p = cond (ltb p (ports tb)) (takenFrom tb s (partnerOf tb s bench Out p)) (afterwards (Taken.Refused Ground.Port) s)
 
 unfoldable pub takeCall : List ℕ → List ℕ → ℕ → Outcome Taken
-takeCall table state p = takeBy (admission table state) table state p
+takeCall table state p = onBuffers Taken.Refused table state (takeOn (tableOf table) (view state) p)
 
 -- ---- run
 
@@ -150,7 +160,7 @@ nextReady s = around maxThreads (turn s) (isReadyThread s)
 
 -- the turn moves one past thread t
 unfoldable pub pastTurn : State → ℕ → State
-pastTurn s t = withMark s 2 (oneUp maxThreads t)
+pastTurn s t = withMark s Word.turn (oneUp maxThreads t)
 
 -- why a run ends where the step of thread t is refused: on ground 13 or 14 a row is lacking. On another ground there was no thread to step; a run
 -- does not come to that, since it steps a ready thread of a sound state
@@ -215,11 +225,8 @@ module _ (tb : Table) where
   courseOf zero s = course 0 AllDone s
   courseOf (suc n) s = onward (takeTurn s .turn) (takeTurn s .state) (courseOf n)
 
-unfoldable pub runBy : Admission → List ℕ → List ℕ → ℕ → Outcome Ran
-runBy (Admission.Refused r) table state n = outcome (Ran.Refused r) state
-runBy Admission.Admitted table state n =
-    outcome (Ran.Done (courseOf (tableOf table) n (view state) .steps) (courseOf (tableOf table) n (view state) .reason))
-    (stateBytes (courseOf (tableOf table) n (view state) .state))
+unfoldable pub runOn : Table → State → ℕ → After Ran
+runOn tb s n = afterwards (Ran.Done (courseOf tb n s .steps) (courseOf tb n s .reason)) (courseOf tb n s .state)
 
 unfoldable pub runCall : List ℕ → List ℕ → ℕ → Outcome Ran
-runCall table state n = runBy (admission table state) table state n
+runCall table state n = onBuffers Ran.Refused table state (runOn (tableOf table) (view state) n)

@@ -7,6 +7,7 @@ use lib.ListN.{set}
 use Rattle.numbers.specs.Search.{first}
 use Rattle.table.specs.Table.{Table}
 use Rattle.table.specs.Layout.{branchCount}
+use Rattle.state.specs.Words as Word
 use Rattle.state.specs.State.{State, maxThreads, maxChannels, threadMark, channelMark, thread, standsAt, slotOf, slotsOf, inUse, typeIn, channel, withMark, withThread, withChannel}
 use Rattle.rules.specs.Program.{typeAt, kindOf, callee, argument, branchAt, nextOf, childOf, fieldA, fieldB, actOf, guardHolds, assigned, opposite}
 use Rattle.rules.specs.Holding.{settled}
@@ -106,14 +107,14 @@ module _ (tb : Table) (s : State) (t : ℕ) where
 
 -- a thread's row as it goes on, ready, at node n; and as it waits
 unfoldable pub resumed : List ℕ → ℕ → List ℕ
-resumed row n = 1 ∷ n ∷ slotsOf row
+resumed row n = Word.ready ∷ n ∷ slotsOf row
 
 unfoldable pub waitingRow : List ℕ → List ℕ
-waitingRow row = 2 ∷ standsAt row ∷ slotsOf row
+waitingRow row = Word.waiting ∷ standsAt row ∷ slotsOf row
 
 -- a row with v in slot k
 unfoldable pub stored : List ℕ → ℕ → ℕ → List ℕ
-stored row k v = set row (2 + k) v
+stored row k v = set row (Word.slots + k) v
 
 -- the row after a meeting: the receiver has v in its slot b
 unfoldable pub met : Direction → List ℕ → ℕ → ℕ → ℕ → List ℕ
@@ -138,31 +139,31 @@ sideOf Assignment = Out
 
 -- a channel's row, typed
 unfoldable pub typed : State → ℕ → ℕ → State
-typed s c ty = withChannel s c (set (channel s c) 0 ty)
+typed s c ty = withChannel s c (set (channel s c) Word.type ty)
 
 module _ (tb : Table) where
-  -- a thread's row and the row of branch i of its node
+  -- what branch i of a thread's node, which stands in row `rowOf` of the table, makes of the thread's row
   module _ (row : List ℕ) (i : ℕ) where
     abbrev pub rowOf : ℕ
     rowOf = branchAt tb (standsAt row) i
 
-    -- ... after its branch i, alone
+    -- the thread's row after a branch that goes ahead alone
     unfoldable pub goneBy : List ℕ
     goneBy = gone (actOf tb rowOf) row (nextOf tb (standsAt row) rowOf) (fieldA tb rowOf) (assigned tb rowOf row)
 
-    -- ... after its branch i made channel c
+    -- the thread's row after a branch that made channel c
     unfoldable pub createdBy : ℕ → List ℕ
     createdBy c = stored (resumed row (nextOf tb (standsAt row) rowOf)) (fieldA tb rowOf) c
 
-    -- ... after its branch i met somebody who gave v
+    -- the thread's row after a meeting with somebody who gave v
     unfoldable pub metBy : ℕ → List ℕ
     metBy v = met (sideOf (actOf tb rowOf)) row (nextOf tb (standsAt row) rowOf) (fieldB tb rowOf) v
 
-    -- what it gives at a meeting by its branch i
+    -- what the thread gives at a meeting
     unfoldable pub valueBy : ℕ
     valueBy = slotOf row (fieldB tb rowOf)
 
-    -- the type of the channel that its branch i makes
+    -- the type of the channel that the branch makes
     unfoldable pub typeBy : ℕ
     typeBy = typeAt tb (standsAt row) (fieldA tb rowOf)
 
@@ -181,8 +182,8 @@ module _ (tb : Table) where
     written Waits = withThread s t (waitingRow (thread s t))
     written (Goes i) = withThread s t (goneBy (thread s t) i)
     written (Creates i c) =
-        withMark (typed (withThread s t (createdBy (thread s t) i c)) c (typeBy (thread s t) i)) 1 (oneUp maxChannels c)
-    written (Spawns i u) = withMark (spawnedBy s t i u) 0 (oneUp maxThreads u)
+        withMark (typed (withThread s t (createdBy (thread s t) i c)) c (typeBy (thread s t) i)) Word.channelMark (oneUp maxChannels c)
+    written (Spawns i u) = withMark (spawnedBy s t i u) Word.threadMark (oneUp maxThreads u)
     written (Meets i u j) =
         withThread (withThread s t (metBy (thread s t) i (valueBy (thread s u) j))) u (metBy (thread s u) j (valueBy (thread s t) i))
     written LacksThread = s

@@ -9,6 +9,7 @@ use mir.Syntax.{w32}
 use mir.Val.{toZ, ofZ}
 use Rattle.numbers.specs.Rows.{at}
 use Rattle.numbers.specs.Signed.{wrap, lower, widened}
+use Rattle.table.specs.Fields as Field
 use Rattle.table.specs.Table.{Table, nodeRow, branchRow, slotCount}
 use Rattle.table.specs.Layout.{start, definitionOf, slotType}
 use Rattle.table.specs.declared.Part.the-variants.{Nodes, Branches}
@@ -44,14 +45,14 @@ module _ (tb : Table) where
   -- ---- nodes: 0 end, 1 choice, 2 call
 
   abbrev pub kindOf : ℕ → ℕ
-  kindOf n = at tb (nodeRow tb + n) 1
+  kindOf n = at tb (nodeRow tb + n) Field.nodeKind
 
   -- of a call: the definition that is called, and the slot that gives parameter k
   abbrev pub callee : ℕ → ℕ
-  callee n = at tb (nodeRow tb + n) 2
+  callee n = at tb (nodeRow tb + n) Field.callee
 
   abbrev pub argument : ℕ → ℕ → ℕ
-  argument n k = at tb (nodeRow tb + n) (3 + k)
+  argument n k = at tb (nodeRow tb + n) (Field.arguments + k)
 
   -- ---- branches
 
@@ -61,44 +62,44 @@ module _ (tb : Table) where
 
   -- the node to which the branch in row r, of node n, leads on, and that of its child
   unfoldable pub nextOf : ℕ → ℕ → ℕ
-  nextOf n r = start tb Nodes (definitionOf tb n) + at tb r 8
+  nextOf n r = start tb Nodes (definitionOf tb n) + at tb r Field.next
 
   unfoldable pub childOf : ℕ → ℕ → ℕ
-  childOf n r = start tb Nodes (definitionOf tb n) + at tb r 9
+  childOf n r = start tb Nodes (definitionOf tb n) + at tb r Field.child
 
   module _ (r : ℕ) where
     -- the fields a, b and c of the branch in row r
     abbrev pub fieldA : ℕ
-    fieldA = at tb r 5
+    fieldA = at tb r Field.a
 
     abbrev pub fieldB : ℕ
-    fieldB = at tb r 6
+    fieldB = at tb r Field.b
 
     abbrev pub fieldC : ℕ
-    fieldC = at tb r 7
+    fieldC = at tb r Field.c
 
     unfoldable pub actOf : Act
     actOf =
-        cond (eqb (at tb r 4) 1) (Meeting Out)
-        (cond (eqb (at tb r 4) 2) (Meeting In)
-        (cond (eqb (at tb r 4) 3) New
-        (cond (eqb (at tb r 4) 4) Spawn
-        (cond (eqb (at tb r 4) 0) Tau Assignment))))
+        cond (eqb (at tb r Field.action) 1) (Meeting Out)
+        (cond (eqb (at tb r Field.action) 2) (Meeting In)
+        (cond (eqb (at tb r Field.action) 3) New
+        (cond (eqb (at tb r Field.action) 4) Spawn
+        (cond (eqb (at tb r Field.action) 0) Tau Assignment))))
 
     -- whether its guard is true of a thread's row: always; slot equals constant; slot below constant; two slots equal; first slot below second
     unfoldable pub guardHolds : List ℕ → Bool
     guardHolds row =
-        cond (eqb (at tb r 1) 0) true
-        (cond (eqb (at tb r 1) 1) (eqb (slotOf row (at tb r 2)) (widened (at tb r 3)))
-        (cond (eqb (at tb r 1) 2) (lower (slotOf row (at tb r 2)) (widened (at tb r 3)))
-        (cond (eqb (at tb r 1) 3) (eqb (slotOf row (at tb r 2)) (slotOf row (at tb r 3)))
-        (lower (slotOf row (at tb r 2)) (slotOf row (at tb r 3))))))
+        cond (eqb (at tb r Field.guard) 0) true
+        (cond (eqb (at tb r Field.guard) 1) (eqb (slotOf row (at tb r Field.first)) (widened (at tb r Field.second)))
+        (cond (eqb (at tb r Field.guard) 2) (lower (slotOf row (at tb r Field.first)) (widened (at tb r Field.second)))
+        (cond (eqb (at tb r Field.guard) 3) (eqb (slotOf row (at tb r Field.first)) (slotOf row (at tb r Field.second)))
+        (lower (slotOf row (at tb r Field.first)) (slotOf row (at tb r Field.second))))))
 
     -- what an assignment gives: the constant b, the sum of slots b and c, or their difference
     unfoldable pub assigned : List ℕ → ℕ
     assigned row =
-        cond (eqb (at tb r 4) 5) (widened fieldB)
-        (cond (eqb (at tb r 4) 6) (wrappedSum (slotOf row fieldB) (slotOf row fieldC))
+        cond (eqb (at tb r Field.action) 5) (widened fieldB)
+        (cond (eqb (at tb r Field.action) 6) (wrappedSum (slotOf row fieldB) (slotOf row fieldC))
         (wrappedDifference (slotOf row fieldB) (slotOf row fieldC)))
 
 -- the side that answers a direction

@@ -4,12 +4,12 @@ use mathlib.Core.Bool.{Bool, true, false, not, _&&_, _||_, cond}
 use mathlib.Core.List.{List}
 use lib.Dec.{ltb, leb, eqb}
 use lib.ListN.{getD}
-use Rattle.numbers.specs.Rows.{at}
 use Rattle.numbers.specs.Search.{every}
 use Rattle.table.specs.Table.{Table, nodes, ports, slotCount}
 use Rattle.table.specs.Layout.{definitionOf, branchCount, slotType}
 use Rattle.flow.specs.Flow.{mayLack}
-use Rattle.state.specs.State.{State, maxThreads, maxChannels, threadWords, rowSlots, minusOne, threadMark, channelMark, turn, thread, status, standsAt, slotOf, inUse, isWaiting, typeIn}
+use Rattle.state.specs.Words as Word
+use Rattle.state.specs.State.{State, maxThreads, maxChannels, threadWords, rowSlots, minusOne, threadMark, channelMark, turn, thread, status, standsAt, slotOf, inUse, isWaiting, typeIn, countIn, waitersIn}
 use Rattle.rules.specs.Program.{channelSlot, kindOf}
 use Rattle.rules.specs.Holding.{countOf, waiters}
 use Rattle.rules.specs.Moves.{ahead}
@@ -25,7 +25,7 @@ freeZero row = inUse row || every (λ k. eqb (getD row k 0) 0) threadWords
 module _ (tb : Table) where
   -- the status and, of a thread, the node are in range
   unfoldable pub rowInRange : List ℕ → Bool
-  rowInRange row = leb (status row) 2 && (not (inUse row) || ltb (standsAt row) (nodes tb))
+  rowInRange row = leb (status row) Word.waiting && (not (inUse row) || ltb (standsAt row) (nodes tb))
 
   -- slots past the definition's are 0
   unfoldable pub spareZero : List ℕ → Bool
@@ -55,9 +55,9 @@ module _ (tb : Table) where
     -- the counts of channel c are true, and it is in use exactly when its count is above 0
     unfoldable pub countTrue : ℕ → Bool
     countTrue c =
-        eqb (at (s .channels) c 1) (countOf tb (s .threads) c)
-        && (eqb (at (s .channels) c 2) (waiters tb (s .threads) c)
-        && cond (eqb (typeIn s c) 0) (eqb (at (s .channels) c 1) 0) (ltb 0 (at (s .channels) c 1)))
+        eqb (countIn s c) (countOf tb (s .threads) c)
+        && (eqb (waitersIn s c) (waiters tb (s .threads) c)
+        && cond (eqb (typeIn s c) 0) (eqb (countIn s c) 0) (ltb 0 (countIn s c)))
 
     -- the ports are in use, of type 1
     unfoldable pub portTyped : ℕ → Bool

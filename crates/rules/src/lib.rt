@@ -51,6 +51,7 @@ pub enum Admission {
     Refused(Refusal),
 }
 
+// What a start answers.
 pub enum Started {
     Done,
     Refused(Refusal),

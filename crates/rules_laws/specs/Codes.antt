@@ -6,6 +6,7 @@ use lib.Dec.{eqb}
 use borrow.Author.Tests.{lt-ltb, eqb-true, eqb-false, ne-eqb}
 use Rattle.numbers.specs.Rows.{at}
 use Rattle.numbers.specs.Search.Laws.{caseB}
+use Rattle.table.specs.Fields as Field
 use Rattle.table.specs.Table.{Table}
 use Rattle.table.specs.Roles.{actionRole, operandPlace, operand, operandRole, writes}
 use Rattle.table.specs.declared.Role.{Role}
@@ -30,23 +31,23 @@ withRole In = WriteCarried
 module _ (tb : Table) (r : ℕ) where
   -- the act, by its number
   data Coded : Type 0 where
-    tau : at tb r 4 ≡ 0 → actOf tb r ≡ Tau → Coded
-    out : at tb r 4 ≡ 1 → actOf tb r ≡ Meeting Out → Coded
-    inn : at tb r 4 ≡ 2 → actOf tb r ≡ Meeting In → Coded
-    new : at tb r 4 ≡ 3 → actOf tb r ≡ New → Coded
-    spawn : at tb r 4 ≡ 4 → actOf tb r ≡ Spawn → Coded
-    assignment : 5 ≤ at tb r 4 → actOf tb r ≡ Assignment → Coded
+    tau : at tb r Field.action ≡ 0 → actOf tb r ≡ Tau → Coded
+    out : at tb r Field.action ≡ 1 → actOf tb r ≡ Meeting Out → Coded
+    inn : at tb r Field.action ≡ 2 → actOf tb r ≡ Meeting In → Coded
+    new : at tb r Field.action ≡ 3 → actOf tb r ≡ New → Coded
+    spawn : at tb r Field.action ≡ 4 → actOf tb r ≡ Spawn → Coded
+    assignment : 5 ≤ at tb r Field.action → actOf tb r ≡ Assignment → Coded
 
   coded : Coded
   unfolding actOf
   coded =
-      caseB (eqb (at tb r 4) 1) (λ a. out (eqb-true (at tb r 4) 1 a) (rw a))
-      (λ a. caseB (eqb (at tb r 4) 2) (λ b. inn (eqb-true (at tb r 4) 2 b) (rw (a, b)))
-      (λ b. caseB (eqb (at tb r 4) 3) (λ c. new (eqb-true (at tb r 4) 3 c) (rw (a, b, c)))
-      (λ c. caseB (eqb (at tb r 4) 4) (λ d. spawn (eqb-true (at tb r 4) 4 d) (rw (a, b, c, d)))
-      (λ d. caseB (eqb (at tb r 4) 0) (λ e. tau (eqb-true (at tb r 4) 0 e) (rw (a, b, c, d, e)))
+      caseB (eqb (at tb r Field.action) 1) (λ a. out (eqb-true (at tb r Field.action) 1 a) (rw a))
+      (λ a. caseB (eqb (at tb r Field.action) 2) (λ b. inn (eqb-true (at tb r Field.action) 2 b) (rw (a, b)))
+      (λ b. caseB (eqb (at tb r Field.action) 3) (λ c. new (eqb-true (at tb r Field.action) 3 c) (rw (a, b, c)))
+      (λ c. caseB (eqb (at tb r Field.action) 4) (λ d. spawn (eqb-true (at tb r Field.action) 4 d) (rw (a, b, c, d)))
+      (λ d. caseB (eqb (at tb r Field.action) 0) (λ e. tau (eqb-true (at tb r Field.action) 0 e) (rw (a, b, c, d, e)))
       (λ e. assignment
-      (omega (arith, eqb-false (at tb r 4) 0 e, eqb-false (at tb r 4) 1 a, eqb-false (at tb r 4) 2 b, eqb-false (at tb r 4) 3 c, eqb-false (at tb r 4) 4 d))
+      (omega (arith, eqb-false (at tb r Field.action) 0 e, eqb-false (at tb r Field.action) 1 a, eqb-false (at tb r Field.action) 2 b, eqb-false (at tb r Field.action) 3 c, eqb-false (at tb r Field.action) 4 d))
       (rw (a, b, c, d, e)))))))
 
   -- ---- the operands of an act
@@ -79,11 +80,11 @@ module _ (tb : Table) (r : ℕ) where
   new-code (assignment c a) m = clash cc
 
   -- 5, or above 5
-  assigned-role : 5 ≤ at tb r 4 → operandRole tb r 2 ≡ WriteNumber
+  assigned-role : 5 ≤ at tb r Field.action → operandRole tb r 2 ≡ WriteNumber
   unfolding operandRole actionRole
   assigned-role c =
-      rw (ne-eqb (at tb r 4) 1 (λ e. omega arith), ne-eqb (at tb r 4) 2 (λ e. omega arith), ne-eqb (at tb r 4) 3 (λ e. omega arith))
-      (caseB (eqb (at tb r 4) 5) (λ e. rw e) (λ e. rw (e, lt-ltb 5 (at tb r 4) (omega (arith, eqb-false (at tb r 4) 5 e)))))
+      rw (ne-eqb (at tb r Field.action) 1 (λ e. omega arith), ne-eqb (at tb r Field.action) 2 (λ e. omega arith), ne-eqb (at tb r Field.action) 3 (λ e. omega arith))
+      (caseB (eqb (at tb r Field.action) 5) (λ e. rw e) (λ e. rw (e, lt-ltb 5 (at tb r Field.action) (omega (arith, eqb-false (at tb r Field.action) 5 e)))))
 
   assignment-code : Coded → actOf tb r ≡ Assignment → operandRole tb r 2 ≡ WriteNumber
   assignment-code (tau c a) m = clash cc
@@ -93,7 +94,7 @@ module _ (tb : Table) (r : ℕ) where
   assignment-code (spawn c a) m = clash cc
   assignment-code (assignment c a) m = assigned-role c
 
-  spawn-code : Coded → actOf tb r ≡ Spawn → at tb r 4 ≡ 4
+  spawn-code : Coded → actOf tb r ≡ Spawn → at tb r Field.action ≡ 4
   spawn-code (tau c a) m = clash cc
   spawn-code (out c a) m = clash cc
   spawn-code (inn c a) m = clash cc
@@ -101,7 +102,7 @@ module _ (tb : Table) (r : ℕ) where
   spawn-code (spawn c a) m = c
   spawn-code (assignment c a) m = clash cc
 
-  assigned-slot : 5 ≤ at tb r 4 → slotWritten tb r ≡ fieldA tb r
+  assigned-slot : 5 ≤ at tb r Field.action → slotWritten tb r ≡ fieldA tb r
   unfolding slotWritten operand operandPlace writes
   assigned-slot c = rw (assigned-role c)
 
@@ -131,7 +132,7 @@ module _ (tb : Table) (r : ℕ) where
   pub assigns-in : actOf tb r ≡ Assignment → operandRole tb r 2 ≡ WriteNumber
   assigns-in m = assignment-code coded m
 
-  pub spawns-by : actOf tb r ≡ Spawn → at tb r 4 ≡ 4
+  pub spawns-by : actOf tb r ≡ Spawn → at tb r Field.action ≡ 4
   spawns-by m = spawn-code coded m
 
   -- the slot that loading takes to be written is the one that the act writes

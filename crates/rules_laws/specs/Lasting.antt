@@ -1,21 +1,25 @@
--- A sound state stays sound: through every move, every meeting with the bench, every move of the turn, and every run. Assumes nothing but what the
--- table grants.
+-- A sound state stays sound: through every move, every meeting with the bench, every move of the turn, every run, and every call on a state. Assumes
+-- nothing but what the table grants.
 use Prim.Native.Nat.{ℕ, zero, suc, _<_}
 use native.Mathlib.Omega.{arith}
-use mathlib.Core.Path.{_≡_, ap, _∙_}
+use mathlib.Core.Path.{_≡_, refl, ap, _∙_}
 use mathlib.Core.Bool.{true}
 use lib.Dec.{ltb}
 use borrow.Author.Tests.{ltb-true}
 use Rattle.numbers.specs.Search.Laws.{caseB}
+use Rattle.numbers.specs.Tests.{parts}
 use Rattle.table.specs.Table.{Table, ports, carried}
 use Rattle.state.specs.State.{State, maxThreads, thread, standsAt, slotOf, isReady, typeIn, withMark}
 use Rattle.rules.specs.Program.{branchAt, fieldA}
 use Rattle.rules.specs.Offers.{partnerOf}
 use Rattle.rules.specs.Moves.{oneUp, metBy, move, written, perform, metByBench}
-use Rattle.rules.specs.Calls.{bench, nextReady, pastTurn, turnBy, Course, onward, oneMore, turnEnd, takeTurn, courseOf}
+use Rattle.rules.specs.Calls.{stepAnswer, stepEnd, canStep, stepOn, bench, givenTo, giveOn, takenFrom, takeOn, nextReady, pastTurn, turnBy, Course, onward, oneMore, turnEnd, takeTurn, courseOf, runOn}
 use Rattle.rules.specs.declared.Direction.{Direction}
 use Rattle.rules.specs.declared.Direction.the-variants.{Out, In}
-use Rattle.rules.specs.declared.Partner.the-variants.{At}
+use Rattle.rules.specs.declared.Partner.{Partner}
+use Rattle.rules.specs.declared.Partner.the-variants.{Nobody, At}
+use Rattle.rules.specs.declared.Stepped.{Stepped}
+use Rattle.rules.specs.declared.Stepped.the-variants as Stepped
 use Rattle.rules.specs.declared.Turn.{Turn}
 use Rattle.rules.specs.declared.Turn.the-variants.{Went, Stopped}
 use Rattle.upkeep.specs.Upkeep.{settled-mark}
@@ -107,3 +111,51 @@ pub course-kept : (tb : Table) → Granted tb → (n : ℕ) (s : State) → Soun
 unfolding courseOf
 course-kept tb g zero s ok = ok
 course-kept tb g (suc n) s ok = onward-kept tb g (takeTurn tb s .turn) (takeTurn tb s .state) (courseOf tb n) (take-turn-kept tb g s ok) (course-kept tb g n)
+
+-- ---- the calls on a state: each leaves a sound state sound
+
+module _ (tb : Table) (g : Granted tb) (s : State) (ok : Sound tb s) where
+  step-end-kept : (a : Stepped) (s′ : State) → Sound tb s′ → Sound tb (stepEnd a s s′ .state)
+  unfolding stepEnd
+  step-end-kept (Stepped.Done n d) s′ h = h
+  step-end-kept (Stepped.Refused r) s′ h = ok
+
+  stepped-kept : (t : ℕ) → canStep s t ≡ true → Sound tb (perform tb s t (move tb s t))
+  unfolding canStep
+  stepped-kept t e = move-kept tb g s ok t (ltb-true t maxThreads (search parts)) (search parts)
+
+  -- a step, of whatever thread
+  pub step-on-kept : (t : ℕ) → Sound tb (stepOn tb s t .state)
+  unfolding stepOn
+  step-on-kept t = caseB (canStep s t)
+      (λ e. rw e (step-end-kept (stepAnswer (standsAt (thread s t)) (move tb s t)) (perform tb s t (move tb s t)) (stepped-kept t e)))
+      (λ e. rw e ok)
+
+  given-kept : (p v : ℕ) → p < ports tb → v < 4294967296 → (m : Partner) → partnerOf tb s bench In p ≡ m → Sound tb (givenTo tb s m v .state)
+  unfolding givenTo
+  given-kept p v l h Nobody e = ok
+  given-kept p v l h (At u j) e = give-kept tb g s ok p v u j l h e
+
+  -- a give of a 32-bit number, on whatever port
+  pub give-on-kept : (p v : ℕ) → v < 4294967296 → Sound tb (giveOn tb s p v .state)
+  unfolding giveOn
+  give-on-kept p v h = caseB (ltb p (ports tb))
+      (λ e. rw e (given-kept p v (ltb-true p (ports tb) e) h (partnerOf tb s bench In p) refl))
+      (λ e. rw e ok)
+
+  taken-kept : (p : ℕ) → p < ports tb → (m : Partner) → partnerOf tb s bench Out p ≡ m → Sound tb (takenFrom tb s m .state)
+  unfolding takenFrom
+  taken-kept p l Nobody e = ok
+  taken-kept p l (At u j) e = take-kept tb g s ok p u j l e
+
+  -- a take, on whatever port
+  pub take-on-kept : (p : ℕ) → Sound tb (takeOn tb s p .state)
+  unfolding takeOn
+  take-on-kept p = caseB (ltb p (ports tb))
+      (λ e. rw e (taken-kept p (ltb-true p (ports tb) e) (partnerOf tb s bench Out p) refl))
+      (λ e. rw e ok)
+
+  -- a run of at most n steps
+  pub run-on-kept : (n : ℕ) → Sound tb (runOn tb s n .state)
+  unfolding runOn
+  run-on-kept n = course-kept tb g n s ok

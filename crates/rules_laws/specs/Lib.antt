@@ -20,8 +20,3 @@ pub mod Started
 pub mod Frames
 pub mod Held
 pub mod Learnt
-pub mod Entry
-pub mod Lacking
-pub mod Answers
-pub mod Bench
-pub mod Refusals

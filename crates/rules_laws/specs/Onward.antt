@@ -14,6 +14,7 @@ use Rattle.numbers.specs.Rows.{at}
 use Rattle.numbers.specs.Signed.{residue, wrap, widened}
 use Rattle.numbers.specs.Signed.Laws.{residue-below, sum-below}
 use Rattle.numbers.specs.Search.Laws.{caseB}
+use Rattle.table.specs.Fields as Field
 use Rattle.table.specs.Table.{Table, slotCount}
 use Rattle.table.specs.Layout.{branchCount, definitionOf}
 use Rattle.state.specs.State.{maxChannels, rowSlots, standsAt, slotOf, inUse, isReady}
@@ -75,9 +76,9 @@ wrapped-small z =
 assigned-small : (tb : Table) → Granted tb → (r : ℕ) (row : List ℕ) → assigned tb r row < 4294967296
 unfolding assigned wrappedSum wrappedDifference
 assigned-small tb g r row =
-    caseB (eqb (at tb r 4) 5)
+    caseB (eqb (at tb r Field.action) 5)
     (λ e. rw e (widened-small (fieldB tb r) (g .small r 6)))
-    (λ e. rw e (caseB (eqb (at tb r 4) 6)
+    (λ e. rw e (caseB (eqb (at tb r Field.action) 6)
     (λ f. rw f (wrapped-small (toZ w32 (slotOf row (fieldB tb r)) +ℤ toZ w32 (slotOf row (fieldC tb r)))))
     (λ f. rw f (wrapped-small (toZ w32 (slotOf row (fieldB tb r)) -ℤ toZ w32 (slotOf row (fieldC tb r)))))))
 

@@ -14,7 +14,7 @@ use Rattle.table.specs.Table.{Table, ports, parameters}
 use Rattle.table.specs.Layout.{start}
 use Rattle.table.specs.declared.Part.the-variants.{Nodes}
 use Rattle.state.specs.State.{State, maxThreads, maxChannels, thread, channel, isWaiting, typeIn}
-use Rattle.rules.specs.Start.{freeRow, entered, portRow, started}
+use Rattle.rules.specs.Start.{freeRow, entered, portRow, opening, started}
 use Rattle.rules_laws.specs.Granted.{Granted}
 use Rattle.rules_laws.specs.Shape.{Shaped}
 use Rattle.rules_laws.specs.Reading.Laws.{offers-elim}
@@ -43,14 +43,7 @@ module _ (tb : Table) where
 
   -- ---- the state before the count
 
-  abbrev opening : State
-  opening = record {
-    marks = 1 ∷ ports tb ∷ 0 ∷ [];
-    threads = entered tb 0 (λ k. k) ∷ replicate 63 freeRow;
-    channels = tabulate maxChannels (portRow tb);
-  }
-
-  opening-channel : (c : ℕ) → c < maxChannels → channel opening c ≡ portRow tb c
+  opening-channel : (c : ℕ) → c < maxChannels → channel (opening tb) c ≡ portRow tb c
   opening-channel c l = getD-tabulate maxChannels c (portRow tb) [] l
 
 module _ (tb : Table) (g : Granted tb) where

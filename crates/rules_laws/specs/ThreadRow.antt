@@ -12,6 +12,7 @@ use lib.Seq.{getD-set-same, getD-set-other, getD-drop}
 use borrow.Author.Tests.{eqb-true, eqb-false}
 use Rattle.numbers.specs.Rows.{at}
 use Rattle.numbers.specs.Search.Laws.{caseB, contra}
+use Rattle.table.specs.Fields as Field
 use Rattle.table.specs.Table.{Table, maxNodes, nodes, slotCount}
 use Rattle.table.specs.Layout.{branchCount, definitionOf, slotType}
 use Rattle.flow.specs.Flow.{mayLack}
@@ -81,7 +82,7 @@ module _ (row : List ℕ) where
   -- guards look at slots alone
   pub waiting-guard : (tb : Table) (r : ℕ) → guardHolds tb r (waitingRow row) ≡ guardHolds tb r row
   unfolding guardHolds
-  waiting-guard tb r = rw (waiting-slot (at tb r 2), waiting-slot (at tb r 3))
+  waiting-guard tb r = rw (waiting-slot (at tb r Field.first), waiting-slot (at tb r Field.second))
 
 -- ---- the words of a row with v in slot b
 

@@ -12,28 +12,18 @@ ghost use Rattle.state.specs.State.{stateOf, maxThreads, maxChannels, threadWor
 ghost use Rattle.rules.specs.Holding.{countOf, holders, waiters};
 ghost use Rattle.rules.specs.Sound.{marksInRange, countTrue, portTyped, sound};
 ghost use Rattle.sound.specs.SoundRows.{wordZero, slotSound, rowSound};
+use table::field;
 
-const THREADS: u32 = 64;
-
-const CHANNELS: u32 = 128;
-
-const THREAD_WORDS: u32 = 18;
-
-const ROW_SLOTS: u32 = 16;
-
-const MINUS_ONE: u32 = 4294967295;
-
-const WAITING: u32 = 2;
-
+// Every port has this type.
 const PORT_TYPE: u32 = 1;
 
 // Whether the marks and the turn are in range.
 fn marks_in_range(state: &[u32; state::WORDS]) -> bool
     ensures { λ r. ⌜ r ≡ marksInRange (stateOf (now (state .entry))) ⌝ }
 {
-    if state::mark(state, 0) < THREADS {
-        if state::mark(state, 1) < CHANNELS {
-            return state::mark(state, 2) < THREADS;
+    if state::mark(state, state::THREAD_MARK) < state::THREADS {
+        if state::mark(state, state::CHANNEL_MARK) < state::CHANNELS {
+            return state::mark(state, state::TURN) < state::THREADS;
         }
     }
     false
@@ -62,11 +52,11 @@ fn slot_sound(
         if ty == 0 {
             return true;
         }
-        if v == MINUS_ONE {
+        if v == state::MINUS_ONE {
             return flow::is_marked(marks, n as usize, k);
         }
-        if v < CHANNELS {
-            return state::channel_word(state, v as usize, 0) == ty;
+        if v < state::CHANNELS {
+            return state::channel_word(state, v as usize, state::TYPE) == ty;
         }
         return false;
     }
@@ -89,7 +79,7 @@ fn slots_sound(
     requires { ⌜ d ≡ definitionOf (tableOf (now table)) n ⌝ }
     ensures { λ r. ⌜ r ≡ every (slotSound (tableOf (now (table .entry))) (stateOf (now (state .entry))) (thread (stateOf (now (state .entry))) t)) rowSlots ⌝ }
 {
-    for k in 0..ROW_SLOTS {
+    for k in 0..state::SLOTS {
         if !slot_sound(table, index, marks, state, t, n, d, k) {
             return false;
         }
@@ -101,8 +91,8 @@ fn slots_sound(
 fn row_is_zero(state: &[u32; state::WORDS], t: u32) -> bool
     ensures { λ r. ⌜ r ≡ every (wordZero (thread (stateOf (now (state .entry))) t)) threadWords ⌝ }
 {
-    for k in 0..THREAD_WORDS {
-        if state::thread_word(state, t as usize, k as usize) != 0 {
+    for k in 0..state::THREAD_WORDS {
+        if state::thread_word(state, t as usize, k) != 0 {
             return false;
         }
     }
@@ -121,15 +111,15 @@ fn row_sound(
     requires { ⌜ marksOf (now marks) ≡ flow (tableOf (now table)) ⌝ }
     ensures { λ r. ⌜ r ≡ rowSound (tableOf (now (table .entry))) (stateOf (now (state .entry))) (thread (stateOf (now (state .entry))) t) ⌝ }
 {
-    let status = state::thread_word(state, t as usize, 0);
-    if status == 0 {
+    let status = state::thread_word(state, t as usize, state::STATUS);
+    if status == state::FREE {
         return row_is_zero(state, t);
     }
-    if WAITING < status {
+    if state::WAITING < status {
         return false;
     }
-    let n = state::thread_word(state, t as usize, 1);
-    if n < table::cell_of(table, index, 0, 4) {
+    let n = state::thread_word(state, t as usize, state::NODE);
+    if n < table::cell_of(table, index, 0, field::NODES) {
         return slots_sound(
             table,
             index,
@@ -149,7 +139,7 @@ fn rows_sound(table: &[u8], index: &[u32], marks: &[u32], state: &[u32; state::W
     requires { ⌜ marksOf (now marks) ≡ flow (tableOf (now table)) ⌝ }
     ensures { λ r. ⌜ r ≡ every (λ t. rowSound (tableOf (now (table .entry))) (stateOf (now (state .entry))) (thread (stateOf (now (state .entry))) t)) maxThreads ⌝ }
 {
-    for t in 0..THREADS {
+    for t in 0..state::THREADS {
         if !row_sound(table, index, marks, state, t) {
             return false;
         }
@@ -162,7 +152,7 @@ fn threads_sound(table: &[u8], index: &[u32], state: &[u32; state::WORDS]) -> bo
     requires { ⌜ Indexed (tableOf (now table)) (now index) ⌝ }
     ensures { λ r. ⌜ r ≡ every (λ t. rowSound (tableOf (now (table .entry))) (stateOf (now (state .entry))) (thread (stateOf (now (state .entry))) t)) maxThreads ⌝ }
 {
-    let mut marks = [0u32; 192];
+    let mut marks = [0u32; table::MAX_NODES as usize];
     flow::mark_flow(table, index, &mut marks);
     rows_sound(table, index, &marks, state)
 }
@@ -174,7 +164,7 @@ fn count_due(table: &[u8], state: &[u32; state::WORDS], held: &[u8], c: u32) -> 
     ensures { λ r. ⌜ r ≡ countOf (tableOf (now (table .entry))) (stateOf (now (state .entry)) .threads) c ⌝ }
 {
     let n = recount::byte_at(held, c) as u32;
-    if c < table::cell(table, 0, 6) {
+    if c < table::cell(table, 0, field::PORTS) {
         return 1 + n;
     }
     n
@@ -193,14 +183,16 @@ fn channel_sound(
     requires { ⌜ c < maxChannels ⌝ }
     ensures { λ r. ⌜ r ≡ countTrue (tableOf (now (table .entry))) (stateOf (now (state .entry))) c ⌝ }
 {
-    let count = state::channel_word(state, c as usize, 1);
+    let count = state::channel_word(state, c as usize, state::COUNT);
     if count != count_due(table, state, held, c) {
         return false;
     }
-    if state::channel_word(state, c as usize, 2) != recount::byte_at(waiting, c) as u32 {
+    if state::channel_word(state, c as usize, state::WAITERS)
+        != recount::byte_at(waiting, c) as u32
+    {
         return false;
     }
-    if state::channel_word(state, c as usize, 0) == 0 {
+    if state::channel_word(state, c as usize, state::TYPE) == 0 {
         return count == 0;
     }
     0 < count
@@ -212,7 +204,7 @@ fn channels_sound(table: &[u8], state: &[u32; state::WORDS], held: &[u8], waitin
     requires { ⌜ now waiting ≡ tabulate maxChannels (waiters (tableOf (now table)) (stateOf (now state) .threads)) ⌝ }
     ensures { λ r. ⌜ r ≡ every (countTrue (tableOf (now (table .entry))) (stateOf (now (state .entry)))) maxChannels ⌝ }
 {
-    for c in 0..CHANNELS {
+    for c in 0..state::CHANNELS {
         if !channel_sound(table, state, held, waiting, c) {
             return false;
         }
@@ -225,8 +217,8 @@ fn counts_sound(table: &[u8], index: &[u32], state: &[u32; state::WORDS]) -> boo
     requires { ⌜ Indexed (tableOf (now table)) (now index) ⌝ }
     ensures { λ r. ⌜ r ≡ every (countTrue (tableOf (now (table .entry))) (stateOf (now (state .entry)))) maxChannels ⌝ }
 {
-    let mut held = [0u8; 128];
-    let mut waiting = [0u8; 128];
+    let mut held = [0u8; state::CHANNELS as usize];
+    let mut waiting = [0u8; state::CHANNELS as usize];
     recount::tally(table, index, state, &mut held, &mut waiting);
     channels_sound(table, state, &held, &waiting)
 }
@@ -235,9 +227,9 @@ fn counts_sound(table: &[u8], index: &[u32], state: &[u32; state::WORDS]) -> boo
 fn ports_sound(table: &[u8], state: &[u32; state::WORDS]) -> bool
     ensures { λ r. ⌜ r ≡ every (portTyped (tableOf (now (table .entry))) (stateOf (now (state .entry)))) (ports (tableOf (now (table .entry)))) ⌝ }
 {
-    let n = table::cell(table, 0, 6);
+    let n = table::cell(table, 0, field::PORTS);
     for c in 0..n {
-        if state::channel_word(state, c as usize, 0) != PORT_TYPE {
+        if state::channel_word(state, c as usize, state::TYPE) != PORT_TYPE {
             return false;
         }
     }

@@ -6,41 +6,35 @@ ghost use Rattle.table.specs.Table.{tableOf};
 ghost use Rattle.table.specs.Index.{Indexed};
 ghost use lib.ListN.{replicate};
 ghost use Rattle.numbers.specs.Search.{tabulate};
-ghost use Rattle.state.specs.State.{stateOf, rowSlots, withThread, withChannel};
+ghost use Rattle.state.specs.State.{maxChannels, stateOf, rowSlots, withThread, withChannel};
 ghost use Rattle.rules.specs.Start.{entered, started};
 ghost use Rattle.starts.specs.Opening.{portHeld, freed, opened, marked, unstarted, portAt};
 use table::Part;
-
-const THREADS: u32 = 64;
-
-const CHANNELS: u32 = 128;
-
-const ROW_SLOTS: u32 = 16;
 
 // Every thread row is free.
 fn free_threads(state: &mut [u32; state::WORDS])
     ensures { λ _. ⌜ stateOf (now (state .exit)) ≡ freed (stateOf (now (state .entry))) ⌝ }
 {
-    for t in 0..THREADS {
+    for t in 0..state::THREADS {
         thread_rows::write_free(state, t);
     }
 }
 
 // Channel c's row: its type, its count, and no waiting holder.
 fn put_channel_row(state: &mut [u32; state::WORDS], c: u32, ty: u32, n: u32)
-    requires { ⌜ c < 128 ⌝ }
+    requires { ⌜ c < maxChannels ⌝ }
     ensures { λ _. ⌜ stateOf (now (state .exit)) ≡ withChannel (stateOf (now (state .entry))) c (ty ∷ n ∷ 0 ∷ []) ⌝ }
 {
     // As a slice the state tells its length, as in `thread_rows::put_head`.
     let words: &[u32] = state;
-    state::put_channel(state, c as usize, 0, ty);
-    state::put_channel(state, c as usize, 1, n);
-    state::put_channel(state, c as usize, 2, 0);
+    state::put_channel(state, c as usize, state::TYPE, ty);
+    state::put_channel(state, c as usize, state::COUNT, n);
+    state::put_channel(state, c as usize, state::WAITERS, 0);
 }
 
 // Channel c where this many channels are ports: a port is of type 1 and held by the bench, any other channel is free.
 fn open_channel(state: &mut [u32; state::WORDS], c: u32, ports: u32)
-    requires { ⌜ c < 128 ⌝ }
+    requires { ⌜ c < maxChannels ⌝ }
     ensures { λ _. ⌜ stateOf (now (state .exit)) ≡ withChannel (stateOf (now (state .entry))) c (portHeld ports c) ⌝ }
 {
     if c < ports {
@@ -54,7 +48,7 @@ fn open_channel(state: &mut [u32; state::WORDS], c: u32, ports: u32)
 fn open_ports(state: &mut [u32; state::WORDS], ports: u32)
     ensures { λ _. ⌜ stateOf (now (state .exit)) ≡ opened (stateOf (now (state .entry))) ports ⌝ }
 {
-    for c in 0..CHANNELS {
+    for c in 0..state::CHANNELS {
         open_channel(state, c, ports);
     }
 }
@@ -65,16 +59,16 @@ fn put_marks(state: &mut [u32; state::WORDS], ports: u32)
 {
     // As a slice the state tells its length, as in `thread_rows::put_head`.
     let words: &[u32] = state;
-    state::put_mark(state, 0, 1);
-    state::put_mark(state, 1, ports);
-    state::put_mark(state, 2, 0);
+    state::put_mark(state, state::THREAD_MARK, 1);
+    state::put_mark(state, state::CHANNEL_MARK, ports);
+    state::put_mark(state, state::TURN, 0);
 }
 
 // The state before thread 0 has its row: the bench alone holds the ports.
 fn write_unstarted(table: &[u8], state: &mut [u32; state::WORDS])
     ensures { λ _. ⌜ stateOf (now (state .exit)) ≡ unstarted (tableOf (now (table .entry))) ⌝ }
 {
-    let ports = table::cell(table, 0, 6);
+    let ports = table::cell(table, 0, table::field::PORTS);
     free_threads(state);
     open_ports(state, ports);
     put_marks(state, ports);
@@ -97,7 +91,7 @@ fn port_slots(table: &[u8], index: &[u32], slots: &mut [u32; thread_rows::SLOTS]
     requires { ⌜ now slots ≡ replicate rowSlots 0 ⌝ }
     ensures { λ _. ⌜ now (slots .exit) ≡ tabulate rowSlots (portAt (tableOf (now (table .entry)))) ⌝ }
 {
-    for k in 0..ROW_SLOTS {
+    for k in 0..state::SLOTS {
         numbers::put_cell(slots, k as usize, port_slot(table, index, k));
     }
 }

@@ -5,23 +5,65 @@ ghost use Rattle.numbers.specs.Bytes.{words};
 ghost use Rattle.numbers.specs.Rows.{at};
 ghost use Rattle.state.specs.State.{stateOf, stateBytes, stateWords, stateLength, thread, channel, withMark, withThread, withChannel};
 
-// All its words.
+// The words of a state, and the bytes of its buffer.
 pub const WORDS: usize = 1539;
 
+pub const BYTES: usize = 6156;
+
+// Threads and channels are numbered from 0 to below these. No channel is told by the number past the last, and an empty channel slot has the pattern of -1.
+pub const THREADS: u32 = 64;
+
+pub const CHANNELS: u32 = 128;
+
+pub const NO_CHANNEL: u8 = CHANNELS as u8;
+
+pub const MINUS_ONE: u32 = 4294967295;
+
+// The slots of a thread's row.
+pub const SLOTS: u32 = 16;
+
+// The words of a thread's row: its status, its node, then its slots.
+pub const THREAD_WORDS: usize = 18;
+
+pub const STATUS: usize = 0;
+
+pub const NODE: usize = 1;
+
+pub const FIRST_SLOT: usize = 2;
+
+// The statuses of a thread.
+pub const FREE: u32 = 0;
+
+pub const READY: u32 = 1;
+
+pub const WAITING: u32 = 2;
+
+// The words of a channel's row: its type, which is 0 where the channel is free, its count and its count of waiting holders.
+pub const CHANNEL_WORDS: usize = 3;
+
+pub const TYPE: usize = 0;
+
+pub const COUNT: usize = 1;
+
+pub const WAITERS: usize = 2;
+
+// The marks: of the threads, of the channels, and the turn.
+pub const THREAD_MARK: usize = 0;
+
+pub const CHANNEL_MARK: usize = 1;
+
+pub const TURN: usize = 2;
+
+// The number of marks, of thread rows and of channel rows, and the word at which the channel rows begin.
 const MARKS: usize = 3;
 
-const THREADS: usize = 64;
+const THREAD_ROWS: usize = THREADS as usize;
 
-const THREAD_WORDS: usize = 18;
+const CHANNEL_ROWS: usize = CHANNELS as usize;
 
-const CHANNELS: usize = 128;
+const CHANNELS_FROM: usize = MARKS + THREAD_ROWS * THREAD_WORDS;
 
-const CHANNEL_WORDS: usize = 3;
-
-// The word at which the channel rows begin.
-const CHANNELS_FROM: usize = 1155;
-
-// Mark i: 0 of the threads, 1 of the channels, 2 the turn.
+// Mark i; 0 where there is none.
 pub fn mark(state: &[u32; WORDS], i: usize) -> u32
     ensures { λ r. ⌜ r ≡ getD (stateOf (now (state .entry)) .marks) i 0 ⌝ }
 {
@@ -31,6 +73,7 @@ pub fn mark(state: &[u32; WORDS], i: usize) -> u32
     0
 }
 
+// Mark i becomes v.
 pub fn put_mark(state: &mut [u32; WORDS], i: usize, v: u32)
     ensures { λ _. ⌜ stateOf (now (state .exit)) ≡ withMark (stateOf (now (state .entry))) i v ⌝ }
 {
@@ -39,11 +82,11 @@ pub fn put_mark(state: &mut [u32; WORDS], i: usize, v: u32)
     }
 }
 
-// Word k of thread t's row: 0 its status, 1 its node, then its slots.
+// Word k of thread t's row; 0 where there is none.
 pub fn thread_word(state: &[u32; WORDS], t: usize, k: usize) -> u32
     ensures { λ r. ⌜ r ≡ at (stateOf (now (state .entry)) .threads) t k ⌝ }
 {
-    if t < THREADS {
+    if t < THREAD_ROWS {
         if k < THREAD_WORDS {
             return numbers::cell_at(state, MARKS + t * THREAD_WORDS + k);
         }
@@ -51,21 +94,22 @@ pub fn thread_word(state: &[u32; WORDS], t: usize, k: usize) -> u32
     0
 }
 
+// Word k of thread t's row becomes v.
 pub fn put_thread(state: &mut [u32; WORDS], t: usize, k: usize, v: u32)
     ensures { λ _. ⌜ stateOf (now (state .exit)) ≡ withThread (stateOf (now (state .entry))) t (set (thread (stateOf (now (state .entry))) t) k v) ⌝ }
 {
-    if t < THREADS {
+    if t < THREAD_ROWS {
         if k < THREAD_WORDS {
             numbers::put_cell(state, MARKS + t * THREAD_WORDS + k, v);
         }
     }
 }
 
-// Word k of channel c's row: 0 its type, 1 its count, 2 its count of waiting holders.
+// Word k of channel c's row; 0 where there is none.
 pub fn channel_word(state: &[u32; WORDS], c: usize, k: usize) -> u32
     ensures { λ r. ⌜ r ≡ at (stateOf (now (state .entry)) .channels) c k ⌝ }
 {
-    if c < CHANNELS {
+    if c < CHANNEL_ROWS {
         if k < CHANNEL_WORDS {
             return numbers::cell_at(state, CHANNELS_FROM + c * CHANNEL_WORDS + k);
         }
@@ -73,17 +117,18 @@ pub fn channel_word(state: &[u32; WORDS], c: usize, k: usize) -> u32
     0
 }
 
+// Word k of channel c's row becomes v.
 pub fn put_channel(state: &mut [u32; WORDS], c: usize, k: usize, v: u32)
     ensures { λ _. ⌜ stateOf (now (state .exit)) ≡ withChannel (stateOf (now (state .entry))) c (set (channel (stateOf (now (state .entry))) c) k v) ⌝ }
 {
-    if c < CHANNELS {
+    if c < CHANNEL_ROWS {
         if k < CHANNEL_WORDS {
             numbers::put_cell(state, CHANNELS_FROM + c * CHANNEL_WORDS + k, v);
         }
     }
 }
 
-// The words of a buffer.
+// The words of a state out of its buffer.
 pub fn read(buffer: &[u8], state: &mut [u32])
     requires { ⌜ length (now buffer) ≡ stateLength ⌝ }
     requires { ⌜ length (now state) ≡ stateWords ⌝ }
@@ -94,12 +139,12 @@ pub fn read(buffer: &[u8], state: &mut [u32])
     }
 }
 
-// A buffer gets these words.
+// The words of a state into its buffer.
 pub fn write(state: &[u32; WORDS], buffer: &mut [u8])
     requires { ⌜ length (now buffer) ≡ stateLength ⌝ }
     ensures { λ _. ⌜ now (buffer .exit) ≡ stateBytes (stateOf (now (state .entry))) ⌝ }
 {
-    // as a slice the state tells its length
+    // A slice knows its length, which an array behind a reference does not tell.
     let words: &[u32] = state;
     for i in 0..WORDS {
         numbers::put_word(buffer, i, words[i]);

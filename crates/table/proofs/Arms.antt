@@ -3,6 +3,7 @@ use Prim.Native.Nat.{ℕ, _+_}
 use mathlib.Core.Path.{_≡_}
 use borrow.Author.Tests.{ne-eqb}
 use Rattle.numbers.specs.Rows.{at}
+use Rattle.table.specs.Fields as Field
 use Rattle.table.specs.Table.{Table, nodeRow}
 use Rattle.table.specs.Layout.{blocks, lines, size, branchCount}
 use Rattle.table.specs.declared.Part.{Part}
@@ -22,8 +23,8 @@ module _ (tb : Table) (r b x i k : ℕ) (e : b ≡ x) where
   pub row-read : r ≡ at tb (b + i) k → r ≡ at tb (x + i) k
   row-read g = rw (← e) g
 
-module _ (tb : Table) (n b a : ℕ) (e : b ≡ nodeRow tb) (f : a ≡ at tb (b + n) 1) where
-  pub count-choice : (r : ℕ) → a ≡ 1 → r ≡ at tb (b + n) 2 → r ≡ branchCount tb n
+module _ (tb : Table) (n b a : ℕ) (e : b ≡ nodeRow tb) (f : a ≡ at tb (b + n) Field.nodeKind) where
+  pub count-choice : (r : ℕ) → a ≡ 1 → r ≡ at tb (b + n) Field.ownBranches → r ≡ branchCount tb n
   unfolding branchCount
   count-choice r h g = rw (← e, ← f, h) g
 

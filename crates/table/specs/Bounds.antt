@@ -14,7 +14,8 @@ use Rattle.numbers.specs.Rows.{at}
 use Rattle.numbers.specs.Rows.Laws.{at-in, at-out, at-row-out}
 use Rattle.numbers.specs.Search.{sumTo}
 use Rattle.numbers.specs.Search.Laws.{caseB, sum-none, sum-suc}
-use Rattle.table.specs.Table.{tableOf, nodeRow, definitionRow}
+use Rattle.table.specs.Fields as Field
+use Rattle.table.specs.Table.{tableOf, maxRows, rowNumbers, maxNodes, nodeRow, definitionRow}
 use Rattle.table.specs.Layout.{blocks, size, branchCount, start}
 use Rattle.table.specs.Index.{Indexed}
 use Rattle.table.specs.Form.Laws.{Counts, header-counts}
@@ -24,33 +25,33 @@ use Rattle.table.specs.declared.Part.the-variants.{Slots, Nodes, Branche
 module _ (b : List ℕ) (f : (i : ℕ) → Fits w8 (getD b i 0)) where
   -- every number has 16 bits
   pub cell-fits : (r k : ℕ) → at (tableOf b) r k < 65536
-  cell-fits r k = row (decLt r 865)
+  cell-fits r k = row (decLt r maxRows)
     where
       number : (i : ℕ) → getD (shorts b) i 0 < 65536
       number i = numbers-fit 2 b (bytes-fit b f) i
 
-      column : Dec (k < 12) → r < 865 → at (tableOf b) r k < 65536
-      column (yes h) l = rw (at-in 865 12 (shorts b) r k l h) (number (r * 12 + k))
-      column (no h) l = rw (at-out 865 12 (shorts b) r k l (omega arith)) (omega arith)
+      column : Dec (k < rowNumbers) → r < maxRows → at (tableOf b) r k < 65536
+      column (yes h) l = rw (at-in maxRows rowNumbers (shorts b) r k l h) (number (r * rowNumbers + k))
+      column (no h) l = rw (at-out maxRows rowNumbers (shorts b) r k l (omega arith)) (omega arith)
 
-      row : Dec (r < 865) → at (tableOf b) r k < 65536
-      row (yes h) = column (decLt k 12) h
-      row (no h) = rw (at-row-out 865 12 (shorts b) r k (omega arith)) (omega arith)
+      row : Dec (r < maxRows) → at (tableOf b) r k < 65536
+      row (yes h) = column (decLt k rowNumbers) h
+      row (no h) = rw (at-row-out maxRows rowNumbers (shorts b) r k (omega arith)) (omega arith)
 
   size-fits : (p : Part) (i : ℕ) → size (tableOf b) p i < 65536
   unfolding size branchCount
-  size-fits Slots i = cell-fits (definitionRow (tableOf b) + i) 2
-  size-fits Nodes i = cell-fits (definitionRow (tableOf b) + i) 3
+  size-fits Slots i = cell-fits (definitionRow (tableOf b) + i) Field.ownSlots
+  size-fits Nodes i = cell-fits (definitionRow (tableOf b) + i) Field.ownNodes
   size-fits Branches i =
-      caseB (eqb (at (tableOf b) (nodeRow (tableOf b) + i) 1) 1)
-      (λ t. rw t (cell-fits (nodeRow (tableOf b) + i) 2))
+      caseB (eqb (at (tableOf b) (nodeRow (tableOf b) + i) Field.nodeKind) 1)
+      (λ t. rw t (cell-fits (nodeRow (tableOf b) + i) Field.ownBranches))
       (λ e. rw e (omega arith))
 
   sum-few : (p : Part) (i : ℕ) → sumTo (size (tableOf b) p) i ≤ i * 65535
   sum-few p zero = omega (arith, sum-none (size (tableOf b) p))
   sum-few p (suc i) = omega (arith, sum-suc (size (tableOf b) p) i, sum-few p i, size-fits p i)
 
-  blocks-few : (p : Part) → Counts (tableOf b) → blocks (tableOf b) p ≤ 192
+  blocks-few : (p : Part) → Counts (tableOf b) → blocks (tableOf b) p ≤ maxNodes
   unfolding blocks
   blocks-few Slots c = omega arith
   blocks-few Nodes c = omega arith

@@ -5,6 +5,7 @@ use mathlib.Core.Bool.{Bool, not, _&&_, cond}
 use lib.Dec.{ltb, leb, eqb}
 use Rattle.numbers.specs.Rows.{at}
 use Rattle.numbers.specs.Search.{sumTo}
+use Rattle.table.specs.Fields as Field
 use Rattle.table.specs.Table.{Table, maxTypes, maxDefinitions, maxSlots, maxNodes, maxBranches, maxPorts, types, definitions, slots, nodes, branches, ports, definitionRow, slotRow, nodeRow, branchRow}
 use Rattle.table.specs.Layout.{blocks, lines, size}
 use Rattle.table.specs.declared.Part.{Part}
@@ -41,7 +42,7 @@ module _ (tb : Table) where
       (cond (ltb r (branchRow tb)) 5 6))))
 
   unfoldable pub kindWrong : ℕ → Bool
-  kindWrong r = not (eqb (at tb r 0) (kindDue r))
+  kindWrong r = not (eqb (at tb r Field.kind) (kindDue r))
 
   unfoldable pub gainOf : Part → ℕ → ℕ
   gainOf p i = gain (size tb p i)

@@ -8,7 +8,7 @@ use mathlib.Core.Path.{_≡_}
 use lib.ListN.{length, getD}
 use lib.Dec.{ltb, eqb}
 use Rattle.numbers.specs.Search.{tabulate}
-use Rattle.table.specs.Table.{Table, definitionRow, slotRow, nodeRow, branchRow}
+use Rattle.table.specs.Table.{Table, lastRow, rowNumbers, maxNodes, maxBranches, definitionRow, slotRow, nodeRow, branchRow}
 use Rattle.table.specs.Layout.{start, owner}
 use Rattle.table.specs.Form.{headerInRange}
 use Rattle.table.specs.declared.Part.{Part}
@@ -36,18 +36,24 @@ ownersFrom Branches = 419
 
 abbrev pub ownersRoom : Part → ℕ
 ownersRoom Slots = 0
-ownersRoom Nodes = 192
-ownersRoom Branches = 384
+ownersRoom Nodes = maxNodes
+ownersRoom Branches = maxBranches
+
+-- the place of the first definition's row; the rows of the first slot, node and branch follow
+abbrev pub rowsFrom : ℕ
+rowsFrom = 803
 
 module _ (tb : Table) where
   unfoldable pub entry : ℕ → ℕ
   entry x =
-      cond (ltb x 17) (start tb Slots x)
-      (cond (ltb x 34) (start tb Nodes (x - 17))
-      (cond (ltb x 227) (start tb Branches (x - 34))
-      (cond (ltb x 419) (owner tb Nodes (x - 227))
-      (cond (ltb x 803) (owner tb Branches (x - 419))
-      (cond (eqb x 803) (definitionRow tb) (cond (eqb x 804) (slotRow tb) (cond (eqb x 805) (nodeRow tb) (branchRow tb))))))))
+      cond (ltb x (startsFrom Nodes)) (start tb Slots x)
+      (cond (ltb x (startsFrom Branches)) (start tb Nodes (x - startsFrom Nodes))
+      (cond (ltb x (ownersFrom Nodes)) (start tb Branches (x - startsFrom Branches))
+      (cond (ltb x (ownersFrom Branches)) (owner tb Nodes (x - ownersFrom Nodes))
+      (cond (ltb x rowsFrom) (owner tb Branches (x - ownersFrom Branches))
+      (cond (eqb x rowsFrom) (definitionRow tb)
+      (cond (eqb x (rowsFrom + 1)) (slotRow tb)
+      (cond (eqb x (rowsFrom + 2)) (nodeRow tb) (branchRow tb))))))))
 
   unfoldable pub indexOf : List ℕ
   indexOf = tabulate indexLength entry
@@ -60,4 +66,4 @@ module _ (tb : Table) where
   pub record Indexed (l : List ℕ) : Type 0 where
     pub counts : headerInRange tb ≡ true
     pub entries : l ≡ indexOf
-    pub whole : length (getD tb 864 []) ≡ 12
+    pub whole : length (getD tb lastRow []) ≡ rowNumbers

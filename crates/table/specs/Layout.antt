@@ -5,6 +5,7 @@ use mathlib.Core.Bool.{Bool, cond}
 use lib.Dec.{ltb, leb, eqb}
 use Rattle.numbers.specs.Rows.{at}
 use Rattle.numbers.specs.Search.{first, sumTo}
+use Rattle.table.specs.Fields as Field
 use Rattle.table.specs.Table.{Table, definitions, slots, nodes, branches, nodeRow, slotRow, slotCount, nodeCount}
 use Rattle.table.specs.declared.Part.{Part}
 use Rattle.table.specs.declared.Part.the-variants.{Slots, Nodes, Branches}
@@ -23,7 +24,7 @@ module _ (tb : Table) where
 
   -- the branches of a node: a choice says how many
   unfoldable pub branchCount : ℕ → ℕ
-  branchCount n = cond (eqb (at tb (nodeRow tb + n) 1) 1) (at tb (nodeRow tb + n) 2) 0
+  branchCount n = cond (eqb (at tb (nodeRow tb + n) Field.nodeKind) 1) (at tb (nodeRow tb + n) Field.ownBranches) 0
 
   -- the size of block i, as its line says it
   unfoldable pub size : Part → ℕ → ℕ
@@ -51,4 +52,4 @@ module _ (tb : Table) where
 
   -- the type of slot k of definition d
   abbrev pub slotType : ℕ → ℕ → ℕ
-  slotType d k = at tb (slotRow tb + (start Slots d + k)) 1
+  slotType d k = at tb (slotRow tb + (start Slots d + k)) Field.type

@@ -4,6 +4,7 @@ use Prim.Native.Nat.{ℕ, _+_, _-_}
 use mathlib.Core.Bool.{Bool, true, false, cond}
 use lib.Dec.{ltb, eqb}
 use Rattle.numbers.specs.Rows.{at}
+use Rattle.table.specs.Fields as Field
 use Rattle.table.specs.Table.{Table}
 use Rattle.table.specs.declared.Role.{Role}
 use Rattle.table.specs.declared.Role.the-variants.{Unused, Constant, ReadNumber, ReadChannel, ReadCarried, WriteNumber, WriteChannel, WriteCarried}
@@ -25,16 +26,19 @@ actionRole a k =
     (cond (ltb 5 a) (cond (eqb k 0) WriteNumber ReadNumber)
     Unused))))
 
--- the five operands of a branch: two of its guard, then three of its action
+-- the five operands of a branch: operands 0 and 1 are the first and the second of its guard, operands 2, 3 and 4 are the a, b and c of its action
+abbrev pub operandCount : ℕ
+operandCount = 5
+
 unfoldable pub operandPlace : ℕ → ℕ
-operandPlace k = cond (ltb k 2) (2 + k) (3 + k)
+operandPlace k = cond (ltb k 2) (Field.first + k) (3 + k)
 
 module _ (tb : Table) (r : ℕ) where
   unfoldable pub operand : ℕ → ℕ
   operand k = at tb r (operandPlace k)
 
   unfoldable pub operandRole : ℕ → Role
-  operandRole k = cond (ltb k 2) (guardRole (at tb r 1) k) (actionRole (at tb r 4) (k - 2))
+  operandRole k = cond (ltb k 2) (guardRole (at tb r Field.guard) k) (actionRole (at tb r Field.action) (k - 2))
 
 -- whether a role reads its slot, and whether it writes it
 unfoldable pub reads : Role → Bool

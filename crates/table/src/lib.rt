@@ -8,18 +8,52 @@ ghost use Rattle.table.specs.Layout.{blocks, lines, branchCount, size, s
 ghost use Rattle.table.specs.Index.{startsFrom, startsRoom, ownersFrom, ownersRoom, Indexed};
 ghost use Rattle.table.specs.Form.{within};
 
-const MAX_ROWS: usize = 865;
+pub mod field;
 
-const ROW_NUMBERS: usize = 12;
+// A table is 865 rows of 12 numbers, each of two bytes, and is held in 20,760 bytes.
+pub const MAX_ROWS: usize = 865;
 
-// The places in an index of the first row of each kind of line.
-const DEFINITION_ROW: usize = 803;
+pub const ROW_NUMBERS: usize = 12;
 
-const SLOT_ROW: usize = 804;
+pub const ROW_BYTES: usize = ROW_NUMBERS * 2;
 
-const NODE_ROW: usize = 805;
+pub const BYTES: usize = 20760;
 
-const BRANCH_ROW: usize = 806;
+// The header's counts are at most these.
+pub const MAX_TYPES: u32 = 16;
+
+pub const MAX_DEFINITIONS: u32 = 16;
+
+pub const MAX_SLOTS: u32 = 256;
+
+pub const MAX_NODES: u32 = 192;
+
+pub const MAX_BRANCHES: u32 = 384;
+
+pub const MAX_PORTS: u32 = 8;
+
+// A definition's parameters, slots and nodes and a choice's branches are at most these.
+pub const MAX_PARAMETERS: u32 = 8;
+
+pub const MAX_OWN_SLOTS: u32 = 16;
+
+pub const MAX_OWN_NODES: u32 = 192;
+
+pub const MAX_OWN_BRANCHES: u32 = 8;
+
+// The operands of a branch: two of its guard, then three of its action.
+pub const OPERANDS: u32 = 5;
+
+// The words of an index, and the places in it of the first row of each kind of line.
+pub const INDEX: usize = 807;
+
+pub const DEFINITION_ROW: usize = 803;
+
+pub const SLOT_ROW: usize = 804;
+
+pub const NODE_ROW: usize = 805;
+
+pub const BRANCH_ROW: usize = 806;
 
 // The lines that come in blocks: the slots and the nodes of each definition, the branches of each choice.
 pub enum Part {
@@ -58,7 +92,7 @@ pub fn definition_row(table: &[u8]) -> usize
     ensures { λ r. ⌜ r ≡ definitionRow (tableOf (now (table .entry))) ⌝ }
     ensures { λ r. ⌜ r ≤ 65536 ⌝ }
 {
-    1 + cell(table, 0, 1) as usize
+    1 + cell(table, 0, field::TYPES) as usize
 }
 
 // The row of the first slot.
@@ -66,7 +100,7 @@ pub fn slot_row(table: &[u8]) -> usize
     ensures { λ r. ⌜ r ≡ slotRow (tableOf (now (table .entry))) ⌝ }
     ensures { λ r. ⌜ r ≤ 131072 ⌝ }
 {
-    definition_row(table) + cell(table, 0, 2) as usize
+    definition_row(table) + cell(table, 0, field::DEFINITIONS) as usize
 }
 
 // The row of the first node.
@@ -74,7 +108,7 @@ pub fn node_row(table: &[u8]) -> usize
     ensures { λ r. ⌜ r ≡ nodeRow (tableOf (now (table .entry))) ⌝ }
     ensures { λ r. ⌜ r ≤ 196608 ⌝ }
 {
-    slot_row(table) + cell(table, 0, 3) as usize
+    slot_row(table) + cell(table, 0, field::SLOTS) as usize
 }
 
 // The row of the first branch.
@@ -82,14 +116,14 @@ pub fn branch_row(table: &[u8]) -> usize
     ensures { λ r. ⌜ r ≡ branchRow (tableOf (now (table .entry))) ⌝ }
     ensures { λ r. ⌜ r ≤ 262144 ⌝ }
 {
-    node_row(table) + cell(table, 0, 4) as usize
+    node_row(table) + cell(table, 0, field::NODES) as usize
 }
 
 // The number of lines that the header promises.
 pub fn line_total(table: &[u8]) -> usize
     ensures { λ r. ⌜ r ≡ lineTotal (tableOf (now (table .entry))) ⌝ }
 {
-    branch_row(table) + cell(table, 0, 5) as usize
+    branch_row(table) + cell(table, 0, field::BRANCHES) as usize
 }
 
 // The number of parameters of definition d.
@@ -97,7 +131,7 @@ pub fn parameters_of(table: &[u8], d: u32) -> u32
     ensures { λ r. ⌜ r ≡ parameters (tableOf (now (table .entry))) d ⌝ }
     ensures { λ r. ⌜ r < 65536 ⌝ }
 {
-    cell(table, definition_row(table) + d as usize, 1)
+    cell(table, definition_row(table) + d as usize, field::PARAMETERS)
 }
 
 // The number of slots of definition d.
@@ -105,7 +139,7 @@ pub fn slots_of(table: &[u8], d: u32) -> u32
     ensures { λ r. ⌜ r ≡ slotCount (tableOf (now (table .entry))) d ⌝ }
     ensures { λ r. ⌜ r < 65536 ⌝ }
 {
-    cell(table, definition_row(table) + d as usize, 2)
+    cell(table, definition_row(table) + d as usize, field::OWN_SLOTS)
 }
 
 // The number of nodes of definition d.
@@ -113,7 +147,7 @@ pub fn nodes_of(table: &[u8], d: u32) -> u32
     ensures { λ r. ⌜ r ≡ nodeCount (tableOf (now (table .entry))) d ⌝ }
     ensures { λ r. ⌜ r < 65536 ⌝ }
 {
-    cell(table, definition_row(table) + d as usize, 3)
+    cell(table, definition_row(table) + d as usize, field::OWN_NODES)
 }
 
 // How many blocks a part has.
@@ -122,9 +156,9 @@ pub fn blocks_of(table: &[u8], part: Part) -> u32
     ensures { λ r. ⌜ r < 65536 ⌝ }
 {
     match part {
-        Part::Slots => cell(table, 0, 2),
-        Part::Nodes => cell(table, 0, 2),
-        Part::Branches => cell(table, 0, 4),
+        Part::Slots => cell(table, 0, field::DEFINITIONS),
+        Part::Nodes => cell(table, 0, field::DEFINITIONS),
+        Part::Branches => cell(table, 0, field::NODES),
     }
 }
 
@@ -134,9 +168,9 @@ pub fn lines_of(table: &[u8], part: Part) -> u32
     ensures { λ r. ⌜ r < 65536 ⌝ }
 {
     match part {
-        Part::Slots => cell(table, 0, 3),
-        Part::Nodes => cell(table, 0, 4),
-        Part::Branches => cell(table, 0, 5),
+        Part::Slots => cell(table, 0, field::SLOTS),
+        Part::Nodes => cell(table, 0, field::NODES),
+        Part::Branches => cell(table, 0, field::BRANCHES),
     }
 }
 
@@ -146,8 +180,8 @@ pub fn branch_count(table: &[u8], node: u32) -> u32
     ensures { λ r. ⌜ r < 65536 ⌝ }
 {
     let row = node_row(table) + node as usize;
-    if cell(table, row, 1) == 1 {
-        return cell(table, row, 2);
+    if cell(table, row, field::NODE_KIND) == 1 {
+        return cell(table, row, field::OWN_BRANCHES);
     }
     0
 }
@@ -317,7 +351,7 @@ pub fn parameter_count_of(table: &[u8], index: &[u32], d: u32) -> u32
         table,
         index,
         definition_row_of(table, index) + d as usize,
-        1,
+        field::PARAMETERS,
     )
 }
 
@@ -331,7 +365,7 @@ pub fn slot_count_of(table: &[u8], index: &[u32], d: u32) -> u32
         table,
         index,
         definition_row_of(table, index) + d as usize,
-        2,
+        field::OWN_SLOTS,
     )
 }
 
@@ -342,8 +376,8 @@ pub fn branch_count_of(table: &[u8], index: &[u32], node: u32) -> u32
     ensures { λ r. ⌜ r < 65536 ⌝ }
 {
     let row = node_row_of(table, index) + node as usize;
-    if cell_of(table, index, row, 1) == 1 {
-        return cell_of(table, index, row, 2);
+    if cell_of(table, index, row, field::NODE_KIND) == 1 {
+        return cell_of(table, index, row, field::OWN_BRANCHES);
     }
     0
 }
@@ -355,7 +389,7 @@ pub fn slot_type(table: &[u8], index: &[u32], d: u32, k: u32) -> u32
     ensures { λ r. ⌜ r < 65536 ⌝ }
 {
     let place = start_of(table, index, Part::Slots, d) as usize + k as usize;
-    cell_of(table, index, slot_row_of(table, index) + place, 1)
+    cell_of(table, index, slot_row_of(table, index) + place, field::TYPE)
 }
 
 // The node in a row, counted over the whole file; 0 for the rows before the first node.

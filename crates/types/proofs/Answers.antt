@@ -7,6 +7,7 @@ use borrow.Author.Tests.{not-true, not-false, le-leb, lt-leb, eq-eqb, ne-eqb}
 use Rattle.numbers.specs.Rows.{at}
 use Rattle.numbers.specs.Search.{every, first}
 use Rattle.numbers.specs.Search.Laws.{first-more, first-hit}
+use Rattle.table.specs.Fields as Field
 use Rattle.table.specs.Table.{Table, types, ports, definitionRow, nodeRow, branchRow, parameters, carried}
 use Rattle.table.specs.Layout.{definitionOf, nodeOf, slotType}
 use Rattle.table.specs.declared.Role.{Role}
@@ -22,8 +23,8 @@ pub role-arm : (a b : Role) (t u : ℕ) (r : Bool) → a ≡ b → r ≡ roleTyp
 role-arm a b t u r e f = rw e f
 
 -- a node: f is its form, a the definition that it calls
-module _ (tb : Table) (r d f : ℕ) (e : f ≡ at tb r 1) where
-  pub call-typed : (a n : ℕ) (t : Bool) → f ≡ 2 → a ≡ at tb r 2 → n ≡ parameters tb a → t ≡ every (argumentTyped tb r d) n → t ≡ nodeTyped tb r d
+module _ (tb : Table) (r d f : ℕ) (e : f ≡ at tb r Field.nodeKind) where
+  pub call-typed : (a n : ℕ) (t : Bool) → f ≡ 2 → a ≡ at tb r Field.callee → n ≡ parameters tb a → t ≡ every (argumentTyped tb r d) n → t ≡ nodeTyped tb r d
   unfolding nodeTyped
   call-typed a n t h i j k = k ∙ rw (← e, h, j, i)
 
@@ -38,7 +39,7 @@ module _ (tb : Table) (r p : ℕ) (e : p ≡ definitionRow tb) where
   row-ports t f g = rw (← e, eq-eqb r p g) f
 
   -- k is its kind
-  module _ (f : r ≡ p → ⊥) (k : ℕ) (g : k ≡ at tb r 0) where
+  module _ (f : r ≡ p → ⊥) (k : ℕ) (g : k ≡ at tb r Field.kind) where
     pub row-node : (d : ℕ) (t : Bool) → k ≡ 5 → d ≡ definitionOf tb (r - nodeRow tb) → t ≡ nodeTyped tb r d → t ≡ rowTyped tb r
     unfolding rowTyped
     row-node d t h i j = j ∙ rw (i, ← g, h, ← e, ne-eqb r p f)

@@ -4,9 +4,10 @@ use mathlib.Core.Bool.{Bool, true, not, _&&_, _||_, cond}
 use lib.Dec.{leb, eqb}
 use Rattle.numbers.specs.Rows.{at}
 use Rattle.numbers.specs.Search.{every}
+use Rattle.table.specs.Fields as Field
 use Rattle.table.specs.Table.{Table, types, ports, definitionRow, nodeRow, branchRow, parameters, carried}
 use Rattle.table.specs.Layout.{definitionOf, nodeOf, slotType}
-use Rattle.table.specs.Roles.{operand, operandRole}
+use Rattle.table.specs.Roles.{operandCount, operand, operandRole}
 use Rattle.table.specs.declared.Role.{Role}
 use Rattle.table.specs.declared.Role.the-variants.{Unused, Constant, ReadNumber, ReadChannel, ReadCarried, WriteNumber, WriteChannel, WriteCarried}
 
@@ -35,24 +36,24 @@ module _ (tb : Table) where
   module _ (r : ℕ) where
     -- an argument has the type of its parameter; the call stands in definition d
     unfoldable pub argumentTyped : ℕ → ℕ → Bool
-    argumentTyped d i = eqb (slotType tb d (at tb r (3 + i))) (slotType tb (at tb r 2) i)
+    argumentTyped d i = eqb (slotType tb d (at tb r (Field.arguments + i))) (slotType tb (at tb r Field.callee) i)
 
     unfoldable pub nodeTyped : ℕ → Bool
-    nodeTyped d = cond (eqb (at tb r 1) 2) (every (argumentTyped d) (parameters tb (at tb r 2))) true
+    nodeTyped d = cond (eqb (at tb r Field.nodeKind) 2) (every (argumentTyped d) (parameters tb (at tb r Field.callee))) true
 
     -- the operands of a branch in definition d; the action's channel is its operand a
     unfoldable pub operandTyped : ℕ → ℕ → Bool
     operandTyped d k = roleTyped (operandRole tb r k) (slotType tb d (operand tb r k)) (carried tb (slotType tb d (operand tb r 2)))
 
     unfoldable pub branchTyped : ℕ → Bool
-    branchTyped d = every (operandTyped d) 5
+    branchTyped d = every (operandTyped d) operandCount
 
     -- by the line's kind; definition 0's line answers for the ports
     unfoldable pub rowTyped : Bool
     rowTyped =
         cond (eqb r (definitionRow tb)) portsTyped
-        (cond (eqb (at tb r 0) 5) (nodeTyped (definitionOf tb (r - nodeRow tb)))
-        (cond (eqb (at tb r 0) 6) (branchTyped (definitionOf tb (nodeOf tb (r - branchRow tb)))) true))
+        (cond (eqb (at tb r Field.kind) 5) (nodeTyped (definitionOf tb (r - nodeRow tb)))
+        (cond (eqb (at tb r Field.kind) 6) (branchTyped (definitionOf tb (nodeOf tb (r - branchRow tb)))) true))
 
 unfoldable pub typesDisagree : Table → ℕ → Bool
 typesDisagree tb r = not (rowTyped tb r)

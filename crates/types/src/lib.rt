@@ -5,7 +5,7 @@ ghost use Rattle.numbers.specs.Search.{every, first};
 ghost use Rattle.table.specs.Table.{tableOf, carried};
 ghost use Rattle.table.specs.Layout.{slotType};
 ghost use Rattle.table.specs.Index.{Indexed};
-ghost use Rattle.table.specs.Roles.{operand};
+ghost use Rattle.table.specs.Roles.{operandCount, operand};
 ghost use Rattle.types.specs.Types.{roleTyped, portTyped, portsTyped, argumentTyped, nodeTyped, operandTyped, branchTyped, rowTyped, typesDisagree};
 use roles::operand_of;
 use roles::role_of;
@@ -14,12 +14,11 @@ use table::Role;
 use table::cell;
 use table::definition_at;
 use table::definition_row;
+use table::field;
 use table::node_at;
 use table::owner_of;
 use table::parameters_of;
 use table::slot_type;
-
-const OPERANDS: u32 = 5;
 
 // Whether a slot of type t fits a role, where the action's channel carries type u.
 fn role_typed(role: Role, t: u32, u: u32) -> bool
@@ -63,7 +62,7 @@ fn ports_typed(table: &[u8], index: &[u32]) -> bool
     requires { ⌜ Indexed (tableOf (now table)) (now index) ⌝ }
     ensures { λ r. ⌜ r ≡ portsTyped (tableOf (now (table .entry))) ⌝ }
 {
-    let n = cell(table, 0, 6);
+    let n = cell(table, 0, field::PORTS);
     if parameters_of(table, 0) != n {
         return false;
     }
@@ -73,10 +72,10 @@ fn ports_typed(table: &[u8], index: &[u32]) -> bool
     if n == 0 {
         return true;
     }
-    if cell(table, 0, 1) < 1 {
+    if cell(table, 0, field::TYPES) < 1 {
         return false;
     }
-    cell(table, 1, 1) == 0
+    cell(table, 1, field::CARRIED) == 0
 }
 
 // Whether argument i of the call in a row, which stands in definition d, has the type of its parameter.
@@ -84,8 +83,9 @@ fn argument_typed(table: &[u8], index: &[u32], row: usize, d: u32, i: u32) -> bo
     requires { ⌜ Indexed (tableOf (now table)) (now index) ⌝ }
     ensures { λ r. ⌜ r ≡ argumentTyped (tableOf (now (table .entry))) row d i ⌝ }
 {
-    let called = cell(table, row, 2);
-    let given = slot_type(table, index, d, cell(table, row, 3 + i as usize));
+    let called = cell(table, row, field::CALLEE);
+    let argument = cell(table, row, field::ARGUMENTS + i as usize);
+    let given = slot_type(table, index, d, argument);
     given == slot_type(table, index, called, i)
 }
 
@@ -107,13 +107,13 @@ fn node_typed(table: &[u8], index: &[u32], row: usize, d: u32) -> bool
     requires { ⌜ Indexed (tableOf (now table)) (now index) ⌝ }
     ensures { λ r. ⌜ r ≡ nodeTyped (tableOf (now (table .entry))) row d ⌝ }
 {
-    if cell(table, row, 1) == 2 {
+    if cell(table, row, field::NODE_KIND) == 2 {
         return arguments_typed(
             table,
             index,
             row,
             d,
-            parameters_of(table, cell(table, row, 2)),
+            parameters_of(table, cell(table, row, field::CALLEE)),
         );
     }
     true
@@ -123,7 +123,7 @@ fn node_typed(table: &[u8], index: &[u32], row: usize, d: u32) -> bool
 fn operand_typed(table: &[u8], index: &[u32], row: usize, d: u32, u: u32, k: u32) -> bool
     requires { ⌜ Indexed (tableOf (now table)) (now index) ⌝ }
     requires { ⌜ u ≡ carried (tableOf (now table)) (slotType (tableOf (now table)) d (operand (tableOf (now table)) row 2)) ⌝ }
-    requires { ⌜ k < 5 ⌝ }
+    requires { ⌜ k < operandCount ⌝ }
     ensures { λ r. ⌜ r ≡ operandTyped (tableOf (now (table .entry))) row d k ⌝ }
 {
     role_typed(
@@ -139,7 +139,7 @@ fn operands_typed(table: &[u8], index: &[u32], row: usize, d: u32, u: u32) -> bo
     requires { ⌜ u ≡ carried (tableOf (now table)) (slotType (tableOf (now table)) d (operand (tableOf (now table)) row 2)) ⌝ }
     ensures { λ r. ⌜ r ≡ branchTyped (tableOf (now (table .entry))) row d ⌝ }
 {
-    for k in 0..OPERANDS {
+    for k in 0..table::OPERANDS {
         if !operand_typed(table, index, row, d, u, k) {
             return false;
         }
@@ -153,7 +153,13 @@ fn branch_typed(table: &[u8], index: &[u32], row: usize, d: u32) -> bool
     ensures { λ r. ⌜ r ≡ branchTyped (tableOf (now (table .entry))) row d ⌝ }
 {
     let channel = slot_type(table, index, d, operand_of(table, row, 2));
-    operands_typed(table, index, row, d, cell(table, channel as usize, 1))
+    operands_typed(
+        table,
+        index,
+        row,
+        d,
+        cell(table, channel as usize, field::CARRIED),
+    )
 }
 
 // Whether a row agrees in types, by its kind; the row of definition 0 answers for the ports.
@@ -164,7 +170,7 @@ fn row_typed(table: &[u8], index: &[u32], row: usize) -> bool
     if row == definition_row(table) {
         return ports_typed(table, index);
     }
-    let kind = cell(table, row, 0);
+    let kind = cell(table, row, field::KIND);
     if kind == 5 {
         return node_typed(table, index, row, definition_at(table, index, row));
     }

@@ -178,7 +178,7 @@ module _ (tb : Table) (s : State) where
   unfolding settled withChannels recount
   settled-again =
       let f : ℕ → List ℕ = λ c. channelRow (typeIn s c) (countOf tb (s .threads) c) (waiters tb (s .threads) c) in
-      ap {B = State} (λ (y : List (List ℕ)). record { marks = s .marks; threads = s .threads; channels = y })
+      ap (withChannels s)
       (tabulate-cong 128 (λ c. channelRow (at (tabulate 128 f) c 0) (countOf tb (s .threads) c) (waiters tb (s .threads) c)) f
       (λ c h. rw (getD-tabulate 128 c f [] h) (again-row (typeIn s c) (countOf tb (s .threads) c) (waiters tb (s .threads) c))))
 
@@ -211,7 +211,7 @@ module _ (tb : Table) (s : State) (long : length (s .threads) ≡ 64) (e : settl
     unfolding settledOne rowEntered rowLeft shiftedTo withThread withChannels settled
     one-settled =
         rw written
-        (ap {B = State} (λ (y : List (List ℕ)). record { marks = s .marks; threads = set (s .threads) t row; channels = y })
+        (ap (withChannels (withThread s t row))
         (one-moved tb (s .threads) long (s .channels) counted t h row))
 
     pub new-settled : (c ty : ℕ) → c < 128
@@ -219,7 +219,7 @@ module _ (tb : Table) (s : State) (long : length (s .threads) ≡ 64) (e : settl
     unfolding settledNew channelShifted rowEntered rowLeft shiftedTo typed withThread withChannel withChannels settled
     new-settled c ty i =
         rw written
-        (ap {B = State} (λ (y : List (List ℕ)). record { marks = s .marks; threads = set (s .threads) t row; channels = y })
+        (ap (withChannels (withThread s t row))
         (new-moved tb (s .threads) long (s .channels) counted t h row c ty i))
 
     pub two-settled : (u : ℕ) → u < 64 → u ≢ t → (other : List ℕ)
@@ -230,5 +230,5 @@ module _ (tb : Table) (s : State) (long : length (s .threads) ≡ 64) (e : settl
         let here : getD (set (set (s .threads) t row) u other) t [] ≡ row = getD-set-other (set (s .threads) t row) u t other [] (λ q. d (sym q)) ∙ written in
         let there : getD (set (set (s .threads) t row) u other) u [] ≡ other = getD-set-same (set (s .threads) t row) u other [] (omega (arith, length-set (s .threads) t row)) in
         rw (here, there)
-        (ap {B = State} (λ (y : List (List ℕ)). record { marks = s .marks; threads = set (set (s .threads) t row) u other; channels = y })
+        (ap (withChannels (withThread (withThread s t row) u other))
         (two-moved tb (s .threads) long (s .channels) counted t h row u i d other))

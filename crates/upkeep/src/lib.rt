@@ -5,15 +5,11 @@ ghost use Prim.Native.Nat.{_≤_, _<_};
 ghost use Rattle.numbers.specs.Count.{bit};
 ghost use Rattle.table.specs.Table.{tableOf};
 ghost use Rattle.table.specs.Index.{Indexed};
-ghost use Rattle.state.specs.State.{stateOf, thread, isWaiting};
+ghost use Rattle.state.specs.State.{rowSlots, maxChannels, stateOf, thread, isWaiting};
 ghost use Rattle.holding.specs.Own.{ownList};
 ghost use Rattle.upkeep.specs.Shift.{rowCounted, channelShifted, shiftedTo, rowEntered, rowLeft, settledOne, settledTwo, settledNew};
 
-const CHANNELS: usize = 128;
-
-const ROW_SLOTS: u32 = 16;
-
-const MINUS_ONE: u32 = 4294967295;
+const CHANNELS: usize = state::CHANNELS as usize;
 
 // The channels that thread t's row holds are noted before the row changes, each once. Answers what the row adds to their counts of waiting holders.
 pub fn note_held(
@@ -33,19 +29,19 @@ pub fn note_held(
 
 // Channel c has n holders, w of them waiting: without holders it is freed.
 fn put_counts(state: &mut [u32; state::WORDS], c: usize, n: u32, w: u32)
-    requires { ⌜ c < 128 ⌝ }
+    requires { ⌜ c < maxChannels ⌝ }
     ensures { λ _. ⌜ stateOf (now (state .exit)) ≡ rowCounted (stateOf (now (state .entry))) c n w ⌝ }
 {
     // A proof knows the length of a slice, and an array is lent as one: this local is used by the proof alone.
     let words: &[u32] = state;
     if n == 0 {
-        state::put_channel(state, c, 0, 0);
-        state::put_channel(state, c, 1, 0);
-        state::put_channel(state, c, 2, 0);
+        state::put_channel(state, c, state::TYPE, 0);
+        state::put_channel(state, c, state::COUNT, 0);
+        state::put_channel(state, c, state::WAITERS, 0);
         return;
     }
-    state::put_channel(state, c, 1, n);
-    state::put_channel(state, c, 2, w);
+    state::put_channel(state, c, state::COUNT, n);
+    state::put_channel(state, c, state::WAITERS, w);
 }
 
 // Channel c's counts go up by dn and dw, around the end; at 0 it is freed. There is no channel 128, and nothing is done for it.
@@ -53,8 +49,8 @@ fn shift(state: &mut [u32; state::WORDS], c: usize, dn: u32, dw: u32)
     ensures { λ _. ⌜ stateOf (now (state .exit)) ≡ channelShifted (stateOf (now (state .entry))) c dn dw ⌝ }
 {
     if c < CHANNELS {
-        let n = numbers::add(state::channel_word(state, c, 1), dn);
-        let w = numbers::add(state::channel_word(state, c, 2), dw);
+        let n = numbers::add(state::channel_word(state, c, state::COUNT), dn);
+        let w = numbers::add(state::channel_word(state, c, state::WAITERS), dw);
         put_counts(state, c, n, w);
     }
 }
@@ -74,7 +70,7 @@ fn shift_listed(
     dn: u32,
     dw: u32,
 )
-    requires { ⌜ n ≤ 16 ⌝ }
+    requires { ⌜ n ≤ rowSlots ⌝ }
     ensures { λ _. ⌜ stateOf (now (state .exit)) ≡ shiftedTo (stateOf (now (state .entry))) (now (list .entry)) dn dw n ⌝ }
 {
     for i in 0..n {
@@ -98,7 +94,7 @@ fn leave(state: &mut [u32; state::WORDS], old: &[u8; holding::LIST], waited: u32
     ensures { λ _. ⌜ stateOf (now (state .exit)) ≡ rowLeft (stateOf (now (state .entry))) (now (old .entry)) waited ⌝ }
 {
     let dw = numbers::subtract(0, waited);
-    shift_listed(state, old, ROW_SLOTS, MINUS_ONE, dw);
+    shift_listed(state, old, state::SLOTS, state::MINUS_ONE, dw);
 }
 
 // Thread t's row has been written, and the row before it was noted.

@@ -17,7 +17,7 @@ use Rattle.numbers.specs.Rows.{at}
 use Rattle.numbers.specs.Search.{tabulate}
 use Rattle.numbers.specs.Search.Laws.{caseB, sum-none, sum-suc, sum-more, getD-tabulate, length-tabulate, is-tabulate, tabulate-cong}
 use Rattle.table.specs.Table.{Table}
-use Rattle.state.specs.State.{State, thread, typeIn, withThread, withChannels}
+use Rattle.state.specs.State.{State, thread, typeIn, withThread, withChannels, withThreads}
 use Rattle.rules.specs.Holding.{holds, holders, waiters, countOf, channelRow, recount, settled}
 use Rattle.rules.specs.Start.{freeRow}
 use Rattle.marking.specs.Enabled.{nobody, enabledSet}
@@ -50,7 +50,7 @@ module _ (tb : Table) (s : State) (long : length (s .threads) ≡ 64) (t : ℕ) 
       let ths = s .threads in
       let ths′ = set ths t freeRow in
       let f : ℕ → List ℕ = λ c. channelRow (typeIn s c) (countOf tb ths c) (waiters tb ths c) in
-      ap {B = State} (λ (y : List (List ℕ)). record { marks = s .marks; threads = ths′; channels = y })
+      ap (withChannels (withThread s t freeRow))
       (tabulate-cong 128 (λ c. channelRow (at (tabulate 128 f) c 0) (countOf tb ths′ c) (waiters tb ths′ c)) (λ c. channelRow (typeIn s c) (countOf tb ths′ c) (waiters tb ths′ c))
       (λ c h. rw (getD-tabulate 128 c f [] h)
       (row-again (typeIn s c) (countOf tb ths c) (waiters tb ths c) (countOf tb ths′ c) (waiters tb ths′ c) (fewer-holders c))))
@@ -93,13 +93,13 @@ module _ (tb : Table) (s : State) where
     rows-taken : taken tb s n ≡ true → withThread (rowsTo tb s n) n freeRow ≡ rowsTo tb s (suc n)
     unfolding withThread rowsTo
     rows-taken e =
-        ap {B = State} (λ (y : List (List ℕ)). record { marks = s .marks; threads = y; channels = s .channels })
+        ap (λ (y : List (List ℕ)). withThreads s y)
         (set-tabulate (rowTo tb s n) (rowTo tb s (suc n)) n freeRow l (row-next n ∙ rw e) (λ k i d. row-same n k d))
 
     rows-left : taken tb s n ≡ false → rowsTo tb s n ≡ rowsTo tb s (suc n)
     unfolding rowsTo
     rows-left e =
-        ap {B = State} (λ (y : List (List ℕ)). record { marks = s .marks; threads = y; channels = s .channels })
+        ap (λ (y : List (List ℕ)). withThreads s y)
         (tabulate-cong 64 (rowTo tb s n) (rowTo tb s (suc n))
         (λ k i. caseB (eqb k n)
         (λ y. let q : k ≡ n = eqb-true k n y in rw q (row-left n e))
@@ -120,13 +120,13 @@ module _ (tb : Table) (s : State) where
   pub freed-none : length (s .threads) ≡ 64 → settled tb s ≡ s → s ≡ collectedTo tb s 0
   unfolding collectedTo rowsTo rowTo
   freed-none long e =
-      sym e ∙ ap {B = State} (λ (y : List (List ℕ)). settled tb (record { marks = s .marks; threads = y; channels = s .channels }))
+      sym e ∙ ap (λ (y : List (List ℕ)). settled tb (withThreads s y))
       (is-tabulate (s .threads) 64 (rowTo tb s 0) [] long (λ k h. rw (le-ltb k 0 (omega arith))))
 
   pub freed-all : (s₁ : State) (n : ℕ) → s₁ ≡ collectedTo tb s n → n ≤ 64 → 64 ≤ n → s₁ ≡ collected tb s
   unfolding collectedTo rowsTo rowTo collected remaining
   freed-all s₁ n e h i =
-      e ∙ ap {B = State} (λ (y : List (List ℕ)). settled tb (record { marks = s .marks; threads = y; channels = s .channels }))
+      e ∙ ap (λ (y : List (List ℕ)). settled tb (withThreads s y))
       (tabulate-cong 64 (rowTo tb s n) (remaining tb s) (λ k l. rw (lt-ltb k n (omega arith))))
 
   pub counted-none : 0 ≡ takenTo tb s 0

@@ -1,6 +1,7 @@
-use Rattle.engine.proofs.Laws.{start-length, still-refused, state-sound, state-unsound, start-granted, is-sound, not-admitted}
+use Rattle.engine.proofs.Laws.{start-length, still-refused, state-sound, state-unsound, start-granted, is-sound}
 use Rattle.engine.specs.Admitted.{admitted}
 use borrow.Author.Needs.{needs}
+use Rattle.rules.specs.Calls.Laws.{not-admitted}
 use Rattle.engine.proofs.admit.Statement.{statement}
 use Rattle.engine.proofs.admit.Tie as tie
 

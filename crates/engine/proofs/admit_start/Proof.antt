@@ -1,5 +1,6 @@
-use Rattle.engine.proofs.Laws.{lengths-wrong, table-accepted, table-refused, accepted-indexed, not-admitted}
+use Rattle.engine.proofs.Laws.{lengths-wrong, table-accepted, table-refused, accepted-indexed}
 use borrow.Author.Needs.{needs}
+use Rattle.rules.specs.Calls.Laws.{not-admitted}
 use Rattle.engine.proofs.admit_start.Statement.{statement}
 use Rattle.engine.proofs.admit_start.Tie as tie
 

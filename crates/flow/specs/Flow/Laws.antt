@@ -8,6 +8,7 @@ use lib.ListN.{length, getD, length-set}
 use Rattle.numbers.specs.Rows.{at}
 use Rattle.numbers.specs.Search.{tabulate}
 use Rattle.numbers.specs.Search.Laws.{caseB, length-tabulate}
+use Rattle.table.specs.Fields as Field
 use Rattle.table.specs.Table.{Table, maxNodes, branchRow}
 use Rattle.table.specs.Layout.{start, branchCount, definitionOf}
 use Rattle.table.specs.declared.Part.the-variants.{Nodes, Branches}
@@ -22,8 +23,8 @@ module _ (tb : Table) where
   unfolding branchFollowed
   length-branch f m r ms =
       let w = pastWrite (slotWritten tb r) m in
-      let next = length-arrive ms (f + at tb r 8) w in
-      caseB (eqb (at tb r 4) 4) (λ y. rw y (length-arrive (arrive ms (f + at tb r 8) w) (f + at tb r 9) w ∙ next)) (λ y. rw y next)
+      let next = length-arrive ms (f + at tb r Field.next) w in
+      caseB (eqb (at tb r Field.action) 4) (λ y. rw y (length-arrive (arrive ms (f + at tb r Field.next) w) (f + at tb r Field.child) w ∙ next)) (λ y. rw y next)
 
   pub length-branches : (n : ℕ) (m : List Bool) (ms : Marks) (i : ℕ) → length (branchesFollowed tb n m ms i) ≡ length ms
   unfolding branchesFollowed

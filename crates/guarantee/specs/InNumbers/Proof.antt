@@ -5,29 +5,25 @@ use mathlib.Core.Path.{_≡_, refl, ap, _∙_}
 use mathlib.Core.Bool.{Bool, true, false}
 use mathlib.Core.List.{List, [], _∷_, map}
 use mathlib.Core.Logic.{_↔_}
-use lib.Dec.{ltb}
 use lib.ListN.{length, getD}
 use lib.IntN.{pos}
 use mir.Syntax.{w32}
-use mir.Val.{toZ}
+use mir.Val.{toZ, ofZ}
 use mir.Facts.{toZ-pos}
+use borrow.Author.Tests.{ne-eqb}
 use Rattle.numbers.specs.Count.{bit}
 use Rattle.numbers.specs.Count.Laws.{bit-le}
 use Rattle.numbers.specs.Search.{sumTo}
 use Rattle.numbers.specs.Search.Laws.{caseB, contra, sum-none, sum-suc}
-use Rattle.table.specs.Table.{Table, tableOf, ports}
+use Rattle.table.specs.Table.{Table, tableOf}
 use Rattle.loader.specs.Load.{accepted}
 use Rattle.loader_laws.specs.Yields.{loaded-small, loaded-accepted}
 use Rattle.state.specs.State.{State, maxThreads, stateLength, view, thread, inUse, isWaiting}
-use Rattle.rules.specs.Offers.{partnerOf}
 use Rattle.rules.specs.Moves.{move}
-use Rattle.rules.specs.Calls.{Outcome, outcome, startAdmission, admission, startBy, startCall, stepAnswer, stepEnd, canStep, stepBy, stepCall, bench, givenTo, giveBy, giveCall, takenFrom, takeBy, takeCall, runBy, runCall}
+use Rattle.rules.specs.Calls.{Outcome, outcome, After, startAdmission, onBuffers, startOn, startCall, stepAnswer, canStep, stepOn, stepCall, bench, giveOn, giveCall, takeOn, takeCall, runOn, runCall}
+use Rattle.rules.specs.Calls.Laws.{start-admits, step-answered, by-refused, by-answer, call-refused, call-answer}
 use Rattle.rules.specs.declared.Refusal.{Refusal}
 use Rattle.rules.specs.declared.Refusal.the-variants as Ground
-use Rattle.rules.specs.declared.Admission.{Admission}
-use Rattle.rules.specs.declared.Admission.the-variants as Admission
-use Rattle.rules.specs.declared.Partner.{Partner}
-use Rattle.rules.specs.declared.Partner.the-variants.{Nobody, At}
 use Rattle.rules.specs.declared.Direction.the-variants.{Out, In}
 use Rattle.rules.specs.declared.Move.{Move}
 use Rattle.rules.specs.declared.Move.the-variants.{Ends, Calls, Waits, Goes, Creates, Spawns, Meets, LacksThread, LacksChannel}
@@ -43,21 +39,23 @@ use Rattle.rules.specs.declared.Ran.{Ran}
 use Rattle.rules.specs.declared.Ran.the-variants as Ran
 use Rattle.rules_laws.specs.Codes.{clash}
 use Rattle.engine.specs.Numbers.{refusalNumber, partnerNumber}
+use Rattle.engine.specs.Numbers.Laws.{ground-range}
 use Rattle.rules_laws.specs.Reading.Laws.{waiting-used}
-use Rattle.rules_laws.specs.Entry.{RightLengths, length-iff, start-length-iff, start-admitted-iff}
+use Rattle.engine_laws.specs.Entry.{RightLengths, length-iff, start-length-iff}
+use Rattle.engine_laws.specs.Bench.{give-met, take-met}
 use Rattle.rules_laws.specs.Chosen.{Chosen, chosen, partner-answers}
 use Rattle.rules_laws.specs.Frames.{elem, movers}
 use Rattle.engine_laws.specs.Movers.{ranMovers}
 use Rattle.engine_laws.specs.Buffers.{SoundBuffer}
-use Rattle.engine_laws.specs.SoundCalls.{start-done, admitted}
+use Rattle.engine_laws.specs.SoundCalls.{start-done, call-made}
 use Rattle.engine_laws.specs.Lists.{Call, step, give, take, run, after, afterAll, after-sound}
-use Rattle.collector.specs.Collect.{taken, takenCount, collectBy, collectCall}
+use Rattle.collector.specs.Collect.{taken, takenCount, collectOn, collectCall}
 use Rattle.collector.specs.Collect.Laws.{count-says}
 use Rattle.collector.specs.declared.Collected.{Collected}
 use Rattle.collector.specs.declared.Collected.the-variants as Collected
 use Rattle.interface.specs.Interface.{loadResult, inNumbers, startFields, startNumbers, startResult, stepFields, stepNumbers, stepResult, giveFields, giveNumbers, giveResult, takeFields, takeNumbers, takeResult, runFields, runNumbers, runResult, collectFields, collectNumbers, collectResult}
 use Rattle.guarantee.specs.Claim.{Any, on, collect, afterAny, afterList, reachedBy, unlessRefused, metByGive, metByTake, inTurns, moving, movingAll, takenBy, Untouched, Linked, NeverTen}
-use Rattle.guarantee.specs.Exported.{left, refusal, given-so, started-so, left-so, refused-so, load-so, table-so}
+use Rattle.guarantee.specs.Exported.{ground-signed, left, refusal, given-so, started-so, left-so, refused-so, load-so, table-so}
 use Rattle.guarantee.specs.InNumbers.{leftAll, leftFrom, isZero, ifDone, named, waitingIn, moved, movedAll, takes, NoTen, InNumbers}
 use Rattle.guarantee.specs.ClaimKept.{collect-done, collect-view}
 use Rattle.guarantee.specs.Proof.{accepted-guarantee, reached-sound, collection-made}
@@ -66,14 +64,8 @@ use Rattle.guarantee.specs.Proof.{accepted-guarantee, reached-sound, col
 
 -- no ground has the number 0
 not-zero : (r : Refusal) → isZero (toZ w32 (refusalNumber r)) ≡ false
-unfolding isZero refusalNumber
-not-zero Ground.Length = refl
-not-zero Ground.Table = refl
-not-zero Ground.State = refl
-not-zero Ground.Thread = refl
-not-zero Ground.Port = refl
-not-zero Ground.ThreadRow = refl
-not-zero Ground.ChannelRow = refl
+unfolding isZero
+not-zero r = rw (ground-signed r) (ne-eqb (refusalNumber r) 0 (λ e. omega (arith, ground-range r .0)))
 
 -- the number of a thread's row names it
 named-row : (u : ℕ) → u < maxThreads → named (toZ w32 u) ≡ u ∷ []
@@ -124,12 +116,6 @@ step-none : (r : Refusal) (who : List ℕ) → ifDone (stepNumbers (Stepped.Refu
 unfolding ifDone stepNumbers stepFields
 step-none r who = rw (not-zero r)
 
--- what holds of an answer holds of it at the end of the step
-at-end : (P : Stepped → Type 0) (a : Stepped) (b : List ℕ) (s : State) → P a → P (stepEnd a b s .answer)
-unfolding stepEnd
-at-end P (Stepped.Done n d) b s h = h
-at-end P (Stepped.Refused r) b s h = h
-
 give-moves : (a : Given) → ((u : ℕ) → a ≡ Given.Met u → u < maxThreads) → ifDone (giveNumbers a .refusal) (named (giveNumbers a .thread)) ≡ metByGive a
 unfolding ifDone isZero named giveNumbers giveFields metByGive
 give-moves (Given.Met u) l = named-row u (l u refl)
@@ -149,53 +135,42 @@ run-moves (Ran.Refused r) who = rw (not-zero r)
 
 -- the thread that a give or a take meets has a row
 module _ (table state : List ℕ) (p : ℕ) where
-  given-in : (v : ℕ) (m : Partner) → partnerOf (tableOf table) (view state) bench In p ≡ m → (u : ℕ) → givenTo m table state v .answer ≡ Given.Met u → u < maxThreads
-  unfolding givenTo
-  given-in v Nobody q u e = clash cc
-  given-in v (At w j) q u e = let h : w ≡ u = cc in rw (← h) (partner-answers (tableOf table) (view state) bench In p w j q .thread-in)
+  give-in : (v u : ℕ) → giveCall table state p v .answer ≡ Given.Met u → u < maxThreads
+  unfolding giveCall
+  give-in v u e =
+      let tb = tableOf table in
+      let s = view state in
+      let f = call-answer Given.Refused table state (giveOn tb s p v) (Given.Met u) (λ r h i. clash cc) .0 e .1 in
+      let (l, j, h, i) = give-met tb s p v u f in
+      partner-answers tb s bench In p u j h .thread-in
 
-  give-in : (v : ℕ) (x : Admission) (u : ℕ) → giveBy x table state p v .answer ≡ Given.Met u → u < maxThreads
-  unfolding giveBy
-  give-in v (Admission.Refused r) u e = clash cc
-  give-in v Admission.Admitted u e =
-      caseB (ltb p (ports (tableOf table)))
-      (λ y. given-in v (partnerOf (tableOf table) (view state) bench In p) refl u (rw y at e))
-      (λ y. let f : Given.Refused Ground.Port ≡ Given.Met u = rw y at e in clash cc)
-
-  taken-in : (m : Partner) → partnerOf (tableOf table) (view state) bench Out p ≡ m → (u v : ℕ) → takenFrom m table state .answer ≡ Taken.Met u v → u < maxThreads
-  unfolding takenFrom
-  taken-in Nobody q u v e = clash cc
-  taken-in (At w j) q u v e = let h : w ≡ u = cc in rw (← h) (partner-answers (tableOf table) (view state) bench Out p w j q .thread-in)
-
-  take-in : (x : Admission) (u v : ℕ) → takeBy x table state p .answer ≡ Taken.Met u v → u < maxThreads
-  unfolding takeBy
-  take-in (Admission.Refused r) u v e = clash cc
-  take-in Admission.Admitted u v e =
-      caseB (ltb p (ports (tableOf table)))
-      (λ y. taken-in (partnerOf (tableOf table) (view state) bench Out p) refl u v (rw y at e))
-      (λ y. let f : Taken.Refused Ground.Port ≡ Taken.Met u v = rw y at e in clash cc)
+  take-in : (u v : ℕ) → takeCall table state p .answer ≡ Taken.Met u v → u < maxThreads
+  unfolding takeCall
+  take-in u v e =
+      let tb = tableOf table in
+      let s = view state in
+      let f = call-answer Taken.Refused table state (takeOn tb s p) (Taken.Met u v) (λ r h i. clash cc) .0 e .1 in
+      let (l, j, h, i, k) = take-met tb s p u v f in
+      partner-answers tb s bench Out p u j h .thread-in
 
 module _ (table : List ℕ) (ok : accepted table ≡ true) where
   module _ (state : List ℕ) (b : SoundBuffer table state) where
     step-so : (t : ℕ) → moved table state (step t) ≡ moving table state (step t)
-    unfolding moved moving stepResult inNumbers stepCall stepBy unlessRefused
+    unfolding moved moving stepResult inNumbers stepCall unlessRefused
     step-so t =
         let s = view state in
         let tb = tableOf table in
-        rw (admitted table ok state b)
-        (caseB (canStep s t)
-        (λ y. rw y (at-end (λ a. ifDone (stepNumbers a .refusal) (t ∷ waitingIn s (named (stepNumbers a .partner))) ≡ unlessRefused a (movers t (move tb s t)))
-        _ state _ (step-moves tb s t _ (move tb s t) (chosen tb s t))))
-        (λ y. rw y (step-none Ground.Thread _)))
+        rw (call-made table ok Stepped.Refused state b (stepOn tb s t), step-answered tb s t)
+        (caseB (canStep s t) (λ y. rw y (step-moves tb s t _ (move tb s t) (chosen tb s t))) (λ y. rw y (step-none Ground.Thread _)))
 
     -- by the numbers as by the definitions
     pub moved-so : (k : Call) → moved table state k ≡ moving table state k
-    unfolding moved moving giveResult takeResult runResult inNumbers giveCall takeCall
+    unfolding moved moving giveResult takeResult runResult inNumbers
     moved-so (step t) = step-so t
     moved-so (give p v h) =
         ap (λ x. ifDone (giveNumbers (giveCall table state p x .answer) .refusal) (named (giveNumbers (giveCall table state p x .answer) .thread))) (given-so v h)
-        ∙ give-moves (giveCall table state p v .answer) (λ u e. give-in table state p v (admission table state) u e)
-    moved-so (take p) = take-moves (takeCall table state p .answer) (λ u v e. take-in table state p (admission table state) u v e)
+        ∙ give-moves (giveCall table state p v .answer) (λ u e. give-in table state p v u e)
+    moved-so (take p) = take-moves (takeCall table state p .answer) (λ u v e. take-in table state p u v e)
     moved-so (run n) = run-moves (runCall table state n .answer) (ranMovers (tableOf table) n (view state))
 
   module _ (fit : (i : ℕ) → getD table i 0 < 256) where
@@ -250,17 +225,13 @@ unfolding startNumbers startFields isZero
 start-zero Started.Done e = refl
 start-zero (Started.Refused r) e = contra (ap isZero e) (not-zero r)
 
-start-admits : (table state : List ℕ) (x : Admission) → startBy x table state .answer ≡ Started.Done → x ≡ Admission.Admitted
-unfolding startBy
-start-admits table state (Admission.Refused r) e = clash cc
-start-admits table state Admission.Admitted e = refl
-
 module _ (table : List ℕ) (ok : accepted table ≡ true) (state : List ℕ) where
   -- its buffer has the state's length, and no other asks for more
   pub started-iff : (startResult table state .answer .refusal ≡ pos 0) ↔ (length state ≡ stateLength)
   unfolding startResult inNumbers startCall startNumbers startFields
   started-iff = (
-    λ e. start-admitted-iff table state .0 (start-admits table state (startAdmission table state) (start-zero (startCall table state .answer) e)) .0 .1,
+    λ e. let f = start-zero (startCall table state .answer) e in
+        start-admits table state (by-answer Started.Refused state (startOn (tableOf table)) (startAdmission table state) Started.Done (λ r g h. clash cc) .0 f .0) .1,
     λ l. rw (start-done table ok state l),
   )
 
@@ -307,40 +278,31 @@ in-numbers file t e =
 
 module _ (table state : List ℕ) (wrong : ¬ RightLengths table state) where
   pub wrong-start : (startResult table state .answer .refusal ≡ pos 8) × (startResult table state .state ≡ state)
-  unfolding startResult inNumbers startNumbers startFields startCall startBy refusalNumber
-  wrong-start = let q = start-length-iff table state .1 wrong in (rw q, rw q)
+  unfolding startResult inNumbers startNumbers startFields startCall refusalNumber
+  wrong-start =
+      let e = by-refused Started.Refused state (startOn (tableOf table)) (startAdmission table state) Ground.Length (start-length-iff table state .1 wrong) in
+      (rw e, rw e)
 
-  step-wrong : (t : ℕ) → stepCall table state t ≡ outcome (Stepped.Refused Ground.Length) state
-  unfolding stepCall stepBy
-  step-wrong t = rw (length-iff table state .1 wrong)
-
-  give-wrong : (p v : ℕ) → giveCall table state p v ≡ outcome (Given.Refused Ground.Length) state
-  unfolding giveCall giveBy
-  give-wrong p v = rw (length-iff table state .1 wrong)
-
-  take-wrong : (p : ℕ) → takeCall table state p ≡ outcome (Taken.Refused Ground.Length) state
-  unfolding takeCall takeBy
-  take-wrong p = rw (length-iff table state .1 wrong)
-
-  run-wrong : (n : ℕ) → runCall table state n ≡ outcome (Ran.Refused Ground.Length) state
-  unfolding runCall runBy
-  run-wrong n = rw (length-iff table state .1 wrong)
-
-  collect-wrong : collectCall table state ≡ outcome (Collected.Refused Ground.Length) state
-  unfolding collectCall collectBy
-  collect-wrong = rw (length-iff table state .1 wrong)
+  wrong-on : {A : Type 0} (refused : Refusal → A) (k : After A) → onBuffers refused table state k ≡ outcome (refused Ground.Length) state
+  wrong-on refused k = call-refused refused table state k Ground.Length (length-iff table state .1 wrong)
 
   pub wrong-call : (k : Any) → (refusal table state k ≡ pos 8) × (left table state k ≡ state)
-  unfolding refusal left stepResult giveResult takeResult runResult collectResult inNumbers stepNumbers stepFields giveNumbers giveFields takeNumbers takeFields runNumbers runFields collectNumbers collectFields refusalNumber
+  unfolding refusal left stepResult giveResult takeResult runResult collectResult inNumbers stepNumbers stepFields giveNumbers giveFields takeNumbers takeFields runNumbers runFields collectNumbers collectFields refusalNumber stepCall giveCall takeCall runCall collectCall
   wrong-call (on (step t)) =
-      (ap (λ (o : Outcome Stepped). stepNumbers (o .answer) .refusal) (step-wrong t), ap (λ (o : Outcome Stepped). o .state) (step-wrong t))
+      let e = wrong-on Stepped.Refused (stepOn (tableOf table) (view state) t) in
+      (ap (λ (o : Outcome Stepped). stepNumbers (o .answer) .refusal) e, ap (λ (o : Outcome Stepped). o .state) e)
   wrong-call (on (give p v h)) =
-      (ap (λ (o : Outcome Given). giveNumbers (o .answer) .refusal) (give-wrong p _), ap (λ (o : Outcome Given). o .state) (give-wrong p _))
+      let e = wrong-on Given.Refused (giveOn (tableOf table) (view state) p (ofZ w32 (toZ w32 v))) in
+      (ap (λ (o : Outcome Given). giveNumbers (o .answer) .refusal) e, ap (λ (o : Outcome Given). o .state) e)
   wrong-call (on (take p)) =
-      (ap (λ (o : Outcome Taken). takeNumbers (o .answer) .refusal) (take-wrong p), ap (λ (o : Outcome Taken). o .state) (take-wrong p))
-  wrong-call (on (run n)) = (ap (λ (o : Outcome Ran). runNumbers (o .answer) .refusal) (run-wrong n), ap (λ (o : Outcome Ran). o .state) (run-wrong n))
+      let e = wrong-on Taken.Refused (takeOn (tableOf table) (view state) p) in
+      (ap (λ (o : Outcome Taken). takeNumbers (o .answer) .refusal) e, ap (λ (o : Outcome Taken). o .state) e)
+  wrong-call (on (run n)) =
+      let e = wrong-on Ran.Refused (runOn (tableOf table) (view state) n) in
+      (ap (λ (o : Outcome Ran). runNumbers (o .answer) .refusal) e, ap (λ (o : Outcome Ran). o .state) e)
   wrong-call collect =
-      (ap (λ (o : Outcome Collected). collectNumbers (o .answer) .refusal) collect-wrong, ap (λ (o : Outcome Collected). o .state) collect-wrong)
+      let e = wrong-on Collected.Refused (collectOn (tableOf table) (view state)) in
+      (ap (λ (o : Outcome Collected). collectNumbers (o .answer) .refusal) e, ap (λ (o : Outcome Collected). o .state) e)
 
   pub wrong-list : (ks : List Any) → leftAll table state ks ≡ state
   unfolding leftAll

@@ -7,6 +7,7 @@ use lib.Dec.{ltb, eqb}
 use lib.ListN.{getD, set}
 use Rattle.numbers.specs.Rows.{at}
 use Rattle.numbers.specs.Search.{some}
+use Rattle.table.specs.Fields as Field
 use Rattle.table.specs.Table.{Table}
 use Rattle.state.specs.State.{maxChannels, slotOf}
 
@@ -19,7 +20,7 @@ module _ (tb : Table) (from : ℕ) (row : List ℕ) where
   unfoldable pub ownBy : List ℕ → ℕ → ℕ
   ownBy l k =
       cond (ltb (slotOf row k) maxChannels)
-      (cond (eqb (at tb (from + k) 1) 0) maxChannels (cond (listed l k (slotOf row k)) maxChannels (slotOf row k))) maxChannels
+      (cond (eqb (at tb (from + k) Field.type) 0) maxChannels (cond (listed l k (slotOf row k)) maxChannels (slotOf row k))) maxChannels
 
   -- a list with the first k of its entries written so
   unfoldable pub listedTo : List ℕ → ℕ → List ℕ

@@ -14,6 +14,7 @@ use Rattle.numbers.specs.Rows.{at}
 use Rattle.numbers.specs.Search.{tabulate}
 use Rattle.numbers.specs.Search.Laws.{caseB, contra, getD-tabulate}
 use Rattle.numbers.specs.Tests.{and-left, and-right}
+use Rattle.table.specs.Fields as Field
 use Rattle.table.specs.Table.{Table, maxNodes}
 use Rattle.table.specs.Layout.{branchCount}
 use Rattle.flow.specs.Flow.{Marks, markCount, slotWritten, pastWrite, either, arrive, begins, beginning, branchFollowed, branchesFollowed, flowTo}
@@ -72,11 +73,11 @@ module _ (tb : Table) where
     unfolding branchFollowed
     branch-iff f m r ms e =
         let w = pastWrite (slotWritten tb r) m in
-        let next = arrive-iff ms (f + at tb r 8) w e in
-        let child = arrive-iff (arrive ms (f + at tb r 8) w) (f + at tb r 9) w (length-arrive ms (f + at tb r 8) w ∙ e) in
+        let next = arrive-iff ms (f + at tb r Field.next) w e in
+        let child = arrive-iff (arrive ms (f + at tb r Field.next) w) (f + at tb r Field.child) w (length-arrive ms (f + at tb r Field.next) w ∙ e) in
         let past = past-iff m r in
-        caseB (eqb (at tb r 4) 4)
-        (λ y. let spawn : at tb r 4 ≡ 4 = eqb-true (at tb r 4) 4 y in
+        caseB (eqb (at tb r Field.action) 4)
+        (λ y. let spawn : at tb r Field.action ≡ 4 = eqb-true (at tb r Field.action) 4 y in
         rw y (
           λ x. ⊎-elim (λ a. ⊎-map (λ b. b) (λ b. (inl (b .0), past .0 (b .1))) (next .0 a)) (λ b. inr (inr (spawn, b .0), past .0 (b .1))) (child .0 x),
           λ s. child .1 (⊎-elim (λ a. inl (next .1 (inl a)))
@@ -84,7 +85,7 @@ module _ (tb : Table) where
         ))
         (λ y. rw y (
           λ x. ⊎-map (λ a. a) (λ b. (inl (b .0), past .0 (b .1))) (next .0 x),
-          λ s. next .1 (⊎-map (λ a. a) (λ b. (⊎-elim (λ q. q) (λ c. absurd (eqb-false (at tb r 4) 4 y (c .0))) (b .0), past .1 (b .1))) s),
+          λ s. next .1 (⊎-map (λ a. a) (λ b. (⊎-elim (λ q. q) (λ c. absurd (eqb-false (at tb r Field.action) 4 y (c .0))) (b .0), past .1 (b .1))) s),
         ))
 
     branches-iff : (n : ℕ) (m : List Bool) (ms : Marks) → length ms ≡ maxNodes → (i : ℕ) → (mark (branchesFollowed tb n m ms i) t k ≡ true) ↔ ((mark ms t k ≡ true) ⊎ ((j : ℕ) × (j < i) × Brings n m t k j))

@@ -10,6 +10,7 @@ use Rattle.numbers.specs.Rows.{at}
 use Rattle.numbers.specs.Search.{every}
 use Rattle.numbers.specs.Search.Laws.{caseB, contra, every-intro}
 use Rattle.numbers.specs.Tests.{and-left, and-right}
+use Rattle.table.specs.Fields as Field
 use Rattle.table.specs.Table.{Table, nodes, nodeRow, branchRow, lineTotal, parameters}
 use Rattle.table.specs.Layout.{start, branchCount}
 use Rattle.table.specs.Roles.{operand, operandRole, reads}
@@ -29,8 +30,8 @@ module _ (tb : Table) (g : Formed tb) where
   pub reached-says : (r : ℕ) → r < lineTotal tb → Says (unreachable tb r) (NotReached tb r)
   unfolding unreachable
   reached-says r h = (
-    λ e. caseB (eqb (at tb r 0) 5)
-        (λ y. let (n, b, q) = node-row tb g r h (eqb-true (at tb r 0) 5 y) in (n, b, q, λ p. contra e (fine n b q p)))
+    λ e. caseB (eqb (at tb r Field.kind) 5)
+        (λ y. let (n, b, q) = node-row tb g r h (eqb-true (at tb r Field.kind) 5 y) in (n, b, q, λ p. contra e (fine n b q p)))
         (λ y. contra (rw y at e) refl),
     λ w. let (n, b, q, f) = w in caseB (unreachable tb r) (λ y. y)
         (λ y. absurd (f (unreachable-iff tb g n b .0 (rw q at y)))),
@@ -56,10 +57,10 @@ module _ (tb : Table) (g : Formed tb) where
       let r = nodeRow tb + n in
       let m : r - nodeRow tb ≡ n = omega arith in
       let f : callWritten tb r n ≡ false = not-true (callWritten tb r n) (rw (node-kind tb g n h, m) at e) in
-      caseB (eqb (at tb r 1) 2)
-      (λ y. let c = eqb-true (at tb r 1) 2 y in
-      let (j, z, w) = one-fails (argumentWritten tb r n) (parameters tb (at tb r 2)) (rw y at f) in
-      (at tb r (3 + j), (j, c, z, refl), lacks n (at tb r (3 + j)) h (argument-slot tb g n j h c z) (not-false _ w)))
+      caseB (eqb (at tb r Field.nodeKind) 2)
+      (λ y. let c = eqb-true (at tb r Field.nodeKind) 2 y in
+      let (j, z, w) = one-fails (argumentWritten tb r n) (parameters tb (at tb r Field.callee)) (rw y at f) in
+      (at tb r (Field.arguments + j), (j, c, z, refl), lacks n (at tb r (Field.arguments + j)) h (argument-slot tb g n j h c z) (not-false _ w)))
       (λ y. contra refl (rw y at f))
 
   branch-reads : (n i : ℕ) → n < nodes tb → i < branchCount tb n → readsUnwritten tb (rowOf tb n i) ≡ true
@@ -78,10 +79,10 @@ module _ (tb : Table) (g : Formed tb) where
   pub unwritten-says : (r : ℕ) → r < lineTotal tb → Says (readsUnwritten tb r) (ReadsUnwritten tb r)
   unfolding readsUnwritten rowWritten
   unwritten-says r h = (
-    λ e. caseB (eqb (at tb r 0) 5)
-        (λ y. let (n, b, q) = node-row tb g r h (eqb-true (at tb r 0) 5 y) in inl (n, b, q, call-reads n b (rw q at e)))
-        (λ y. caseB (eqb (at tb r 0) 6)
-        (λ z. let (n, i, b, l, q) = branch-row-of tb g r h (eqb-true (at tb r 0) 6 z) in inr (n, i, b, l, q, own n i b l q e))
+    λ e. caseB (eqb (at tb r Field.kind) 5)
+        (λ y. let (n, b, q) = node-row tb g r h (eqb-true (at tb r Field.kind) 5 y) in inl (n, b, q, call-reads n b (rw q at e)))
+        (λ y. caseB (eqb (at tb r Field.kind) 6)
+        (λ z. let (n, i, b, l, q) = branch-row-of tb g r h (eqb-true (at tb r Field.kind) 6 z) in inr (n, i, b, l, q, own n i b l q e))
         (λ z. contra (rw (y, z) at e) refl)),
     λ w. caseB (readsUnwritten tb r) (λ y. y) (λ y. absurd (⊎-elim
         (λ a. let (n, b, q, s) = a in s .2 (call-iff tb g n b .0 (rw q at y) (s .0) (s .1)))

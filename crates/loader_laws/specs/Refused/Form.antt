@@ -18,7 +18,8 @@ use Rattle.numbers.specs.Search.Laws.{caseB, contra, every-elim, every-intro, g
 use Rattle.numbers.specs.Tests.{and-left, and-right, parts}
 use Rattle.text.specs.Text.{fieldOf, text}
 use Rattle.text.specs.Text.Laws.{reads-value, wrong-reads, text-reads, text-injective}
-use Rattle.table.specs.Table.{Table, maxRows, rowNumbers, types, definitions, slots, nodes, branches, ports, lineTotal, definitionRow, slotRow, nodeRow, branchRow}
+use Rattle.table.specs.Fields as Field
+use Rattle.table.specs.Table.{Table, maxRows, rowNumbers, maxTypes, maxDefinitions, maxSlots, maxNodes, maxBranches, maxPorts, types, definitions, slots, nodes, branches, ports, lineTotal, definitionRow, slotRow, nodeRow, branchRow}
 use Rattle.table.specs.Layout.{blocks, lines, size, branchCount}
 use Rattle.table.specs.Form.{within, headerInRange, kindDue, kindWrong, sumAgrees, sumsAgree}
 use Rattle.table.specs.Form.Laws.{within-least, within-most, header-counts}
@@ -118,17 +119,17 @@ module _ (tb : Table) (s : Shaped tb) where
     where
       Six : Type 0
       Six =
-          Within (from 0 16) (number tb 0 1)
-          × (Within (from 1 16) (number tb 0 2)
-          × (Within (from 0 256) (number tb 0 3)
-          × (Within (from 1 192) (number tb 0 4)
-          × (Within (from 0 384) (number tb 0 5) × Within (from 0 8) (number tb 0 6)))))
+          Within (from 0 maxTypes) (number tb 0 Field.types)
+          × (Within (from 1 maxDefinitions) (number tb 0 Field.definitions)
+          × (Within (from 0 maxSlots) (number tb 0 Field.slots)
+          × (Within (from 1 maxNodes) (number tb 0 Field.nodes)
+          × (Within (from 0 maxBranches) (number tb 0 Field.branches) × Within (from 0 maxPorts) (number tb 0 Field.ports)))))
 
       all : Says (headerInRange tb) Six
       all =
-          says-and _ _ _ _ (within-says (types tb) 0 16 (omega arith)) (λ _. says-and _ _ _ _ (within-says (definitions tb) 1 16 (omega arith)) (λ _.
-          says-and _ _ _ _ (within-says (slots tb) 0 256 (omega arith)) (λ _. says-and _ _ _ _ (within-says (nodes tb) 1 192 (omega arith)) (λ _.
-          says-and _ _ _ _ (within-says (branches tb) 0 384 (omega arith)) (λ _. within-says (ports tb) 0 8 (omega arith))))))
+          says-and _ _ _ _ (within-says (types tb) 0 maxTypes (omega arith)) (λ _. says-and _ _ _ _ (within-says (definitions tb) 1 maxDefinitions (omega arith)) (λ _.
+          says-and _ _ _ _ (within-says (slots tb) 0 maxSlots (omega arith)) (λ _. says-and _ _ _ _ (within-says (nodes tb) 1 maxNodes (omega arith)) (λ _.
+          says-and _ _ _ _ (within-says (branches tb) 0 maxBranches (omega arith)) (λ _. within-says (ports tb) 0 maxPorts (omega arith))))))
 
       field : Six → (k : ℕ) → k < 6 → Within (getD headerLimits k unused) (number tb 0 (suc k))
       field w zero h = w .0
@@ -160,7 +161,7 @@ module _ (tb : Table) (s : Shaped tb) where
     size-few Slots i h = let c = header-counts tb e in s .small (definitionRow tb + i) 2 (omega arith) (omega arith)
     size-few Nodes i h = let c = header-counts tb e in s .small (definitionRow tb + i) 3 (omega arith) (omega arith)
     size-few Branches i h = let c = header-counts tb e in
-        caseB (eqb (at tb (nodeRow tb + i) 1) 1) (λ y. rw y (s .small (nodeRow tb + i) 2 (omega arith) (omega arith))) (λ y. rw y (omega arith))
+        caseB (eqb (at tb (nodeRow tb + i) Field.nodeKind) 1) (λ y. rw y (s .small (nodeRow tb + i) 2 (omega arith) (omega arith))) (λ y. rw y (omega arith))
 
     pub sums-says : Says (not (sumsAgree tb)) (SumsWrong tb)
     unfolding sumsAgree
@@ -202,9 +203,9 @@ module _ (tb : Table) (r : ℕ) where
   pub kind-says : Says (kindWrong tb r) (KindWrong tb r)
   unfolding kindWrong
   kind-says =
-      let b = number-iff (at tb r 0) (kindDue tb r) (omega (arith, due-few .1)) in
-      says-not (eqb (at tb r 0) (kindDue tb r)) (number tb r 0 ≡ pos (kindDue tb r))
-      (λ y. b .1 (eqb-true (at tb r 0) (kindDue tb r) y), λ q. eq-eqb (at tb r 0) (kindDue tb r) (b .0 q))
+      let b = number-iff (at tb r Field.kind) (kindDue tb r) (omega (arith, due-few .1)) in
+      says-not (eqb (at tb r Field.kind) (kindDue tb r)) (number tb r Field.kind ≡ pos (kindDue tb r))
+      (λ y. b .1 (eqb-true (at tb r Field.kind) (kindDue tb r) y), λ q. eq-eqb (at tb r Field.kind) (kindDue tb r) (b .0 q))
 
 -- ---- the fields of a file that ground 2 does not refuse
 

@@ -14,7 +14,8 @@ use Rattle.numbers.specs.Rows.{at}
 use Rattle.numbers.specs.Search.{every}
 use Rattle.numbers.specs.Search.Laws.{caseB, contra, every-elim, every-intro}
 use Rattle.numbers.specs.Tests.{and-left, and-right, parts}
-use Rattle.table.specs.Table.{Table, maxRows, types, definitions, nodes, definitionRow, slotRow, nodeRow, branchRow, lineTotal, parameters, slotCount, nodeCount}
+use Rattle.table.specs.Fields as Field
+use Rattle.table.specs.Table.{Table, maxRows, maxParameters, maxOwnSlots, maxOwnNodes, maxOwnBranches, types, definitions, nodes, definitionRow, slotRow, nodeRow, branchRow, lineTotal, parameters, slotCount, nodeCount}
 use Rattle.table.specs.Layout.{blocks, lines, start, definitionOf, nodeOf}
 use Rattle.table.specs.Form.{within, headerInRange, kindDue}
 use Rattle.table.specs.Form.Laws.{header-counts}
@@ -115,60 +116,60 @@ module _ (tb : Table) (s : Shaped tb) where
   module _ (r : ℕ) (few : r < maxRows) where
     type-line : types tb < 32768 → Says (typeInRange tb r) (AllIn tb r 1 (typeLimits tb))
     unfolding AllIn typeInRange typeLimits from
-    type-line h = rw (low-number (types tb) h) (says-and _ _ _ _ (within-says (at tb r 1) 0 (types tb) h) (λ _. same _))
+    type-line h = rw (low-number (types tb) h) (says-and _ _ _ _ (within-says (at tb r Field.type) 0 (types tb) h) (λ _. same _))
 
-    slots-within : at tb r 1 ≤ 8 → Says (within (at tb r 1) 16 (at tb r 2)) (Within (record { least = number tb r 1; most = pos 16 }) (number tb r 2))
+    slots-within : at tb r Field.parameters ≤ maxParameters → Says (within (at tb r Field.parameters) maxOwnSlots (at tb r Field.ownSlots)) (Within (record { least = number tb r Field.parameters; most = pos maxOwnSlots }) (number tb r Field.ownSlots))
     unfolding from
-    slots-within h = rw (low-number (at tb r 1) (omega arith)) (within-says (at tb r 2) (at tb r 1) 16 (omega arith))
+    slots-within h = rw (low-number (at tb r Field.parameters) (omega arith)) (within-says (at tb r Field.ownSlots) (at tb r Field.parameters) maxOwnSlots (omega arith))
 
     definition-line : Says (definitionInRange tb r) (AllIn tb r 1 (definitionLimits tb r))
     unfolding AllIn definitionInRange definitionLimits
-    definition-line = says-and _ _ _ _ (within-says (at tb r 1) 0 8 (omega arith))
-        (λ w. says-and _ _ _ _ (slots-within (from-iff (at tb r 1) 0 8 (omega arith) .0 w .1))
-        (λ _. says-and _ _ _ _ (within-says (at tb r 3) 1 192 (omega arith)) (λ _. same _)))
+    definition-line = says-and _ _ _ _ (within-says (at tb r Field.parameters) 0 maxParameters (omega arith))
+        (λ w. says-and _ _ _ _ (slots-within (from-iff (at tb r Field.parameters) 0 maxParameters (omega arith) .0 w .1))
+        (λ _. says-and _ _ _ _ (within-says (at tb r Field.ownNodes) 1 maxOwnNodes (omega arith)) (λ _. same _)))
 
     -- a call, in a definition of m slots
-    arguments-all : (m p : ℕ) → m < 32768 → p ≤ 8 → Says (every (argumentInRange tb r m) p && restUnused tb r (3 + p)) (AllIn tb r 3 (replicate p (numbered (pos m))))
+    arguments-all : (m p : ℕ) → m < 32768 → p ≤ maxParameters → Says (every (argumentInRange tb r m) p && restUnused tb r (3 + p)) (AllIn tb r 3 (replicate p (numbered (pos m))))
     unfolding argumentInRange
     arguments-all m p h l = (
       λ e. alike-all tb r (numbered (pos m)) p 3
-          (λ j z. numbered-says (at tb r (3 + j)) m h .0 (every-elim (argumentInRange tb r m) p j (and-left _ _ e) z))
+          (λ j z. numbered-says (at tb r (Field.arguments + j)) m h .0 (every-elim (argumentInRange tb r m) p j (and-left _ _ e) z))
           (and-right (every (argumentInRange tb r m) p) _ e),
       λ w. let (f, u) = all-alike tb r (numbered (pos m)) p 3 w in
-          let a = every-intro (argumentInRange tb r m) p (λ j z. numbered-says (at tb r (3 + j)) m h .1 (f j z)) in rw (a, u),
+          let a = every-intro (argumentInRange tb r m) p (λ j z. numbered-says (at tb r (Field.arguments + j)) m h .1 (f j z)) in rw (a, u),
     )
 
-    module _ (d : ℕ) (called : at tb r 2 < definitions tb → parameters tb (at tb r 2) ≤ 8) (known : definitions tb < 32768) (own : slotCount tb d < 32768) where
+    module _ (d : ℕ) (called : at tb r Field.callee < definitions tb → parameters tb (at tb r Field.callee) ≤ maxParameters) (known : definitions tb < 32768) (own : slotCount tb d < 32768) where
       call-line : Says (callInRange tb r (slotCount tb d)) (AllIn tb r 2 (callLimits tb r d))
       unfolding AllIn callInRange callLimits
       call-line = rw (low-number (definitions tb) known, low-number (slotCount tb d) own)
-          (says-and _ _ _ _ (numbered-says (at tb r 2) (definitions tb) known)
-          (λ w. arguments-all (slotCount tb d) (parameters tb (at tb r 2)) own (called (numbered-iff (at tb r 2) (definitions tb) known .0 w))))
+          (says-and _ _ _ _ (numbered-says (at tb r Field.callee) (definitions tb) known)
+          (λ w. arguments-all (slotCount tb d) (parameters tb (at tb r Field.callee)) own (called (numbered-iff (at tb r Field.callee) (definitions tb) known .0 w))))
 
       -- the limits of a call's line are no more than its fields
-      call-few : Within (numbered (number tb 0 2)) (number tb r 2) → 2 + length (callLimits tb r d) ≤ 12
+      call-few : Within (numbered (number tb 0 Field.definitions)) (number tb r Field.callee) → 2 + length (callLimits tb r d) ≤ 12
       unfolding callLimits
       call-few w =
-          let u : Within (numbered (pos (definitions tb))) (number tb r 2) = rw (low-number (definitions tb) known) at w in
-          omega (arith, called (numbered-iff (at tb r 2) (definitions tb) known .0 u), length-replicate {A = Limits} (parameters tb (at tb r 2)) (numbered (number tb (definitionRow tb + d) 2)))
+          let u : Within (numbered (pos (definitions tb))) (number tb r Field.callee) = rw (low-number (definitions tb) known) at w in
+          omega (arith, called (numbered-iff (at tb r Field.callee) (definitions tb) known .0 u), length-replicate {A = Limits} (parameters tb (at tb r Field.callee)) (numbered (number tb (definitionRow tb + d) Field.ownSlots)))
 
     -- a node, in definition d
     first-field : (c : ℕ) (t : Bool) (A : Type 0) → c ≤ 2 → Says t A → Says t (Within (from 0 2) (toZ w16 c) × A)
     first-field c t A h a = (λ e. (from-iff c 0 2 (omega arith) .1 (omega arith, h), a .0 e), λ w. a .1 (w .1))
 
-    node-line : (at tb r 2 < definitions tb → parameters tb (at tb r 2) ≤ 8) → definitions tb < 32768 → slotCount tb (definitionOf tb (r - nodeRow tb)) < 32768
+    node-line : (at tb r Field.callee < definitions tb → parameters tb (at tb r Field.callee) ≤ maxParameters) → definitions tb < 32768 → slotCount tb (definitionOf tb (r - nodeRow tb)) < 32768
         → Says (nodeInRange tb r) (AllIn tb r 1 (nodeLimits tb r (definitionOf tb (r - nodeRow tb))))
     unfolding AllIn nodeInRange nodeLimits
     node-line called known own =
-        let c = at tb r 1 in
+        let c = at tb r Field.nodeKind in
         caseB (eqb c 0) (λ y. rw (eqb-true c 0 y) (first-field 0 _ _ (omega arith) (same _)))
         (λ y. caseB (eqb c 1)
-        (λ z. rw (eqb-true c 1 z) (first-field 1 _ _ (omega arith) (says-and _ _ _ _ (within-says (at tb r 2) 1 8 (omega arith)) (λ _. same _))))
+        (λ z. rw (eqb-true c 1 z) (first-field 1 _ _ (omega arith) (says-and _ _ _ _ (within-says (at tb r Field.ownBranches) 1 maxOwnBranches (omega arith)) (λ _. same _))))
         (λ z. caseB (eqb c 2)
         (λ x. rw (eqb-true c 2 x) (first-field 2 _ _ (omega arith) (call-line (definitionOf tb (r - nodeRow tb)) called known own)))
         (λ x. rw (y, z, x) (λ e. contra e refl, λ w. absurd (none (from-iff c 0 2 (omega arith) .0 (w .0) .1) (eqb-false c 0 y) (eqb-false c 1 z) (eqb-false c 2 x))))))
       where
-        none : at tb r 1 ≤ 2 → (at tb r 1 ≡ 0 → ⊥) → (at tb r 1 ≡ 1 → ⊥) → (at tb r 1 ≡ 2 → ⊥) → ⊥
+        none : at tb r Field.nodeKind ≤ 2 → (at tb r Field.nodeKind ≡ 0 → ⊥) → (at tb r Field.nodeKind ≡ 1 → ⊥) → (at tb r Field.nodeKind ≡ 2 → ⊥) → ⊥
         none h y z x = omega arith
 
     -- a branch of node n, in definition d
@@ -187,9 +188,9 @@ module _ (tb : Table) (s : Shaped tb) where
             λ w. let (a, c) = b .0 w in rw (lt-ltb m v a, lt-ltb v (nodeCount tb d) c),
           )
 
-      child-line : Says (cond (eqb (at tb r 4) 4) (ahead (n - start tb Nodes d) (nodeCount tb d) (at tb r 9)) (eqb (at tb r 9) 0)) (Within (cond (eqb (at tb r 4) 4) (onward tb n d) unused) (number tb r 9))
-      child-line = let b = zero-iff (at tb r 9) in
-          caseB (eqb (at tb r 4) 4) (λ y. rw y (target-line (at tb r 9))) (λ y. rw y (λ e. b .1 (eqb-true (at tb r 9) 0 e), λ w. eq-eqb (at tb r 9) 0 (b .0 w)))
+      child-line : Says (cond (eqb (at tb r Field.action) 4) (ahead (n - start tb Nodes d) (nodeCount tb d) (at tb r Field.child)) (eqb (at tb r Field.child) 0)) (Within (cond (eqb (at tb r Field.action) 4) (onward tb n d) unused) (number tb r Field.child))
+      child-line = let b = zero-iff (at tb r Field.child) in
+          caseB (eqb (at tb r Field.action) 4) (λ y. rw y (target-line (at tb r Field.child))) (λ y. rw y (λ e. b .1 (eqb-true (at tb r Field.child) 0 e), λ w. eq-eqb (at tb r Field.child) 0 (b .0 w)))
 
       branch-line : Says (branchInRange tb r n d) (AllIn tb r 1 (branchLimits tb r n d))
       unfolding AllIn branchInRange targetsInRange branchLimits operandPlace
@@ -210,7 +211,7 @@ module _ (tb : Table) (s : Shaped tb) where
                         (
                           operand-line 4 (omega arith) .0 (each 4 (omega arith)),
                           (
-                            target-line (at tb r 8) .0 (search parts depth 9),
+                            target-line (at tb r Field.next) .0 (search parts depth 9),
                             (child-line .0 (search parts depth 9), search parts depth 9),
                           ),
                         ),
@@ -223,16 +224,16 @@ module _ (tb : Table) (s : Shaped tb) where
         λ w. let a = guard .1 (w .0) in
             let b = act .1 (w .1 .1 .1 .0) in
             let c = every-intro (operandInRange tb r (slotCount tb d)) 5 (five (operand-line 0 (omega arith) .1 (w .1 .0)) (operand-line 1 (omega arith) .1 (w .1 .1 .0)) (operand-line 2 (omega arith) .1 (w .1 .1 .1 .1 .0)) (operand-line 3 (omega arith) .1 (w .1 .1 .1 .1 .1 .0)) (operand-line 4 (omega arith) .1 (w .1 .1 .1 .1 .1 .1 .0))) in
-            let x = target-line (at tb r 8) .1 (w .1 .1 .1 .1 .1 .1 .1 .0) in
+            let x = target-line (at tb r Field.next) .1 (w .1 .1 .1 .1 .1 .1 .1 .0) in
             let y = child-line .1 (w .1 .1 .1 .1 .1 .1 .1 .1 .0) in
             rw (a, b, c, x, y, w .1 .1 .1 .1 .1 .1 .1 .1 .1),
       )
         where
-          guard : Says (within 0 4 (at tb r 1)) (Within (from 0 4) (number tb r 1))
-          guard = within-says (at tb r 1) 0 4 (omega arith)
+          guard : Says (within 0 4 (at tb r Field.guard)) (Within (from 0 4) (number tb r Field.guard))
+          guard = within-says (at tb r Field.guard) 0 4 (omega arith)
 
-          act : Says (within 0 7 (at tb r 4)) (Within (from 0 7) (number tb r 4))
-          act = within-says (at tb r 4) 0 7 (omega arith)
+          act : Says (within 0 7 (at tb r Field.action)) (Within (from 0 7) (number tb r Field.action))
+          act = within-says (at tb r Field.action) 0 7 (omega arith)
 
           In : ℕ → Type 0
           In k = operandInRange tb r (slotCount tb d) k ≡ true
@@ -267,32 +268,32 @@ module _ (tb : Table) (s : Shaped tb) (r : ℕ) (g : FormedTo tb r) (h : r < lin
   fields-says : (t : Bool) (l : List Limits) → (Fields tb r 1 l → 1 + length l ≤ 12) → Says t (AllIn tb r 1 l) → Says t (Fields tb r 1 l)
   fields-says t l b a = (λ e. all-fields tb r 1 l (a .0 e), λ f. a .1 (fields-all tb r 1 l (b f) f))
 
-  call-field : (d : ℕ) → Within (getD (callLimits tb r d) 0 unused) (number tb r 2) → Within (numbered (number tb 0 2)) (number tb r 2)
+  call-field : (d : ℕ) → Within (getD (callLimits tb r d) 0 unused) (number tb r Field.callee) → Within (numbered (number tb 0 Field.definitions)) (number tb r Field.callee)
   unfolding callLimits
   call-field d w = w
 
   -- the limits of a node's line are no more than its fields
-  node-few : (d : ℕ) → (at tb r 2 < definitions tb → parameters tb (at tb r 2) ≤ 8) → definitions tb < 32768 → slotCount tb d < 32768
+  node-few : (d : ℕ) → (at tb r Field.callee < definitions tb → parameters tb (at tb r Field.callee) ≤ maxParameters) → definitions tb < 32768 → slotCount tb d < 32768
       → Fields tb r 1 (nodeLimits tb r d) → 1 + length (nodeLimits tb r d) ≤ 12
   unfolding nodeLimits Fields
   node-few d called known own f =
-      caseB (eqb (at tb r 1) 1) (λ y. rw y (omega arith))
-      (λ y. caseB (eqb (at tb r 1) 2)
+      caseB (eqb (at tb r Field.nodeKind) 1) (λ y. rw y (omega arith))
+      (λ y. caseB (eqb (at tb r Field.nodeKind) 2)
       (λ z. rw (y, z) (omega (arith, call-few tb s r few-rows d called known own (call-field d (rw (y, z) at (f 1 (omega arith)))))))
       (λ z. rw (y, z) (omega arith)))
 
-  node-says : at tb r 0 ≡ 5 → Says (nodeInRange tb r) (Fields tb r 1 (nodeLimits tb r (definitionOf tb (r - nodeRow tb))))
+  node-says : at tb r Field.kind ≡ 5 → Says (nodeInRange tb r) (Fields tb r 1 (nodeLimits tb r (definitionOf tb (r - nodeRow tb))))
   node-says k =
       let c = header-counts tb (g .header) in
       let (n, b, q) = node-row tb g r h k in
       let o : r - nodeRow tb ≡ n = omega arith in
       let l : slotRow tb ≤ r = omega arith in
       let d : definitionOf tb (r - nodeRow tb) < definitions tb = rw o (definition-of tb g l n b) in
-      let called : at tb r 2 < definitions tb → parameters tb (at tb r 2) ≤ 8 = parameters-few tb g l (at tb r 2) in
+      let called : at tb r Field.callee < definitions tb → parameters tb (at tb r Field.callee) ≤ maxParameters = parameters-few tb g l (at tb r Field.callee) in
       let own : slotCount tb (definitionOf tb (r - nodeRow tb)) < 32768 = omega (arith, slots-few tb g l (definitionOf tb (r - nodeRow tb)) d) in
       fields-says _ _ (node-few (definitionOf tb (r - nodeRow tb)) called (omega (arith, c .few-definitions)) own) (node-line tb s r few-rows called (omega (arith, c .few-definitions)) own)
 
-  branch-says : at tb r 0 ≡ 6 → Says (branchInRange tb r (nodeOf tb (r - branchRow tb)) (definitionOf tb (nodeOf tb (r - branchRow tb)))) (Fields tb r 1 (branchLimits tb r (nodeOf tb (r - branchRow tb)) (definitionOf tb (nodeOf tb (r - branchRow tb)))))
+  branch-says : at tb r Field.kind ≡ 6 → Says (branchInRange tb r (nodeOf tb (r - branchRow tb)) (definitionOf tb (nodeOf tb (r - branchRow tb)))) (Fields tb r 1 (branchLimits tb r (nodeOf tb (r - branchRow tb)) (definitionOf tb (nodeOf tb (r - branchRow tb)))))
   unfolding lines blocks branchLimits
   branch-says k =
       let (b, z, q) = branch-row tb g r h k in
@@ -307,7 +308,7 @@ module _ (tb : Table) (s : Shaped tb) (r : ℕ) (g : FormedTo tb r) (h : r < lin
   unfolding rowInRange lineLimits typeLimits definitionLimits
   line-says =
       let c = header-counts tb (g .header) in
-      let k = at tb r 0 in
+      let k = at tb r Field.kind in
       let due = kind-is tb g r h in
       let few = due-few tb r in
       caseB (eqb k 1) (λ y. rw y (fields-says _ _ (λ _. omega arith) (header-at (due-header tb r (sym due ∙ eqb-true k 1 y)))))

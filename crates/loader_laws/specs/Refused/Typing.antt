@@ -10,6 +10,7 @@ use Rattle.numbers.specs.Rows.{at}
 use Rattle.numbers.specs.Search.{every}
 use Rattle.numbers.specs.Search.Laws.{caseB, contra, every-elim, every-intro}
 use Rattle.numbers.specs.Tests.{and-left, and-right, parts}
+use Rattle.table.specs.Fields as Field
 use Rattle.table.specs.Table.{Table, types, nodes, ports, definitionRow, nodeRow, branchRow, lineTotal, carried, parameters}
 use Rattle.table.specs.Layout.{start, branchCount, definitionOf, slotType}
 use Rattle.table.specs.Form.Laws.{within-most, header-counts}
@@ -47,16 +48,16 @@ module _ (tb : Table) where
 
   -- ---- calls
 
-  call-says : (r d : ℕ) → at tb r 1 ≡ 2 → Says (nodeTyped tb r d) (CallAgrees tb r d)
+  call-says : (r d : ℕ) → at tb r Field.nodeKind ≡ 2 → Says (nodeTyped tb r d) (CallAgrees tb r d)
   unfolding nodeTyped argumentTyped
   call-says r d c = rw c (
-    λ e i h. eqb-true _ _ (every-elim (argumentTyped tb r d) (parameters tb (at tb r 2)) i e h),
-    λ f. every-intro (argumentTyped tb r d) (parameters tb (at tb r 2)) (λ i h. eq-eqb _ _ (f i h)),
+    λ e i h. eqb-true _ _ (every-elim (argumentTyped tb r d) (parameters tb (at tb r Field.callee)) i e h),
+    λ f. every-intro (argumentTyped tb r d) (parameters tb (at tb r Field.callee)) (λ i h. eq-eqb _ _ (f i h)),
   )
 
   -- ---- branches
 
-  module _ (r d : ℕ) (guards : at tb r 1 ≤ 4) (acts : at tb r 4 ≤ 7) where
+  module _ (r d : ℕ) (guards : at tb r Field.guard ≤ 4) (acts : at tb r Field.action ≤ 7) where
     -- what each operand asks, by the code of its guard or action
     typed : (k : ℕ) → branchTyped tb r d ≡ true → k < 5 → operandTyped tb r d k ≡ true
     unfolding branchTyped
@@ -80,28 +81,28 @@ module _ (tb : Table) where
     one-of g m h l = caseB (eqb g m) (λ y. inl (eqb-true g m y)) (λ y. let q = eqb-false g m y in inr (omega arith))
 
     module _ (b : BranchAgrees tb r d) where
-      guard-low : eqb (at tb r 1) 0 ≡ false → ltb (at tb r 1) 3 ≡ true → (at tb r 1 ≡ 1) ⊎ (at tb r 1 ≡ 2)
-      guard-low y z = let q = eqb-false (at tb r 1) 0 y in one-of (at tb r 1) 1 (omega arith) (omega (arith, ltb-true (at tb r 1) 3 z))
+      guard-low : eqb (at tb r Field.guard) 0 ≡ false → ltb (at tb r Field.guard) 3 ≡ true → (at tb r Field.guard ≡ 1) ⊎ (at tb r Field.guard ≡ 2)
+      guard-low y z = let q = eqb-false (at tb r Field.guard) 0 y in one-of (at tb r Field.guard) 1 (omega arith) (omega (arith, ltb-true (at tb r Field.guard) 3 z))
 
-      guard-high : ltb (at tb r 1) 3 ≡ false → (at tb r 1 ≡ 3) ⊎ (at tb r 1 ≡ 4)
-      guard-high z = one-of (at tb r 1) 3 (ltb-false (at tb r 1) 3 z) guards
+      guard-high : ltb (at tb r Field.guard) 3 ≡ false → (at tb r Field.guard ≡ 3) ⊎ (at tb r Field.guard ≡ 4)
+      guard-high z = one-of (at tb r Field.guard) 3 (ltb-false (at tb r Field.guard) 3 z) guards
 
-      act-high : ltb 5 (at tb r 4) ≡ true → (at tb r 4 ≡ 6) ⊎ (at tb r 4 ≡ 7)
-      act-high z = one-of (at tb r 4) 6 (ltb-true 5 (at tb r 4) z) acts
+      act-high : ltb 5 (at tb r Field.action) ≡ true → (at tb r Field.action ≡ 6) ⊎ (at tb r Field.action ≡ 7)
+      act-high z = one-of (at tb r Field.action) 6 (ltb-true 5 (at tb r Field.action) z) acts
 
       first-typed : operandTyped tb r d 0 ≡ true
       unfolding operandTyped operandRole guardRole operand operandPlace roleTyped
-      first-typed = caseB (eqb (at tb r 1) 0) (λ y. rw y)
-          (λ y. caseB (ltb (at tb r 1) 3) (λ z. rw (y, z) (eq-eqb _ 0 (b .constant-guard (guard-low y z)))) (λ z. rw (y, z) (eq-eqb _ 0 (b .slot-guard (guard-high z) .0))))
+      first-typed = caseB (eqb (at tb r Field.guard) 0) (λ y. rw y)
+          (λ y. caseB (ltb (at tb r Field.guard) 3) (λ z. rw (y, z) (eq-eqb _ 0 (b .constant-guard (guard-low y z)))) (λ z. rw (y, z) (eq-eqb _ 0 (b .slot-guard (guard-high z) .0))))
 
       second-typed : operandTyped tb r d 1 ≡ true
       unfolding operandTyped operandRole guardRole operand operandPlace roleTyped
-      second-typed = caseB (eqb (at tb r 1) 0) (λ y. rw y)
-          (λ y. caseB (ltb (at tb r 1) 3) (λ z. rw (y, z)) (λ z. rw (y, z) (eq-eqb _ 0 (b .slot-guard (guard-high z) .1))))
+      second-typed = caseB (eqb (at tb r Field.guard) 0) (λ y. rw y)
+          (λ y. caseB (ltb (at tb r Field.guard) 3) (λ z. rw (y, z)) (λ z. rw (y, z) (eq-eqb _ 0 (b .slot-guard (guard-high z) .1))))
 
       a-typed : operandTyped tb r d 2 ≡ true
       unfolding operandTyped operandRole actionRole operand operandPlace roleTyped
-      a-typed = let a = at tb r 4 in
+      a-typed = let a = at tb r Field.action in
           caseB (eqb a 1) (λ y. rw (y, ne-eqb _ 0 (b .send-receive (inl (eqb-true a 1 y)) .0)))
           (λ y. caseB (eqb a 2) (λ z. rw (y, z, ne-eqb _ 0 (b .send-receive (inr (eqb-true a 2 z)) .0)))
           (λ z. caseB (eqb a 3) (λ x. rw (y, z, x, ne-eqb _ 0 (b .new-channel (eqb-true a 3 x))))
@@ -110,7 +111,7 @@ module _ (tb : Table) where
 
       b-typed : operandTyped tb r d 3 ≡ true
       unfolding operandTyped operandRole actionRole operand operandPlace roleTyped
-      b-typed = let a = at tb r 4 in
+      b-typed = let a = at tb r Field.action in
           caseB (eqb a 1) (λ y. rw y (eq-eqb _ _ (b .send-receive (inl (eqb-true a 1 y)) .1)))
           (λ y. caseB (eqb a 2) (λ z. rw (y, z) (eq-eqb _ _ (b .send-receive (inr (eqb-true a 2 z)) .1)))
           (λ z. caseB (eqb a 3) (λ x. rw (y, z, x))
@@ -119,7 +120,7 @@ module _ (tb : Table) where
 
       c-typed : operandTyped tb r d 4 ≡ true
       unfolding operandTyped operandRole actionRole operand operandPlace roleTyped
-      c-typed = let a = at tb r 4 in
+      c-typed = let a = at tb r Field.action in
           caseB (eqb a 1) (λ y. rw y)
           (λ y. caseB (eqb a 2) (λ z. rw (y, z))
           (λ z. caseB (eqb a 3) (λ x. rw (y, z, x))
@@ -141,11 +142,11 @@ module _ (tb : Table) where
 -- ---- the line
 
 module _ (tb : Table) (g : Formed tb) where
-  own-codes : (n i : ℕ) → n < nodes tb → i < branchCount tb n → (at tb (rowOf tb n i) 1 ≤ 4) × (at tb (rowOf tb n i) 4 ≤ 7)
+  own-codes : (n i : ℕ) → n < nodes tb → i < branchCount tb n → (at tb (rowOf tb n i) Field.guard ≤ 4) × (at tb (rowOf tb n i) Field.action ≤ 7)
   unfolding branchInRange
   own-codes n i h l =
       let p = own-branch-in-range tb g n i h l in
-      (within-most 0 4 (at tb (rowOf tb n i) 1) (search parts depth 9), within-most 0 7 (at tb (rowOf tb n i) 4) (search parts depth 9))
+      (within-most 0 4 (at tb (rowOf tb n i) Field.guard) (search parts depth 9), within-most 0 7 (at tb (rowOf tb n i) Field.action) (search parts depth 9))
 
   own-says : (n i : ℕ) → n < nodes tb → i < branchCount tb n → Says (branchTyped tb (rowOf tb n i) (definitionOf tb n)) (BranchAgrees tb (rowOf tb n i) (definitionOf tb n))
   own-says n i h l = let (a, b) = own-codes n i h l in branch-says tb (rowOf tb n i) (definitionOf tb n) a b
@@ -172,7 +173,7 @@ module _ (tb : Table) (g : Formed tb) where
   fails r w e = ⊎-elim (λ a. let (q, f) = a in f (ports-say tb .0 (rw (eq-eqb r (definitionRow tb) q) at e)))
       (λ s. ⊎-elim (λ a. let (n, h, q, f) = a in at-call n h q (f .0) (f .1)) (λ a. let (n, i, h, l, q, f) = a in at-own n i h l q f) s) w
     where
-      at-call : (n : ℕ) → n < nodes tb → r ≡ nodeRow tb + n → at tb r 1 ≡ 2 → ¬ CallAgrees tb r (definitionOf tb n) → ⊥
+      at-call : (n : ℕ) → n < nodes tb → r ≡ nodeRow tb + n → at tb r Field.nodeKind ≡ 2 → ¬ CallAgrees tb r (definitionOf tb n) → ⊥
       at-call n h q c f = f (call-says tb r (definitionOf tb n) c .0 (let t : rowTyped tb r ≡ nodeTyped tb r (definitionOf tb n) = rw q (at-node n h) in sym t ∙ e))
 
       at-own : (n i : ℕ) → n < nodes tb → i < branchCount tb n → r ≡ rowOf tb n i → ¬ BranchAgrees tb r (definitionOf tb n) → ⊥
@@ -184,14 +185,14 @@ module _ (tb : Table) (g : Formed tb) where
   types-say r h = (
     λ e. let f = not-true (rowTyped tb r) e in
         caseB (eqb r (definitionRow tb)) (λ y. inl (eqb-true r (definitionRow tb) y, λ p. contra (ports-say tb .1 p) (rw y at f)))
-        (λ y. caseB (eqb (at tb r 0) 5)
-        (λ z. let (n, b, q) = node-row tb g r h (eqb-true (at tb r 0) 5 z) in
-        caseB (eqb (at tb r 1) 2)
-        (λ x. let c = eqb-true (at tb r 1) 2 x in
+        (λ y. caseB (eqb (at tb r Field.kind) 5)
+        (λ z. let (n, b, q) = node-row tb g r h (eqb-true (at tb r Field.kind) 5 z) in
+        caseB (eqb (at tb r Field.nodeKind) 2)
+        (λ x. let c = eqb-true (at tb r Field.nodeKind) 2 x in
         inr (inl (n, b, q, (c, λ p. contra (call-says tb r (definitionOf tb n) c .1 p) (node-fails n b q f)))))
         (λ x. contra (let t : nodeTyped tb r (definitionOf tb n) ≡ true = rw x in t) (node-fails n b q f)))
-        (λ z. caseB (eqb (at tb r 0) 6)
-        (λ x. let (n, i, b, l, q) = branch-row-of tb g r h (eqb-true (at tb r 0) 6 x) in inr (inr (n, i, b, l, q, branch-fails n i b l q f)))
+        (λ z. caseB (eqb (at tb r Field.kind) 6)
+        (λ x. let (n, i, b, l, q) = branch-row-of tb g r h (eqb-true (at tb r Field.kind) 6 x) in inr (inr (n, i, b, l, q, branch-fails n i b l q f)))
         (λ x. contra (let t : rowTyped tb r ≡ true = rw (y, z, x) in t) f))),
     λ w. caseB (rowTyped tb r) (λ y. absurd (fails r w y)) (λ y. rw y),
   )

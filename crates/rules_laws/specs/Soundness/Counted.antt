@@ -10,12 +10,11 @@ use lib.ListN.{length, getD}
 use borrow.Author.Tests.{eqb-true, ltb-true, ltb-false, eq-eqb, ne-eqb}
 use Rattle.numbers.specs.Count.{bit}
 use Rattle.numbers.specs.Count.Laws.{count-some}
-use Rattle.numbers.specs.Rows.{at}
 use Rattle.numbers.specs.Search.{every}
 use Rattle.numbers.specs.Search.Laws.{caseB, every-elim, is-tabulate}
 use Rattle.numbers.specs.Tests.{parts}
 use Rattle.table.specs.Table.{Table, ports}
-use Rattle.state.specs.State.{State, maxChannels, thread, channel, typeIn, withChannels}
+use Rattle.state.specs.State.{State, maxChannels, thread, channel, typeIn, countIn, waitersIn, withChannels}
 use Rattle.rules.specs.Holding.{holds, holders, waiters, countOf, channelRow, recount, settled}
 use Rattle.rules.specs.Sound.{countTrue}
 use Rattle.upkeep.specs.Upkeep.{waiters-le}
@@ -52,14 +51,14 @@ module _ (tb : Table) (s : State) (h : Shaped s) where
   true-row c l e =
       let n = countOf tb (s .threads) c in
       let w = waiters tb (s .threads) c in
-      sym (row-is (channel s c) n w (h .channel-long c l) (eqb-true (at (s .channels) c 1) n (search parts)) (eqb-true (at (s .channels) c 2) w (search parts))
+      sym (row-is (channel s c) n w (h .channel-long c l) (eqb-true (countIn s c) n (search parts)) (eqb-true (waitersIn s c) w (search parts))
       (waiters-le tb (s .threads) c) (search parts))
 
   -- channel rows with true counts are settled
   pub true-settled : every (countTrue tb s) maxChannels ≡ true → settled tb s ≡ s
   unfolding settled recount withChannels
   true-settled e =
-      ap {B = State} (λ (y : List (List ℕ)). record { marks = s .marks; threads = s .threads; channels = y })
+      ap (withChannels s)
       (sym (is-tabulate (s .channels) maxChannels (λ c. channelRow (typeIn s c) (countOf tb (s .threads) c) (waiters tb (s .threads) c)) [] (h .all-channels)
       (λ c l. true-row c l (every-elim (countTrue tb s) maxChannels c e l))))
 
@@ -94,10 +93,10 @@ module _ (tb : Table) (s : State) (h : Sound tb s) (c : ℕ) (l : c < maxChannel
   counted-row = sym (ap (λ (x : State). channel x c) (h .counts)) ∙ settled-row tb s c l
 
   -- in a sound state the counts of each channel are true: how many hold it, the bench being one more for a port, and how many of them wait
-  pub count-is : at (s .channels) c 1 ≡ countOf tb (s .threads) c
+  pub count-is : countIn s c ≡ countOf tb (s .threads) c
   count-is = ap (λ (r : List ℕ). getD r 1 0) counted-row ∙ count-word (typeIn s c) (countOf tb (s .threads) c) (waiters tb (s .threads) c)
 
-  pub waiters-is : at (s .channels) c 2 ≡ waiters tb (s .threads) c
+  pub waiters-is : waitersIn s c ≡ waiters tb (s .threads) c
   waiters-is =
       ap (λ (r : List ℕ). getD r 2 0) counted-row
       ∙ waiters-word (typeIn s c) (countOf tb (s .threads) c) (waiters tb (s .threads) c) (waiters-le tb (s .threads) c)

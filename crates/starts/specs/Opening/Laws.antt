@@ -16,7 +16,7 @@ use Rattle.numbers.specs.Search.Laws.{caseB, getD-tabulate, tabulate-cong}
 use Rattle.table.specs.Table.{Table, ports}
 use Rattle.table.specs.Layout.{start}
 use Rattle.table.specs.declared.Part.the-variants.{Nodes}
-use Rattle.state.specs.State.{State, stateOf, stateWords, rowSlots, thread, channel, isWaiting, withMark, withThread, withChannel, withChannels}
+use Rattle.state.specs.State.{maxThreads, State, stateOf, stateWords, rowSlots, thread, channel, isWaiting, withMark, withThread, withChannel, withChannels}
 use Rattle.state.specs.State.Laws.{length-marks, length-threads, length-channels, length-channel, three-stored}
 use Rattle.rules.specs.Holding.{holds, holders, waiters, countOf, channelRow, recount, settled}
 use Rattle.rules.specs.Start.{freeRow, entered, portRow, started}
@@ -137,7 +137,7 @@ module _ (tb : Table) where
   pub unstarted-settled : settled tb (unstarted tb) ≡ unstarted tb
   unfolding settled unstarted withChannels
   unstarted-settled =
-      ap {B = State} (λ (y : List (List ℕ)). record { marks = 1 ∷ ports tb ∷ 0 ∷ []; threads = replicate 64 freeRow; channels = y }) (recount-held 64)
+      ap (withChannels (unstarted tb)) (recount-held maxThreads)
 
   unstarted-threads : length (unstarted tb .threads) ≡ 64
   unfolding unstarted
@@ -155,7 +155,7 @@ module _ (tb : Table) where
   unfolding settled unstarted started withThread withChannels
   start-settled =
       let ths = entered tb 0 (λ k. k) ∷ replicate 63 freeRow in
-      ap {B = State} (λ (y : List (List ℕ)). record { marks = 1 ∷ ports tb ∷ 0 ∷ []; threads = ths; channels = y })
+      ap (withChannels (withThread (unstarted tb) 0 (entered tb 0 (λ k. k))))
       (recount-types ths (λ c. at (tabulate 128 (portHeld (ports tb))) c 0) (λ c. at (tabulate 128 (portRow tb)) c 0) same-type)
 
   -- ---- write_started: s after the opening, s₁ after the write of thread 0's row, s₂ after the upkeep

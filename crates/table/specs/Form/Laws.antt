@@ -5,7 +5,7 @@ use mathlib.Core.Bool.{true}
 use lib.Dec.{leb}
 use borrow.Author.Tests.{leb-true}
 use Rattle.numbers.specs.Tests.{and-left, and-right, parts}
-use Rattle.table.specs.Table.{Table, types, definitions, slots, nodes, branches, ports}
+use Rattle.table.specs.Table.{Table, maxTypes, maxDefinitions, maxSlots, maxNodes, maxBranches, maxPorts, types, definitions, slots, nodes, branches, ports}
 use Rattle.table.specs.Form.{within, headerInRange}
 
 pub within-least : (l m v : ℕ) → within l m v ≡ true → l ≤ v
@@ -18,23 +18,23 @@ within-most l m v e = leb-true v m (and-right (leb l v) (leb v m) e)
 
 pub record Counts (tb : Table) : Type 0 where
   pub some-definitions : 1 ≤ definitions tb
-  pub few-types : types tb ≤ 16
-  pub few-definitions : definitions tb ≤ 16
-  pub few-slots : slots tb ≤ 256
+  pub few-types : types tb ≤ maxTypes
+  pub few-definitions : definitions tb ≤ maxDefinitions
+  pub few-slots : slots tb ≤ maxSlots
   pub some-nodes : 1 ≤ nodes tb
-  pub few-nodes : nodes tb ≤ 192
-  pub few-branches : branches tb ≤ 384
-  pub few-ports : ports tb ≤ 8
+  pub few-nodes : nodes tb ≤ maxNodes
+  pub few-branches : branches tb ≤ maxBranches
+  pub few-ports : ports tb ≤ maxPorts
 
 pub header-counts : (tb : Table) → headerInRange tb ≡ true → Counts tb
 unfolding headerInRange
 header-counts tb h = record {
-  some-definitions = within-least 1 16 (definitions tb) (search parts depth 9);
-  few-types = within-most 0 16 (types tb) (search parts depth 9);
-  few-definitions = within-most 1 16 (definitions tb) (search parts depth 9);
-  few-slots = within-most 0 256 (slots tb) (search parts depth 9);
-  some-nodes = within-least 1 192 (nodes tb) (search parts depth 9);
-  few-nodes = within-most 1 192 (nodes tb) (search parts depth 9);
-  few-branches = within-most 0 384 (branches tb) (search parts depth 9);
-  few-ports = within-most 0 8 (ports tb) (search parts depth 9);
+  some-definitions = within-least 1 maxDefinitions (definitions tb) (search parts depth 9);
+  few-types = within-most 0 maxTypes (types tb) (search parts depth 9);
+  few-definitions = within-most 1 maxDefinitions (definitions tb) (search parts depth 9);
+  few-slots = within-most 0 maxSlots (slots tb) (search parts depth 9);
+  some-nodes = within-least 1 maxNodes (nodes tb) (search parts depth 9);
+  few-nodes = within-most 1 maxNodes (nodes tb) (search parts depth 9);
+  few-branches = within-most 0 maxBranches (branches tb) (search parts depth 9);
+  few-ports = within-most 0 maxPorts (ports tb) (search parts depth 9);
 }

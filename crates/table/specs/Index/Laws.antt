@@ -10,7 +10,7 @@ use Rattle.numbers.specs.Bytes.{shorts}
 use Rattle.numbers.specs.Bytes.Laws.{length-numbers}
 use Rattle.numbers.specs.Rows.Laws.{row-in, length-row}
 use Rattle.numbers.specs.Search.Laws.{getD-tabulate, length-tabulate}
-use Rattle.table.specs.Table.{Table, tableOf, definitionRow, slotRow, nodeRow, branchRow}
+use Rattle.table.specs.Table.{Table, tableOf, tableLength, maxRows, lastRow, rowNumbers, definitionRow, slotRow, nodeRow, branchRow}
 use Rattle.table.specs.Layout.{blocks, lines, start, owner}
 use Rattle.table.specs.Form.Laws.{Counts}
 use Rattle.table.specs.Index.{indexLength, startsFrom, startsRoom, ownersFrom, ownersRoom, entry, indexOf, Indexed}
@@ -95,10 +95,10 @@ module _ (tb : Table) where
     index-owner p x h = at-entry (ownersFrom p + x) (omega (arith, owners-inside p)) ∙ entry-owner p x h
 
 -- a buffer of a table's length has a whole last row, and no shorter one has
-pub long-whole : (b : List ℕ) → length b ≡ 20760 → length (getD (tableOf b) 864 []) ≡ 12
-long-whole b h = length-row 865 12 (shorts b) 864 (omega arith) (omega (arith, length-numbers 2 b))
+pub long-whole : (b : List ℕ) → length b ≡ tableLength → length (getD (tableOf b) lastRow []) ≡ rowNumbers
+long-whole b h = length-row maxRows rowNumbers (shorts b) lastRow (omega arith) (omega (arith, length-numbers 2 b))
 
-pub whole-long : (b l : List ℕ) → Indexed (tableOf b) l → 20760 ≤ length b
+pub whole-long : (b l : List ℕ) → Indexed (tableOf b) l → tableLength ≤ length b
 whole-long b l g =
     let e : take 12 (drop 10368 (shorts b)) ≡ getD (tableOf b) 864 [] = sym (row-in 865 12 (shorts b) 864 (omega arith)) in
     let f : length (take 12 (drop 10368 (shorts b))) ≡ 12 = rw e (g .whole) in

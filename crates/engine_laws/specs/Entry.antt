@@ -2,7 +2,7 @@
 use Prim.Native.Nat.{ℕ}
 use mathlib.Core.Path.{_≡_}
 use mathlib.Core.Logic.{_↔_}
-use mathlib.Core.Bool.{Bool, true, false}
+use mathlib.Core.Bool.{Bool, true, false, _||_}
 use mathlib.Core.List.{List}
 use lib.Dec.{eqb}
 use lib.ListN.{length}
@@ -13,11 +13,13 @@ use Rattle.table.specs.Table.{tableOf}
 use Rattle.loader.specs.Load.{tableLength, accepted}
 use Rattle.state.specs.State.{stateLength, view}
 use Rattle.rules.specs.Sound.{sound}
-use Rattle.rules.specs.Calls.{lengthsRight, startAdmission, admission}
+use Rattle.rules.specs.Calls.{After, andThen, lengthsRight, startAdmission, admission, onBuffers}
+use Rattle.rules.specs.Calls.Laws.{call-answer, call-refusal}
 use Rattle.rules.specs.declared.Refusal.{Refusal}
 use Rattle.rules.specs.declared.Refusal.the-variants as Ground
 use Rattle.rules.specs.declared.Admission.the-variants as Admission
 use Rattle.rules_laws.specs.Codes.{clash}
+use Rattle.engine.specs.Numbers.{refusalNumber}
 
 -- both buffers have their lengths: 20760 bytes for a table, 6156 for a state
 abbrev pub RightLengths : List ℕ → List ℕ → Type 0
@@ -29,13 +31,7 @@ Admitted table state = admission table state ≡ Admission.Admitted
 
 -- grounds 8, 9 and 10, which a call is asked before its own
 unfoldable pub atEntry : Refusal → Bool
-atEntry Ground.Length = true
-atEntry Ground.Table = true
-atEntry Ground.State = true
-atEntry Ground.Thread = false
-atEntry Ground.Port = false
-atEntry Ground.ThreadRow = false
-atEntry Ground.ChannelRow = false
+atEntry r = eqb (refusalNumber r) 8 || (eqb (refusalNumber r) 9 || eqb (refusalNumber r) 10)
 
 module _ (table state : List ℕ) where
   lengths-iff : (lengthsRight table state ≡ true) ↔ RightLengths table state
@@ -54,7 +50,7 @@ module _ (table state : List ℕ) where
     passes : RightLengths table state → accepted table ≡ true → sound (tableOf table) (view state) ≡ true → Admitted table state → Entry
 
   entry : Entry
-  unfolding admission
+  unfolding admission andThen startAdmission
   entry = caseB (lengthsRight table state)
       (λ l. let h = lengths-iff .0 l in caseB (accepted table)
       (λ a. caseB (sound (tableOf table) (view state)) (λ s. passes h a s (rw (l, a, s))) (λ s. unsound h a s (rw (l, a, s))))
@@ -87,13 +83,13 @@ module _ (table state : List ℕ) where
   passes-entry (passes l a s e) = (λ f. (l, a, s), λ f. e)
 
   ground-entry : Entry → (r : Refusal) → admission table state ≡ Admission.Refused r → atEntry r ≡ true
-  unfolding atEntry
+  unfolding atEntry refusalNumber
   ground-entry (wrong l e) r f = let q : Ground.Length ≡ r = cc in rw (← q)
   ground-entry (other l a e) r f = let q : Ground.Table ≡ r = cc in rw (← q)
   ground-entry (unsound l a s e) r f = let q : Ground.State ≡ r = cc in rw (← q)
   ground-entry (passes l a s e) r f = clash cc
 
-  -- those of start, which has no ground 10
+  -- ---- the ways of start's admission, which has no ground 10
   data StartEntry : Type 0 where
     wrong : (¬ RightLengths table state) → startAdmission table state ≡ Admission.Refused Ground.Length → StartEntry
     other : RightLengths table state → accepted table ≡ false → startAdmission table state ≡ Admission.Refused Ground.Table → StartEntry
@@ -148,7 +144,7 @@ module _ (table state : List ℕ) where
   pub refused-entry : (r : Refusal) → admission table state ≡ Admission.Refused r → atEntry r ≡ true
   refused-entry r e = ground-entry entry r e
 
-  -- start asks the same of the lengths and the table, and nothing of the state
+  -- start asks of the lengths and the table what the other calls ask, and nothing of the state
   pub start-length-iff : (startAdmission table state ≡ Admission.Refused Ground.Length) ↔ (¬ RightLengths table state)
   start-length-iff = start-length-by start-entry
 
@@ -160,3 +156,16 @@ module _ (table state : List ℕ) where
 
   pub start-not-state : ¬ (startAdmission table state ≡ Admission.Refused Ground.State)
   start-not-state = start-state-by start-entry
+
+-- ---- a call whose refusals tell their grounds, k being the call on the state
+
+module _ {A : Type 0} (refused : Refusal → A) (tell : (q r : Refusal) → refused q ≡ refused r → q ≡ r) (table state : List ℕ) (k : After A) where
+  -- a ground of the call's own refuses it exactly when the buffers are admitted and the call on the state is refused on it
+  pub own-ground : (r : Refusal) → atEntry r ≡ false
+      → (onBuffers refused table state k .answer ≡ refused r) ↔ (Admitted table state × (k .answer ≡ refused r))
+  own-ground r f = call-answer refused table state k (refused r) (λ q e g. contra (refused-entry table state q e) (rw (tell q r g) f))
+
+  -- and a ground at entry exactly when the admission does, where all grounds of the call on the state are its own
+  pub entry-ground : ((r : Refusal) → k .answer ≡ refused r → atEntry r ≡ false) → (r : Refusal) → atEntry r ≡ true
+      → (onBuffers refused table state k .answer ≡ refused r) ↔ (admission table state ≡ Admission.Refused r)
+  entry-ground own r f = call-refusal refused table state k tell r (λ e. contra f (own r e))
