@@ -7,11 +7,8 @@ ghost use Rattle.table.specs.Index.{Indexed};
 ghost use Rattle.state.specs.State.{stateOf, thread, isReady};
 ghost use Rattle.rules_laws.specs.Granted.{Granted};
 ghost use Rattle.rules_laws.specs.Soundness.{Sound};
-ghost use Rattle.rules.specs.Holding.{settled};
-ghost use Rattle.rules.specs.Moves.{move};
-ghost use Rattle.rules.specs.Calls.{After, canStep, stepOn, giveOn, takeOn, Course, runOn};
-ghost use Rattle.turns.specs.Counted.{Counted};
-ghost use Rattle.calls.specs.Course.{courseBy};
+ghost use Rattle.rules.specs.Calls.{After, canStep, stepOn, giveOn, takeOn, runOn};
+ghost use Rattle.calls.specs.Course.{TurnsOf};
 use rules::Direction;
 use rules::Given;
 use rules::Move;
@@ -48,9 +45,7 @@ fn take_turns(table: &[u8], index: &[u32], state: &mut [u32; state::WORDS], t: u
     requires { ⌜ Granted (tableOf (now table)) ⌝ }
     requires { ⌜ Sound (tableOf (now table)) (stateOf (now state)) ⌝ }
     requires { ⌜ (t < 64 → isReady (thread (stateOf (now state)) t) ≡ true) ⌝ }
-    ensures { λ r. ⌜ _≡_ {A = Course} (record { steps = r .went; reason = r .reason; state = settled (tableOf (now (table .entry))) (stateOf (now (state .exit))) }) (courseBy (tableOf (now (table .entry))) n (stateOf (now (state .entry))) t) ⌝ }
-    ensures { λ r. ⌜ (t < 64 → n ≡ 1 → r .last ≡ move (tableOf (now (table .entry))) (stateOf (now (state .entry))) t) ⌝ }
-    ensures { λ _. ⌜ Counted (tableOf (now (table .entry))) (stateOf (now (state .exit))) ⌝ }
+    ensures { λ r. ⌜ TurnsOf (tableOf (now (table .entry))) n (stateOf (now (state .entry))) t (r .went) (r .reason) (r .last) (stateOf (now (state .exit))) ⌝ }
 {
     let mut top = next_rows::rows_used(state);
     let mut next = t;
@@ -65,7 +60,7 @@ fn take_turns(table: &[u8], index: &[u32], state: &mut [u32; state::WORDS], t: u
         }
         let round = turns::turn_of(table, index, state, next, top);
         top = round.top;
-        last = round.by;
+        last = round.decided;
         let turn = round.turn;
         match turn {
             Turn::Went => {}
@@ -137,8 +132,7 @@ pub fn take(table: &[u8], index: &[u32], state: &mut [u32; state::WORDS], p: u32
     match offers::find_at_port(table, index, state, Direction::Out, p) {
         Partner::Nobody => Taken::Nobody,
         Partner::At(u, j) => {
-            let way = acts::way_by(table, index, state, u, j);
-            let v = acts::value_by(table, index, state, u, way);
+            let v = meetings::value_by(table, index, state, u, j);
             turns::make_met(table, index, state, u, j, 0);
             Taken::Met(u, v)
         }

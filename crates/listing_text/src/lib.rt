@@ -55,13 +55,13 @@ fn list_turn(
         let node = state::thread_word(state, t as usize, state::NODE);
         let round = turns::turn_of(table, index, state, t, state::THREADS);
         turns::settle_waiting(table, index, state);
-        let by = round.by;
+        let m = round.decided;
         listing_lines::put_step(
             out,
             STEP + i as usize * STEP,
             i + 1,
             t,
-            turns::step_answer(node, by),
+            turns::step_answer(node, m),
         );
         let turn = round.turn;
         return turn;
