@@ -7,7 +7,7 @@ ghost use Rattle.table.specs.Index.{Indexed};
 ghost use Rattle.state.specs.State.{stateOf, thread, isReady};
 ghost use Rattle.rules_laws.specs.Granted.{Granted};
 ghost use Rattle.rules_laws.specs.Soundness.{Sound};
-ghost use Rattle.rules.specs.Calls.{After, canStep, stepOn, giveOn, takeOn, runOn};
+ghost use Rattle.rules.specs.Calls.{afterwards, canStep, stepOn, giveOn, takeOn, runOn};
 ghost use Rattle.calls.specs.Course.{TurnsOf};
 use rules::Direction;
 use rules::Given;
@@ -86,7 +86,7 @@ pub fn step(table: &[u8], index: &[u32], state: &mut [u32; state::WORDS], t: u32
     requires { ⌜ Indexed (tableOf (now table)) (now index) ⌝ }
     requires { ⌜ Granted (tableOf (now table)) ⌝ }
     requires { ⌜ Sound (tableOf (now table)) (stateOf (now state)) ⌝ }
-    ensures { λ r. ⌜ _≡_ {A = After Stepped} (record { answer = r; state = stateOf (now (state .exit)) }) (stepOn (tableOf (now (table .entry))) (stateOf (now (state .entry))) t) ⌝ }
+    ensures { λ r. ⌜ afterwards r (stateOf (now (state .exit))) ≡ stepOn (tableOf (now (table .entry))) (stateOf (now (state .entry))) t ⌝ }
 {
     if can_step(state, t) {
         let node = state::thread_word(state, t as usize, 1);
@@ -105,7 +105,7 @@ pub fn give(table: &[u8], index: &[u32], state: &mut [u32; state::WORDS], p: u32
     requires { ⌜ Indexed (tableOf (now table)) (now index) ⌝ }
     requires { ⌜ Granted (tableOf (now table)) ⌝ }
     requires { ⌜ Sound (tableOf (now table)) (stateOf (now state)) ⌝ }
-    ensures { λ r. ⌜ _≡_ {A = After Given} (record { answer = r; state = stateOf (now (state .exit)) }) (giveOn (tableOf (now (table .entry))) (stateOf (now (state .entry))) p v) ⌝ }
+    ensures { λ r. ⌜ afterwards r (stateOf (now (state .exit))) ≡ giveOn (tableOf (now (table .entry))) (stateOf (now (state .entry))) p v ⌝ }
 {
     if table::cell_of(table, index, 0, 6) <= p {
         return Given::Refused(Refusal::Port);
@@ -124,7 +124,7 @@ pub fn take(table: &[u8], index: &[u32], state: &mut [u32; state::WORDS], p: u32
     requires { ⌜ Indexed (tableOf (now table)) (now index) ⌝ }
     requires { ⌜ Granted (tableOf (now table)) ⌝ }
     requires { ⌜ Sound (tableOf (now table)) (stateOf (now state)) ⌝ }
-    ensures { λ r. ⌜ _≡_ {A = After Taken} (record { answer = r; state = stateOf (now (state .exit)) }) (takeOn (tableOf (now (table .entry))) (stateOf (now (state .entry))) p) ⌝ }
+    ensures { λ r. ⌜ afterwards r (stateOf (now (state .exit))) ≡ takeOn (tableOf (now (table .entry))) (stateOf (now (state .entry))) p ⌝ }
 {
     if table::cell_of(table, index, 0, 6) <= p {
         return Taken::Refused(Refusal::Port);
@@ -144,7 +144,7 @@ pub fn run(table: &[u8], index: &[u32], state: &mut [u32; state::WORDS], n: u16)
     requires { ⌜ Indexed (tableOf (now table)) (now index) ⌝ }
     requires { ⌜ Granted (tableOf (now table)) ⌝ }
     requires { ⌜ Sound (tableOf (now table)) (stateOf (now state)) ⌝ }
-    ensures { λ r. ⌜ _≡_ {A = After Ran} (record { answer = r; state = stateOf (now (state .exit)) }) (runOn (tableOf (now (table .entry))) (stateOf (now (state .entry))) n) ⌝ }
+    ensures { λ r. ⌜ afterwards r (stateOf (now (state .exit))) ≡ runOn (tableOf (now (table .entry))) (stateOf (now (state .entry))) n ⌝ }
 {
     let t = next_rows::next_ready(state, MAX_THREADS);
     let turns = take_turns(table, index, state, t, n);

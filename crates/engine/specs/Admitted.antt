@@ -30,5 +30,3 @@ module _ (a : Admission) where
     -- the channel rows of a sound state are those that a count over its threads gives
     pub admitted-settled : (s : State) → (a ≡ Admitted → Sound tb s) → a ≡ Admitted → settled tb s ≡ s
     admitted-settled s h e = h e .counts
-
-pub ruleset admitted = (admitted-length, admitted-granted, admitted-indexed, admitted-sound, admitted-settled)

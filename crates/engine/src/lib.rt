@@ -6,7 +6,7 @@ ghost use Rattle.numbers.specs.Bytes.{words as wordsOf};
 ghost use Rattle.table.specs.Table.{tableOf};
 ghost use Rattle.table.specs.Index.{Indexed, indexLength};
 ghost use Rattle.state.specs.State.{stateLength, stateOf};
-ghost use Rattle.rules.specs.Calls.{Outcome, lengthsRight, startAdmission, admission, startCall, stepCall, giveCall, takeCall, runCall};
+ghost use Rattle.rules.specs.Calls.{outcome, lengthsRight, startAdmission, admission, startCall, stepCall, giveCall, takeCall, runCall};
 ghost use Rattle.rules.specs.declared.Admission.the-variants.{Admitted};
 ghost use Rattle.rules_laws.specs.Granted.{Granted};
 ghost use Rattle.rules_laws.specs.Soundness.{Sound};
@@ -80,7 +80,7 @@ pub fn admit(
 
 // Writes the state with which a table starts.
 pub fn start(table: &[u8], state: &mut [u8]) -> Started
-    ensures { λ r. ⌜ _≡_ {A = Outcome Started} (record { answer = r; state = now (state .exit) }) (startCall (now (table .entry)) (now (state .entry))) ⌝ }
+    ensures { λ r. ⌜ outcome r (now (state .exit)) ≡ startCall (now (table .entry)) (now (state .entry)) ⌝ }
 {
     let mut index = [0u32; INDEX];
     match admit_start(table, state, &mut index) {
@@ -96,7 +96,7 @@ pub fn start(table: &[u8], state: &mut [u8]) -> Started
 
 // Steps thread t.
 pub fn step(table: &[u8], state: &mut [u8], t: u32) -> Stepped
-    ensures { λ r. ⌜ _≡_ {A = Outcome Stepped} (record { answer = r; state = now (state .exit) }) (stepCall (now (table .entry)) (now (state .entry)) t) ⌝ }
+    ensures { λ r. ⌜ outcome r (now (state .exit)) ≡ stepCall (now (table .entry)) (now (state .entry)) t ⌝ }
 {
     let mut index = [0u32; INDEX];
     let mut words = [0u32; state::WORDS];
@@ -116,7 +116,7 @@ pub fn step(table: &[u8], state: &mut [u8], t: u32) -> Stepped
 
 // Gives the number of pattern v on port p.
 pub fn give(table: &[u8], state: &mut [u8], p: u32, v: u32) -> Given
-    ensures { λ r. ⌜ _≡_ {A = Outcome Given} (record { answer = r; state = now (state .exit) }) (giveCall (now (table .entry)) (now (state .entry)) p v) ⌝ }
+    ensures { λ r. ⌜ outcome r (now (state .exit)) ≡ giveCall (now (table .entry)) (now (state .entry)) p v ⌝ }
 {
     let mut index = [0u32; INDEX];
     let mut words = [0u32; state::WORDS];
@@ -137,7 +137,7 @@ pub fn give(table: &[u8], state: &mut [u8], p: u32, v: u32) -> Given
 
 // Takes a number from port p.
 pub fn take(table: &[u8], state: &mut [u8], p: u32) -> Taken
-    ensures { λ r. ⌜ _≡_ {A = Outcome Taken} (record { answer = r; state = now (state .exit) }) (takeCall (now (table .entry)) (now (state .entry)) p) ⌝ }
+    ensures { λ r. ⌜ outcome r (now (state .exit)) ≡ takeCall (now (table .entry)) (now (state .entry)) p ⌝ }
 {
     let mut index = [0u32; INDEX];
     let mut words = [0u32; state::WORDS];
@@ -158,7 +158,7 @@ pub fn take(table: &[u8], state: &mut [u8], p: u32) -> Taken
 
 // Runs at most n steps.
 pub fn run(table: &[u8], state: &mut [u8], n: u16) -> Ran
-    ensures { λ r. ⌜ _≡_ {A = Outcome Ran} (record { answer = r; state = now (state .exit) }) (runCall (now (table .entry)) (now (state .entry)) n) ⌝ }
+    ensures { λ r. ⌜ outcome r (now (state .exit)) ≡ runCall (now (table .entry)) (now (state .entry)) n ⌝ }
 {
     let mut index = [0u32; INDEX];
     let mut words = [0u32; state::WORDS];

@@ -19,11 +19,11 @@ use Rattle.loader.specs.Verdict.{groundNumber, verdict}
 use Rattle.loader.specs.Load as Load
 use Rattle.loader.specs.Load.{tableLength, tableBytes, loaded, afterVerdict}
 use Rattle.loader.specs.declared.Ground.{Ground}
-use Rattle.loader.specs.declared.Ground.the-variants as FileGround
 use Rattle.loader.specs.declared.Loaded.{Loaded}
 use Rattle.loader.specs.declared.Loaded.the-variants as Loaded
 use Rattle.loader.specs.declared.Verdict.{Verdict}
 use Rattle.loader.specs.declared.Verdict.the-variants.{Sound, Fault}
+use Rattle.loader_laws.specs.Lowest.{number-range}
 use Rattle.loader_laws.specs.Yields.{sound-loads}
 use Rattle.rules.specs.Calls.{startCall, stepCall, giveCall, takeCall, runCall}
 use Rattle.rules.specs.declared.Refusal.{Refusal}
@@ -50,17 +50,7 @@ use Rattle.guarantee.specs.Claim.{Any, on, collect, afterAny, RefusedBy}
 
 -- the number 0 is that of no ground
 ground-not-zero : (g : Ground) → pos (groundNumber g) ≢ pos 0
-unfolding groundNumber
-ground-not-zero FileGround.Lines e = clash cc
-ground-not-zero FileGround.Field e = clash cc
-ground-not-zero FileGround.Header e = clash cc
-ground-not-zero FileGround.Total e = clash cc
-ground-not-zero FileGround.Kind e = clash cc
-ground-not-zero FileGround.Sums e = clash cc
-ground-not-zero FileGround.Range e = clash cc
-ground-not-zero FileGround.Types e = clash cc
-ground-not-zero FileGround.Unwritten e = clash cc
-ground-not-zero FileGround.Unreachable e = clash cc
+ground-not-zero g e = let n : groundNumber g ≡ 0 = cc in omega (arith, number-range g .0)
 
 load-zero : (a : Loaded) → pos (Load.refusalNumber a) ≡ pos 0 → a ≡ Loaded.Done
 unfolding Load.refusalNumber

@@ -22,9 +22,8 @@ use Rattle.table.specs.Layout.{branchCount}
 use Rattle.loader.specs.File.{lineCount, fileTable}
 use Rattle.loader.specs.Verdict.{groundNumber, verdict}
 use Rattle.loader.specs.declared.Ground.{Ground}
-use Rattle.loader.specs.declared.Ground.the-variants.{Lines, Field, Header, Total, Kind, Sums, Range, Types, Unwritten, Unreachable}
 use Rattle.loader.specs.declared.Verdict.the-variants as Verdict
-use Rattle.loader_laws.specs.Lowest.{fault-line}
+use Rattle.loader_laws.specs.Lowest.{number-range, fault-line}
 use Rattle.loader_laws.specs.Grounds.{branches-few}
 use Rattle.loader.specs.Load.{tableBytes}
 use Rattle.loader_laws.specs.PrintedFile.{sound-read, sound-bytes}
@@ -237,25 +236,12 @@ bits-few : (p : ℕ → Bool) (n : ℕ) → sumTo (λ i. bit (p i)) n ≤ n
 bits-few p zero = omega (arith, sum-none (λ i. bit (p i)))
 bits-few p (suc n) = omega (arith, sum-suc (λ i. bit (p i)) n, bit-le (p n), bits-few p n)
 
-ground-low : (g : Ground) → groundNumber g < 32768
-unfolding groundNumber
-ground-low Lines = omega arith
-ground-low Field = omega arith
-ground-low Header = omega arith
-ground-low Total = omega arith
-ground-low Kind = omega arith
-ground-low Sums = omega arith
-ground-low Range = omega arith
-ground-low Types = omega arith
-ground-low Unwritten = omega arith
-ground-low Unreachable = omega arith
-
 -- ---- the listing of a file
 
 -- a refused file
 pub refusal-shown : (file : List ℕ) (g : Ground) (l : ℕ) → verdict file ≡ Verdict.Fault g l → AllShown (groundNumber g ∷ l ∷ [])
 unfolding AllShown
-refusal-shown file g l e = (low (groundNumber g) (ground-low g), (low l (omega (arith, fault-line file g l e)), tt))
+refusal-shown file g l e = (low (groundNumber g) (omega (arith, number-range g .1)), (low l (omega (arith, fault-line file g l e)), tt))
 
 -- an accepted one: its table, and the run from its start
 module _ (file : List ℕ) (e : verdict file ≡ Verdict.Sound) where

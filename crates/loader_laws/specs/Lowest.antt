@@ -63,52 +63,38 @@ unranked r =
     (cond (eqb r 7) Types
     (cond (eqb r 8) Unwritten Unreachable))))))))
 
-rank-back : (g : Ground) → unranked (rank g) ≡ g
-unfolding rank unranked
-rank-back Lines = refl
-rank-back Field = refl
-rank-back Header = refl
-rank-back Total = refl
-rank-back Kind = refl
-rank-back Sums = refl
-rank-back Range = refl
-rank-back Types = refl
-rank-back Unwritten = refl
-rank-back Unreachable = refl
-
--- no two grounds have one rank
-pub rank-apart : (g h : Ground) → rank g ≡ rank h → g ≡ h
-rank-apart g h e = sym (rank-back g) ∙ ap unranked e ∙ rank-back h
-
-rank-few : (g : Ground) → rank g < 10
-unfolding rank
-rank-few Lines = omega arith
-rank-few Field = omega arith
-rank-few Header = omega arith
-rank-few Total = omega arith
-rank-few Kind = omega arith
-rank-few Sums = omega arith
-rank-few Range = omega arith
-rank-few Types = omega arith
-rank-few Unwritten = omega arith
-rank-few Unreachable = omega arith
-
 -- the numbers of document 01 by rank
 numberOf : ℕ → ℕ
 numberOf r = cond (ltb r 2) (suc r) (cond (ltb r 6) 3 (r - 2))
 
-number-rank : (g : Ground) → groundNumber g ≡ numberOf (rank g)
-unfolding rank numberOf groundNumber
-number-rank Lines = refl
-number-rank Field = refl
-number-rank Header = refl
-number-rank Total = refl
-number-rank Kind = refl
-number-rank Sums = refl
-number-rank Range = refl
-number-rank Types = refl
-number-rank Unwritten = refl
-number-rank Unreachable = refl
+-- a ground is told by its rank, and its number goes by its rank
+ranked : (g : Ground) → (unranked (rank g) ≡ g) × (rank g < 10) × (groundNumber g ≡ numberOf (rank g))
+unfolding rank unranked numberOf groundNumber
+ranked Lines = (refl, omega arith, refl)
+ranked Field = (refl, omega arith, refl)
+ranked Header = (refl, omega arith, refl)
+ranked Total = (refl, omega arith, refl)
+ranked Kind = (refl, omega arith, refl)
+ranked Sums = (refl, omega arith, refl)
+ranked Range = (refl, omega arith, refl)
+ranked Types = (refl, omega arith, refl)
+ranked Unwritten = (refl, omega arith, refl)
+ranked Unreachable = (refl, omega arith, refl)
+
+-- no two grounds have one rank
+pub rank-apart : (g h : Ground) → rank g ≡ rank h → g ≡ h
+rank-apart g h e = sym (ranked g .0) ∙ ap unranked e ∙ ranked h .0
+
+number-few : (r : ℕ) → r < 10 → (1 ≤ numberOf r) × (numberOf r ≤ 7)
+unfolding numberOf
+number-few r h = caseB (ltb r 2)
+    (λ y. let u = ltb-true r 2 y in rw y (omega arith, omega arith))
+    (λ y. let u = ltb-false r 2 y in
+    rw y (caseB (ltb r 6) (λ z. rw z (omega arith, omega arith)) (λ z. let w = ltb-false r 6 z in rw z (omega arith, omega arith))))
+
+-- document 01's numbers for the file's author are 1 to 7
+pub number-range : (g : Ground) → (1 ≤ groundNumber g) × (groundNumber g ≤ 7)
+number-range g = rw (ranked g .2) (number-few (rank g) (ranked g .1))
 
 number-mono : (r s : ℕ) → r ≤ s → numberOf r ≤ numberOf s
 unfolding numberOf
@@ -122,7 +108,7 @@ number-mono r s h =
 
 -- the ranks go with the numbers of document 01
 pub rank-number : (g h : Ground) → rank g ≤ rank h → groundNumber g ≤ groundNumber h
-rank-number g h l = rw (number-rank g, number-rank h) (number-mono (rank g) (rank h) l)
+rank-number g h l = rw (ranked g .2, ranked h .2) (number-mono (rank g) (rank h) l)
 
 pub number-rank-below : (g h : Ground) → groundNumber g < groundNumber h → rank g < rank h
 number-rank-below g h l = caseB (ltb (rank g) (rank h)) (λ y. ltb-true (rank g) (rank h) y) (λ y. absurd (omega (arith, rank-number h g (ltb-false (rank g) (rank h) y))))
@@ -210,7 +196,7 @@ verdict-lowest file =
     (step t Types _ _ (lines-ask (typesDisagree tb) n Types _)
     (step t Unwritten _ _ (lines-ask (readsUnwritten tb) n Unwritten _)
     (step t Unreachable _ Sound (lines-ask (unreachable tb) n Unreachable Sound)
-    (λ g l h. absurd (let q = rank-few g in let z : ⊥ = omega arith in z)))))))))))
+    (λ g l h. absurd (let q = ranked g .1 in let z : ⊥ = omega arith in z)))))))))))
 
 -- ---- what the verdict names
 

@@ -1,4 +1,4 @@
-use Rattle.engine.specs.Admitted.{admitted}
+use Rattle.engine.specs.Admitted.{admitted-length, admitted-indexed, admitted-settled}
 use borrow.Author.Needs.{needs}
 use Rattle.collector.proofs.Ends.{collect-refused, collect-admitted}
 use Rattle.collector.proofs.collect.Statement.{statement}
@@ -13,8 +13,8 @@ collect-spec =
     (λ c. search needs)
     (λ c. search needs)
     (λ c. search needs)
-    (λ c κs. (search admitted, search admitted))
-    (λ c κs. search admitted)
+    (λ c κs. (search admitted-indexed, search admitted-settled))
+    (λ c κs. search admitted-length)
     (λ c. search needs)
     (λ c. search collect-refused)
     (λ c. search needs)

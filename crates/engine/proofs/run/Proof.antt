@@ -1,4 +1,4 @@
-use Rattle.engine.specs.Admitted.{admitted}
+use Rattle.engine.specs.Admitted.{admitted-length, admitted-granted, admitted-indexed, admitted-sound}
 use Rattle.engine.proofs.Laws.{run-refused, run-done}
 use borrow.Author.Needs.{needs}
 use Rattle.engine.proofs.run.Statement.{statement}
@@ -13,8 +13,8 @@ run-spec =
     (λ c. search needs)
     (λ c. search needs)
     (λ c. search needs)
-    (λ c κs. (search admitted, (search admitted, search admitted)))
-    (λ c κs. search admitted)
+    (λ c κs. (search admitted-indexed, (search admitted-granted, search admitted-sound)))
+    (λ c κs. search admitted-length)
     (λ c. search needs)
     (λ c. search run-refused)
     (λ c. search needs)

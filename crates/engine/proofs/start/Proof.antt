@@ -1,5 +1,5 @@
 use Rattle.engine.proofs.Laws.{start-refused, start-done, start-length}
-use Rattle.engine.specs.Admitted.{admitted}
+use Rattle.engine.specs.Admitted.{admitted-indexed}
 use borrow.Author.Needs.{needs}
 use Rattle.engine.proofs.start.Statement.{statement}
 use Rattle.engine.proofs.start.Tie as tie
@@ -13,7 +13,7 @@ start-spec =
     (λ c. search needs)
     (λ c. search needs)
     (λ c. search needs)
-    (λ c κs. search admitted)
+    (λ c κs. search admitted-indexed)
     (λ c κs. search start-length)
     (λ c. search needs)
     (λ c. search start-refused)

@@ -1,4 +1,4 @@
-use Rattle.engine.specs.Admitted.{admitted}
+use Rattle.engine.specs.Admitted.{admitted-length, admitted-granted, admitted-indexed, admitted-sound}
 use Rattle.engine.proofs.Laws.{take-refused, take-kept, take-nobody, take-met}
 use borrow.Author.Needs.{needs}
 use Rattle.engine.proofs.take.Statement.{statement}
@@ -13,16 +13,16 @@ take-spec =
     (λ c. search needs)
     (λ c. search needs)
     (λ c. search needs)
-    (λ c κs. (search admitted, (search admitted, search admitted)))
+    (λ c κs. (search admitted-indexed, (search admitted-granted, search admitted-sound)))
     (λ c. search needs)
     (λ c. search needs)
     (λ c. search needs)
-    (λ c κs. search admitted)
+    (λ c κs. search admitted-length)
     (λ c. search needs)
-    (λ c. search (take-refused, take-kept, take-nobody, take-met))
+    (λ c. search take-refused)
     (λ c. search needs)
-    (λ c. search (take-refused, take-kept, take-nobody, take-met))
+    (λ c. search take-kept)
     (λ c. search needs)
-    (λ c. search (take-refused, take-kept, take-nobody, take-met))
+    (λ c. search take-nobody)
     (λ c. search needs)
-    (λ c. search (take-refused, take-kept, take-nobody, take-met)))
+    (λ c. search take-met))
