@@ -37,10 +37,6 @@ use Rattle.turns.specs.Made.{made}
 use Rattle.rules_laws.specs.Soundness.{Sound}
 use Rattle.rules_laws.specs.Soundness.Laws.{sound-settled}
 use Rattle.turns.specs.Made.Laws.{turn-ends}
-use Rattle.turns.specs.Counted.{Counted}
-use Rattle.turns.specs.Counted.Laws.{counted-start}
-use Rattle.acts.specs.Way.{wayOf, valueAlong}
-use Rattle.acts.specs.declared.Way.{Way}
 use Rattle.calls.specs.Course.{after, turnAt, courseBy, course-by, course-none, course-more, last-turn}
 
 -- ---- ground 11
@@ -159,10 +155,9 @@ module _ (tb : Table) (s : State) (p n : ℕ) (e : n ≡ at tb 0 6) where
       unfolding giveOn givenTo
       give-met v i f = rw (lt-ltb p (at tb 0 6) (omega arith), ← f, g) (ap (afterwards _) i)
 
-      pub take-met : (v : ℕ) (w : Way) → s₁ ≡ metByBench tb s u j 0 → v ≡ valueAlong tb (thread s u) w → w ≡ wayOf tb (thread s u) j → x ≡ partnerOf tb s bench Out p
-          → afterwards (Taken.Met u v) s₁ ≡ takeOn tb s p
-      unfolding takeOn takenFrom valueAlong wayOf valueBy
-      take-met v w i q k f = rw (lt-ltb p (at tb 0 6) (omega arith), ← f, g, q, k) (ap (afterwards _) i)
+      pub take-met : (v : ℕ) → s₁ ≡ metByBench tb s u j 0 → v ≡ valueBy tb (thread s u) j → x ≡ partnerOf tb s bench Out p → afterwards (Taken.Met u v) s₁ ≡ takeOn tb s p
+      unfolding takeOn takenFrom
+      take-met v i q f = rw (lt-ltb p (at tb 0 6) (omega arith), ← f, g, q) (ap (afterwards _) i)
 
 -- ---- turns: s₀ and t₀ at first, s and t after i turns, the last of which made move m
 
@@ -193,12 +188,6 @@ module _ (tb : Table) (s₀ : State) (t₀ : ℕ) where
 
 -- a sound state is settled
 module _ (tb : Table) (s : State) (ok : Sound tb s) where
-  pub sound-begins : Sound tb (settled tb s)
-  sound-begins = rw (sound-settled tb s ok) ok
-
-  pub counted-begins : Counted tb s
-  counted-begins = counted-start tb s (sound-settled tb s ok)
-
   pub course-begins : (n t : ℕ) → courseBy tb n s t ≡ after 0 (courseBy tb (n - 0) (settled tb s) t)
   course-begins n t = rw (sound-settled tb s ok) (course-none tb n s t)
 

@@ -7,12 +7,15 @@ use lib.Dec.{ltb}
 use borrow.Author.Tests.{lt-ltb, le-ltb}
 use Rattle.table.specs.Table.{Table}
 use Rattle.state.specs.State.{State, maxThreads}
+use Rattle.rules.specs.Holding.{settled}
 use Rattle.rules.specs.Moves.{move}
 use Rattle.rules.specs.Calls.{Course, course, oneMore, onward, nextReady, turnBy, Turned, turned, turnEnd, takeTurn, courseOf}
+use Rattle.rules.specs.declared.Move.{Move}
 use Rattle.rules.specs.declared.Reason.{Reason}
 use Rattle.rules.specs.declared.Reason.the-variants.{AllDone, NoneReady}
 use Rattle.rules.specs.declared.Turn.{Turn}
 use Rattle.rules.specs.declared.Turn.the-variants.{Went, Stopped}
+use Rattle.turns.specs.Counted.{Counted}
 
 -- i steps before all of it
 unfoldable pub after : ℕ → Course → Course
@@ -85,6 +88,13 @@ module _ (tb : Table) (n : ℕ) (s : State) (t : ℕ) where
       let q : n - n ≡ 0 = omega arith in
       let x : n + 0 ≡ n = omega arith in
       sym (f ∙ rw (e, q, x))
+
+-- At most n turns were taken in state s, the first of them thread t's: this many went, they ended for this reason and left s₁, whose counts of waiting holders are
+-- still to be settled. Where one turn was asked for, the last move is that of thread t.
+pub record TurnsOf (tb : Table) (n : ℕ) (s : State) (t went : ℕ) (reason : Reason) (last : Move) (s₁ : State) : Type 0 where
+  pub is-course : course went reason (settled tb s₁) ≡ courseBy tb n s t
+  pub one-made : t < maxThreads → n ≡ 1 → last ≡ move tb s t
+  pub counted : Counted tb s₁
 
 -- a turn after which no more steps are asked for
 pub last-turn : (tb : Table) (w : Turn) (x : State) → onward w x (courseOf tb 0) .state ≡ x

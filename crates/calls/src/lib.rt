@@ -7,13 +7,8 @@ ghost use Rattle.table.specs.Index.{Indexed};
 ghost use Rattle.state.specs.State.{stateOf, thread, isReady};
 ghost use Rattle.rules_laws.specs.Granted.{Granted};
 ghost use Rattle.rules_laws.specs.Soundness.{Sound};
-ghost use Rattle.rules.specs.Holding.{settled};
-ghost use Rattle.rules.specs.Offers.{offersAt, partnerOf};
-ghost use Rattle.rules.specs.Moves.{move};
-ghost use Rattle.rules.specs.Calls.{After, canStep, stepOn, giveOn, takeOn, Course, runOn};
-ghost use Rattle.decision.specs.Tried.{tried};
-ghost use Rattle.turns.specs.Counted.{Counted};
-ghost use Rattle.calls.specs.Course.{courseBy};
+ghost use Rattle.rules.specs.Calls.{After, canStep, stepOn, giveOn, takeOn, runOn};
+ghost use Rattle.calls.specs.Course.{TurnsOf};
 use rules::Direction;
 use rules::Given;
 use rules::Move;
@@ -26,8 +21,6 @@ use rules::Taken;
 use rules::Turn;
 
 const MAX_THREADS: u32 = 64;
-
-const MAX_CHANNELS: u32 = 128;
 
 // Ground 11: whether thread t is there and ready.
 fn can_step(state: &[u32; state::WORDS], t: u32) -> bool
@@ -52,11 +45,9 @@ fn take_turns(table: &[u8], index: &[u32], state: &mut [u32; state::WORDS], t: u
     requires { ⌜ Granted (tableOf (now table)) ⌝ }
     requires { ⌜ Sound (tableOf (now table)) (stateOf (now state)) ⌝ }
     requires { ⌜ (t < 64 → isReady (thread (stateOf (now state)) t) ≡ true) ⌝ }
-    ensures { λ r. ⌜ _≡_ {A = Course} (record { steps = r .went; reason = r .reason; state = settled (tableOf (now (table .entry))) (stateOf (now (state .exit))) }) (courseBy (tableOf (now (table .entry))) n (stateOf (now (state .entry))) t) ⌝ }
-    ensures { λ r. ⌜ (t < 64 → n ≡ 1 → r .last ≡ move (tableOf (now (table .entry))) (stateOf (now (state .entry))) t) ⌝ }
-    ensures { λ _. ⌜ Counted (tableOf (now (table .entry))) (stateOf (now (state .exit))) ⌝ }
+    ensures { λ r. ⌜ TurnsOf (tableOf (now (table .entry))) n (stateOf (now (state .entry))) t (r .went) (r .reason) (r .last) (stateOf (now (state .exit))) ⌝ }
 {
-    let mut top = decision::rows_used(state);
+    let mut top = next_rows::rows_used(state);
     let mut next = t;
     let mut last = Move::Ends;
     for i in 0..n {
@@ -69,7 +60,7 @@ fn take_turns(table: &[u8], index: &[u32], state: &mut [u32; state::WORDS], t: u
         }
         let round = turns::turn_of(table, index, state, next, top);
         top = round.top;
-        last = round.by;
+        last = round.decided;
         let turn = round.turn;
         match turn {
             Turn::Went => {}
@@ -81,7 +72,7 @@ fn take_turns(table: &[u8], index: &[u32], state: &mut [u32; state::WORDS], t: u
                 };
             }
         }
-        next = decision::next_ready(state, top);
+        next = next_rows::next_ready(state, top);
     }
     Turns {
         went: n as u32,
@@ -109,66 +100,6 @@ pub fn step(table: &[u8], index: &[u32], state: &mut [u32; state::WORDS], t: u32
     Stepped::Refused(Refusal::Thread)
 }
 
-// Whether thread u offers d on channel c by its branch i: a meeting whose guard is true.
-fn offers_at(
-    table: &[u8],
-    index: &[u32],
-    state: &[u32; state::WORDS],
-    u: u32,
-    d: Direction,
-    c: u32,
-    i: u32,
-) -> bool
-    requires { ⌜ Indexed (tableOf (now table)) (now index) ⌝ }
-    ensures { λ r. ⌜ r ≡ offersAt (tableOf (now (table .entry))) (thread (stateOf (now (state .entry))) u) d c i ⌝ }
-{
-    let node = state::thread_word(state, u as usize, 1);
-    let row = program::branch_at(table, index, node, i);
-    if decision::is_meeting(table, index, row, d) {
-        return decision::is_offered(table, index, row, state, u, c);
-    }
-    false
-}
-
-// How many branches of thread u are tried for the bench, which is no thread itself: none of a thread that does not wait.
-fn branches_tried(table: &[u8], index: &[u32], state: &[u32; state::WORDS], u: u32) -> u32
-    requires { ⌜ Indexed (tableOf (now table)) (now index) ⌝ }
-    requires { ⌜ u < 64 ⌝ }
-    ensures { λ r. ⌜ r ≡ tried (tableOf (now (table .entry))) (stateOf (now (state .entry))) 64 u ⌝ }
-{
-    if state::thread_word(state, u as usize, 0) != 2 {
-        return 0;
-    }
-    table::branch_count_of(table, index, state::thread_word(state, u as usize, 1))
-}
-
-// The first waiting thread that offers d on port p, and the first of its branches that does.
-fn find_at_port(
-    table: &[u8],
-    index: &[u32],
-    state: &[u32; state::WORDS],
-    d: Direction,
-    p: u32,
-) -> Partner
-    requires { ⌜ Indexed (tableOf (now table)) (now index) ⌝ }
-    ensures { λ r. ⌜ r ≡ partnerOf (tableOf (now (table .entry))) (stateOf (now (state .entry))) 64 d p ⌝ }
-{
-    if MAX_CHANNELS <= p {
-        return Partner::Nobody;
-    }
-    let mut found = Partner::Nobody;
-    'threads: for u in 0..MAX_THREADS {
-        let n = branches_tried(table, index, state, u);
-        for i in 0..n {
-            if offers_at(table, index, state, u, d, p, i) {
-                found = Partner::At(u, i);
-                break 'threads;
-            }
-        }
-    }
-    found
-}
-
 // The number of pattern v is given on port p.
 pub fn give(table: &[u8], index: &[u32], state: &mut [u32; state::WORDS], p: u32, v: u32) -> Given
     requires { ⌜ Indexed (tableOf (now table)) (now index) ⌝ }
@@ -179,7 +110,7 @@ pub fn give(table: &[u8], index: &[u32], state: &mut [u32; state::WORDS], p: u32
     if table::cell_of(table, index, 0, 6) <= p {
         return Given::Refused(Refusal::Port);
     }
-    match find_at_port(table, index, state, Direction::In, p) {
+    match offers::find_at_port(table, index, state, Direction::In, p) {
         Partner::Nobody => Given::Nobody,
         Partner::At(u, j) => {
             turns::make_met(table, index, state, u, j, v);
@@ -198,11 +129,10 @@ pub fn take(table: &[u8], index: &[u32], state: &mut [u32; state::WORDS], p: u32
     if table::cell_of(table, index, 0, 6) <= p {
         return Taken::Refused(Refusal::Port);
     }
-    match find_at_port(table, index, state, Direction::Out, p) {
+    match offers::find_at_port(table, index, state, Direction::Out, p) {
         Partner::Nobody => Taken::Nobody,
         Partner::At(u, j) => {
-            let way = acts::way_by(table, index, state, u, j);
-            let v = acts::value_by(table, index, state, u, way);
+            let v = meetings::value_by(table, index, state, u, j);
             turns::make_met(table, index, state, u, j, 0);
             Taken::Met(u, v)
         }
@@ -216,7 +146,7 @@ pub fn run(table: &[u8], index: &[u32], state: &mut [u32; state::WORDS], n: u16)
     requires { ⌜ Sound (tableOf (now table)) (stateOf (now state)) ⌝ }
     ensures { λ r. ⌜ _≡_ {A = After Ran} (record { answer = r; state = stateOf (now (state .exit)) }) (runOn (tableOf (now (table .entry))) (stateOf (now (state .entry))) n) ⌝ }
 {
-    let t = decision::next_ready(state, MAX_THREADS);
+    let t = next_rows::next_ready(state, MAX_THREADS);
     let turns = take_turns(table, index, state, t, n);
     turns::settle_waiting(table, index, state);
     let reason = turns.reason;

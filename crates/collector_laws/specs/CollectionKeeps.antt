@@ -18,7 +18,7 @@ use Rattle.rules.specs.declared.Direction.{Direction}
 use Rattle.rules_laws.specs.Granted.{Granted}
 use Rattle.rules_laws.specs.Shape.{Shaped}
 use Rattle.rules_laws.specs.Reading.Laws.{offers-elim}
-use Rattle.decision.specs.Apart.{Apart}
+use Rattle.offers.specs.Apart.{Apart}
 use Rattle.rules_laws.specs.Soundness.{RowSound, Orderly, Sound}
 use Rattle.rules_laws.specs.Entered.{free-sound}
 use Rattle.rules_laws.specs.Settle.{settle}

@@ -24,14 +24,14 @@ use Rattle.rules.specs.declared.Move.the-variants.{Ends, Calls, Waits, Goes, Cr
 
 -- ---- a meeting, a new channel, a new thread
 
-module _ (tb : Table) (s : State) (t i r a c : ℕ) (d o : Direction) (p : Partner) (e : p ≡ partnerOf tb s t o c) (f : o ≡ opposite d) (g : c ≡ slotOf (thread s t) a) (h : a ≡ at tb r 5) where
-  pub meeting-none : p ≡ Nobody → Waits ≡ meeting i (partnerOf tb s t (opposite d) (slotOf (thread s t) (at tb r 5)))
+module _ (tb : Table) (s : State) (t i c : ℕ) (d o : Direction) (p : Partner) (e : p ≡ partnerOf tb s t o c) (f : o ≡ opposite d) where
+  pub meeting-none : p ≡ Nobody → Waits ≡ meeting i (partnerOf tb s t (opposite d) c)
   unfolding meeting
-  meeting-none q = rw (← h, ← g, ← f, ← e, q)
+  meeting-none q = rw (← f, ← e, q)
 
-  pub meeting-with : (u j : ℕ) → p ≡ At u j → Meets i u j ≡ meeting i (partnerOf tb s t (opposite d) (slotOf (thread s t) (at tb r 5)))
+  pub meeting-with : (u j : ℕ) → p ≡ At u j → Meets i u j ≡ meeting i (partnerOf tb s t (opposite d) c)
   unfolding meeting
-  meeting-with u j q = rw (← h, ← g, ← f, ← e, q)
+  meeting-with u j q = rw (← f, ← e, q)
 
 module _ (i c x : ℕ) (e : c ≡ x) where
   pub creation-in : c < 128 → Creates i c ≡ creation i x
@@ -69,10 +69,10 @@ module _ (tb : Table) (s : State) (t i r : ℕ) (a : Act) (e : a ≡ actOf tb r)
   unfolding actMove
   spawn-spawns m f g = rw (← e, f) g
 
-  pub meeting-meets : (m : Move) (d : Direction) → a ≡ Meeting d → r ≡ branchAt tb (at (s .threads) t 1) i
-      → m ≡ meeting i (partnerOf tb s t (opposite d) (slotOf (thread s t) (at tb r 5))) → m ≡ actMove tb s t i (actOf tb r)
+  pub meeting-meets : (m : Move) (d : Direction) (c k : ℕ) → a ≡ Meeting d → r ≡ branchAt tb (at (s .threads) t 1) i
+      → m ≡ meeting i (partnerOf tb s t (opposite d) c) → c ≡ slotOf (thread s t) k → k ≡ at tb r 5 → m ≡ actMove tb s t i (actOf tb r)
   unfolding actMove
-  meeting-meets m d f h g = rw (← e, f, ← h) g
+  meeting-meets m d c k f h g j l = rw (← e, f, ← h, ← l, ← j) g
 
 pub ruleset acts = (tau-goes, assignment-goes, new-creates, spawn-spawns, meeting-meets)
 

@@ -1,3 +1,1 @@
-pub mod Ways
-pub mod Search
 pub mod Choice

@@ -18,7 +18,7 @@ use Rattle.rules.specs.declared.Partner.{Partner}
 use Rattle.rules.specs.declared.Partner.the-variants.{Nobody, At}
 use Rattle.rules.specs.declared.Move.{Move}
 use Rattle.rules.specs.declared.Move.the-variants.{Ends, Calls, Waits, Goes, Creates, Spawns, Meets, LacksThread, LacksChannel}
-use Rattle.decision.specs.Around.{around-in, around-none}
+use Rattle.next_rows.specs.Around.{around-in, around-none}
 
 module _ (tb : Table) (s : State) (t : ℕ) where
   -- thread t stands at a choice, and branch i of it is the first that goes ahead

@@ -10,7 +10,7 @@ use Rattle.rules.specs.Program.{opposite}
 use Rattle.rules.specs.Offers.{offers}
 use Rattle.rules.specs.declared.Direction.{Direction}
 use Rattle.rules.specs.declared.Direction.the-variants.{Out, In}
-use Rattle.decision.specs.Apart.{Apart}
+use Rattle.offers.specs.Apart.{Apart}
 use Rattle.rules_laws.specs.Soundness.{Sound}
 
 module _ (tb : Table) (s : State) (ok : Sound tb s) (t u : ℕ) (l : t < maxThreads) (m : u < maxThreads) (n : t ≢ u) (c : ℕ) where

@@ -31,7 +31,7 @@ use Rattle.rules.specs.declared.Turn.{Turn}
 use Rattle.rules.specs.declared.Turn.the-variants.{Went, Stopped}
 use Rattle.rules.specs.declared.Ran.{Ran}
 use Rattle.rules.specs.declared.Ran.the-variants as Ran
-use Rattle.decision.specs.Around.{next-ready-in, around-none}
+use Rattle.next_rows.specs.Around.{next-ready-in, around-none}
 use Rattle.calls.specs.Course.{last-turn}
 use Rattle.rules_laws.specs.Codes.{clash}
 use Rattle.rules_laws.specs.Accepted.{granted}

@@ -15,7 +15,7 @@ use Rattle.state.specs.State.{State, stateLength, view, thread}
 use Rattle.rules.specs.Offers.{offers}
 use Rattle.rules.specs.Sound.{sound}
 use Rattle.rules.specs.declared.Direction.the-variants.{Out, In}
-use Rattle.decision.specs.Apart.{Apart}
+use Rattle.offers.specs.Apart.{Apart}
 use Rattle.rules_laws.specs.Reading.Laws.{ready-not-waiting}
 use Rattle.rules_laws.specs.Soundness.{Sound}
 use Rattle.engine_laws.specs.Buffers.{SoundBuffer}

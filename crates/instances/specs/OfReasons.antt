@@ -23,7 +23,7 @@ use Rattle.rules.specs.declared.Refusal.the-variants as Ground
 use Rattle.rules.specs.declared.Stepped.the-variants as Stepped
 use Rattle.rules.specs.declared.Reason.the-variants.{AllDone, NoneReady, LackedThread, LackedChannel}
 use Rattle.rules.specs.declared.Ran.the-variants as Ran
-use Rattle.decision.specs.Apart.{Apart}
+use Rattle.offers.specs.Apart.{Apart}
 use Rattle.rules_laws.specs.Codes.{clash}
 use Rattle.rules_laws.specs.Granted.{Granted}
 use Rattle.rules_laws.specs.Reading.Laws.{offers-elim}

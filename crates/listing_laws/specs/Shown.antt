@@ -47,7 +47,7 @@ use Rattle.rules_laws.specs.Granted.{Granted}
 use Rattle.rules_laws.specs.Codes.{clash}
 use Rattle.rules_laws.specs.Accepted.{granted}
 use Rattle.rules_laws.specs.Passed.{judged-passed}
-use Rattle.decision.specs.Around.{next-ready-in}
+use Rattle.next_rows.specs.Around.{next-ready-in}
 use Rattle.calls.specs.Course.{after}
 use Rattle.rules_laws.specs.Reading.Laws.{ready-used}
 use Rattle.rules_laws.specs.Soundness.{Sound}

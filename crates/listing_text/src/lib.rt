@@ -50,18 +50,18 @@ fn list_turn(
     ensures { λ _. ⌜ Sound (tableOf (now (table .entry))) (stateOf (now (state .exit))) ⌝ }
     ensures { λ r. ⌜ now (out .exit) ≡ sets (now (out .entry)) (past i) (shownTurn r (tableOf (now (table .entry))) i (stateOf (now (state .entry)))) ⌝ }
 {
-    let t = decision::next_ready(state, state::THREADS);
+    let t = next_rows::next_ready(state, state::THREADS);
     if t < state::THREADS {
         let node = state::thread_word(state, t as usize, state::NODE);
         let round = turns::turn_of(table, index, state, t, state::THREADS);
         turns::settle_waiting(table, index, state);
-        let by = round.by;
+        let m = round.decided;
         listing_lines::put_step(
             out,
             STEP + i as usize * STEP,
             i + 1,
             t,
-            turns::step_answer(node, by),
+            turns::step_answer(node, m),
         );
         let turn = round.turn;
         return turn;

@@ -23,7 +23,7 @@ use Rattle.rules.specs.declared.Partner.{Partner}
 use Rattle.rules.specs.declared.Partner.the-variants.{Nobody, At}
 use Rattle.rules.specs.declared.Move.{Move}
 use Rattle.rules.specs.declared.Move.the-variants.{Ends, Calls, Waits, Goes, Creates, Spawns, Meets, LacksThread, LacksChannel}
-use Rattle.decision.specs.Around.{around-in}
+use Rattle.next_rows.specs.Around.{around-in}
 use Rattle.rules_laws.specs.Granted.{Granted}
 use Rattle.rules_laws.specs.Soundness.{Sound}
 use Rattle.rules_laws.specs.Chosen.{channelBy, Open, Answering, partner-answers, chosen}

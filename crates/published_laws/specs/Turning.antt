@@ -19,7 +19,7 @@ use Rattle.rules.specs.declared.Move.the-variants.{Ends, Calls, Waits, Goes, Cr
 use Rattle.rules.specs.declared.Reason.{Reason}
 use Rattle.rules.specs.declared.Turn.{Turn}
 use Rattle.rules.specs.declared.Turn.the-variants.{Went, Stopped}
-use Rattle.decision.specs.Around.{next-ready-in}
+use Rattle.next_rows.specs.Around.{next-ready-in}
 use Rattle.rules_laws.specs.Granted.{Granted}
 use Rattle.rules_laws.specs.Codes.{clash}
 use Rattle.rules_laws.specs.Soundness.{Sound}

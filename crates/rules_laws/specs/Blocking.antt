@@ -15,7 +15,7 @@ use Rattle.rules.specs.declared.Direction.{Direction}
 use Rattle.rules.specs.declared.Act.the-variants.{Meeting}
 use Rattle.rules_laws.specs.Reading.{Offering}
 use Rattle.rules_laws.specs.Reading.Laws.{opposite-opposite, offers-elim}
-use Rattle.decision.specs.Apart.{Apart}
+use Rattle.offers.specs.Apart.{Apart}
 use Rattle.rules_laws.specs.Chosen.{Open, channelBy, Blocked}
 use Rattle.rules_laws.specs.ThreadRow.{waiting-slot, waiting-guard}
 use Rattle.rules_laws.specs.Replaced.{set-read}

@@ -22,9 +22,9 @@ use Rattle.rules.specs.declared.Partner.{Partner}
 use Rattle.rules.specs.declared.Partner.the-variants.{Nobody, At}
 use Rattle.rules.specs.declared.Move.{Move}
 use Rattle.rules.specs.declared.Move.the-variants.{Ends, Calls, Waits, Goes, Creates, Spawns, Meets, LacksThread, LacksChannel}
-use Rattle.decision.specs.Around.{around-in, around-none}
-use Rattle.decision.specs.Partners.{offers-says, partner-in}
-use Rattle.decision.specs.Decided.{Says, Taken, move-says}
+use Rattle.next_rows.specs.Around.{around-in, around-none}
+use Rattle.offers.specs.Partners.{offers-says, partner-in}
+use Rattle.rules_laws.specs.Decided.{Says, Taken, move-says}
 use Rattle.rules_laws.specs.Reading.Laws.{meets-is}
 
 -- ---- what is said of a move

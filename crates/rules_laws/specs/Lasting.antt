@@ -23,7 +23,7 @@ use Rattle.rules.specs.declared.Stepped.the-variants as Stepped
 use Rattle.rules.specs.declared.Turn.{Turn}
 use Rattle.rules.specs.declared.Turn.the-variants.{Went, Stopped}
 use Rattle.upkeep.specs.Upkeep.{settled-mark}
-use Rattle.decision.specs.Around.{next-ready-in}
+use Rattle.next_rows.specs.Around.{next-ready-in}
 use Rattle.rules_laws.specs.Granted.{Granted}
 use Rattle.rules_laws.specs.Reading.Laws.{waiting-used, ready-not-waiting}
 use Rattle.rules_laws.specs.Soundness.{RowSound, Sound}

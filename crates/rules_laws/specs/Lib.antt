@@ -6,6 +6,7 @@ pub mod Filled
 pub mod Shape
 pub mod Reading
 pub mod Soundness
+pub mod Decided
 pub mod Chosen
 pub mod ThreadRow
 pub mod Entered

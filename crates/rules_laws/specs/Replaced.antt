@@ -19,7 +19,7 @@ use Rattle.rules.specs.Program.{opposite}
 use Rattle.rules.specs.Moves.{oneUp, typed}
 use Rattle.rules_laws.specs.Shape.{Shaped}
 use Rattle.rules_laws.specs.Reading.Laws.{offers-elim, holds-elim}
-use Rattle.decision.specs.Apart.{Apart}
+use Rattle.offers.specs.Apart.{Apart}
 use Rattle.rules_laws.specs.Soundness.{RowSound, Orderly}
 use Rattle.rules_laws.specs.ThreadRow.{held-used}
 use Rattle.rules_laws.specs.Settle.{retype}

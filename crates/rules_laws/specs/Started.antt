@@ -18,7 +18,7 @@ use Rattle.rules.specs.Start.{freeRow, entered, portRow, opening, started}
 use Rattle.rules_laws.specs.Granted.{Granted}
 use Rattle.rules_laws.specs.Shape.{Shaped}
 use Rattle.rules_laws.specs.Reading.Laws.{offers-elim}
-use Rattle.decision.specs.Apart.{Apart}
+use Rattle.offers.specs.Apart.{Apart}
 use Rattle.rules_laws.specs.Soundness.{SlotSound, filled, RowSound, Orderly, Sound}
 use Rattle.rules_laws.specs.Entered.{free-sound, entered-sound}
 use Rattle.rules_laws.specs.Settle.{three-small, settle}

@@ -1,4 +1,4 @@
--- The state before thread 0 has its row, one row after the other.
+-- The state before thread 0 has its row, one row after the other, and the slots of that row.
 pub mod Laws
 use Prim.Native.Nat.{ℕ}
 use mathlib.Core.Bool.{cond}
@@ -6,8 +6,9 @@ use mathlib.Core.List.{List, [], _∷_}
 use lib.Dec.{ltb}
 use lib.ListN.{replicate}
 use Rattle.numbers.specs.Search.{tabulate}
-use Rattle.table.specs.Table.{Table, ports}
+use Rattle.table.specs.Table.{Table, ports, parameters}
 use Rattle.state.specs.State.{State, maxThreads, maxChannels, withChannels, withThreads, withMarks}
+use Rattle.rules.specs.Program.{blank}
 use Rattle.rules.specs.Start.{freeRow, freeChannelRow, opening}
 use Rattle.starts.specs.FilledRows.{filledTo}
 
@@ -38,3 +39,7 @@ module _ (s : State) where
 -- the state before thread 0 has its row: the opening with every thread row free, and each port held by the bench
 unfoldable pub unstarted : Table → State
 unstarted tb = withThreads (withChannels (opening tb) (tabulate maxChannels (portHeld (ports tb)))) (replicate maxThreads freeRow)
+
+-- slot k of thread 0: parameter k of definition 0 is port k, any other slot is blank
+unfoldable pub portAt : Table → ℕ → ℕ
+portAt tb k = cond (ltb k (parameters tb 0)) k (blank tb 0 k)

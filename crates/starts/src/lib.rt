@@ -4,9 +4,12 @@ ghost use mathlib.Core.List.{[], _∷_};
 ghost use Prim.Native.Nat.{_<_};
 ghost use Rattle.table.specs.Table.{tableOf};
 ghost use Rattle.table.specs.Index.{Indexed};
-ghost use Rattle.state.specs.State.{maxChannels, stateOf, withChannel};
-ghost use Rattle.rules.specs.Start.{started};
-ghost use Rattle.starts.specs.Opening.{portHeld, freed, opened, marked, unstarted};
+ghost use lib.ListN.{replicate};
+ghost use Rattle.numbers.specs.Search.{tabulate};
+ghost use Rattle.state.specs.State.{maxChannels, stateOf, rowSlots, withThread, withChannel};
+ghost use Rattle.rules.specs.Start.{entered, started};
+ghost use Rattle.starts.specs.Opening.{portHeld, freed, opened, marked, unstarted, portAt};
+use table::Part;
 
 // Every thread row is free.
 fn free_threads(state: &mut [u32; state::WORDS])
@@ -22,7 +25,7 @@ fn put_channel_row(state: &mut [u32; state::WORDS], c: u32, ty: u32, n: u32)
     requires { ⌜ c < maxChannels ⌝ }
     ensures { λ _. ⌜ stateOf (now (state .exit)) ≡ withChannel (stateOf (now (state .entry))) c (ty ∷ n ∷ 0 ∷ []) ⌝ }
 {
-    // as a slice the state tells its length
+    // As a slice the state tells its length, as in `thread_rows::put_head`.
     let words: &[u32] = state;
     state::put_channel(state, c as usize, state::TYPE, ty);
     state::put_channel(state, c as usize, state::COUNT, n);
@@ -41,7 +44,7 @@ fn open_channel(state: &mut [u32; state::WORDS], c: u32, ports: u32)
     put_channel_row(state, c, 0, 0);
 }
 
-// ... every channel.
+// Every channel is opened where this many channels are ports.
 fn open_ports(state: &mut [u32; state::WORDS], ports: u32)
     ensures { λ _. ⌜ stateOf (now (state .exit)) ≡ opened (stateOf (now (state .entry))) ports ⌝ }
 {
@@ -54,7 +57,7 @@ fn open_ports(state: &mut [u32; state::WORDS], ports: u32)
 fn put_marks(state: &mut [u32; state::WORDS], ports: u32)
     ensures { λ _. ⌜ stateOf (now (state .exit)) ≡ marked (stateOf (now (state .entry))) ports ⌝ }
 {
-    // as a slice the state tells its length
+    // As a slice the state tells its length, as in `thread_rows::put_head`.
     let words: &[u32] = state;
     state::put_mark(state, state::THREAD_MARK, 1);
     state::put_mark(state, state::CHANNEL_MARK, ports);
@@ -71,6 +74,39 @@ fn write_unstarted(table: &[u8], state: &mut [u32; state::WORDS])
     put_marks(state, ports);
 }
 
+// Slot k of thread 0 as a file starts: parameter k is port k, any other slot is blank.
+fn port_slot(table: &[u8], index: &[u32], k: u32) -> u32
+    requires { ⌜ Indexed (tableOf (now table)) (now index) ⌝ }
+    ensures { λ r. ⌜ r ≡ portAt (tableOf (now (table .entry))) k ⌝ }
+{
+    if k < table::parameter_count_of(table, index, 0) {
+        return k;
+    }
+    program::blank_of(table, index, 0, k)
+}
+
+// All slots with which thread 0 starts are laid down.
+fn port_slots(table: &[u8], index: &[u32], slots: &mut [u32; thread_rows::SLOTS])
+    requires { ⌜ Indexed (tableOf (now table)) (now index) ⌝ }
+    requires { ⌜ now slots ≡ replicate rowSlots 0 ⌝ }
+    ensures { λ _. ⌜ now (slots .exit) ≡ tabulate rowSlots (portAt (tableOf (now (table .entry)))) ⌝ }
+{
+    for k in 0..state::SLOTS {
+        numbers::put_cell(slots, k as usize, port_slot(table, index, k));
+    }
+}
+
+// Thread 0 enters definition 0 with the ports.
+fn write_start(table: &[u8], index: &[u32], state: &mut [u32; state::WORDS])
+    requires { ⌜ Indexed (tableOf (now table)) (now index) ⌝ }
+    ensures { λ _. ⌜ stateOf (now (state .exit)) ≡ withThread (stateOf (now (state .entry))) 0 (entered (tableOf (now (table .entry))) 0 (λ k. k)) ⌝ }
+{
+    let mut slots = [0u32; thread_rows::SLOTS];
+    port_slots(table, index, &mut slots);
+    let node = table::start_of(table, index, Part::Nodes, 0);
+    thread_rows::put_row(state, 0, 1, node, &slots);
+}
+
 // The state with which the table's file starts.
 pub fn write_started(table: &[u8], index: &[u32], state: &mut [u32; state::WORDS])
     requires { ⌜ Indexed (tableOf (now table)) (now index) ⌝ }
@@ -79,6 +115,6 @@ pub fn write_started(table: &[u8], index: &[u32], state: &mut [u32; state::WORDS
     let mut old = [0u8; holding::LIST];
     write_unstarted(table, state);
     let waits = upkeep::note_held(table, index, state, 0, &mut old);
-    thread_rows::write_start(table, index, state);
+    write_start(table, index, state);
     upkeep::settle_one(table, index, state, 0, &old, waits);
 }

@@ -1,2 +1,1 @@
-pub mod CalledRow
 pub mod WrittenRows

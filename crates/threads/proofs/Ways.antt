@@ -3,7 +3,7 @@ use Prim.Native.Nat.{ℕ, _+_, _<_, _≤_}
 use native.Mathlib.Omega.{arith}
 use native.Mathlib.Numerals.{add-one}
 use mathlib.Core.Path.{_≡_, refl, sym, _∙_}
-use mathlib.Core.Bool.{Bool, true, false, not, _||_}
+use mathlib.Core.Bool.{Bool, true, false, not}
 use mathlib.Core.List.{List}
 use lib.ListN.{length, getD, set}
 use lib.Seq.{set-out}
@@ -16,18 +16,21 @@ use Rattle.table.specs.Table.{Table}
 use Rattle.table.specs.Layout.{branchCount}
 use Rattle.state.specs.State.{State, stateOf, thread, status, standsAt, slotOf, isWaiting, withThread}
 use Rattle.state.specs.State.Laws.{length-threads}
-use Rattle.rules.specs.Program.{branchAt, actOf, guardHolds, same}
+use Rattle.rules.specs.Program.{branchAt}
 use Rattle.rules.specs.Holding.{settled}
 use Rattle.rules.specs.Start.{freeRow}
-use Rattle.rules.specs.Offers.{meets?}
+use Rattle.rules.specs.Offers.{offersIn}
 use Rattle.rules.specs.declared.Direction.{Direction}
 use Rattle.rules.specs.declared.Direction.the-variants.{Out, In}
-use Rattle.rules.specs.declared.Act.{Act}
-use Rattle.rules.specs.declared.Act.the-variants.{Tau, Meeting, New, Spawn, Assignment}
+use Rattle.offers.specs.Offer.{offerOn}
+use Rattle.offers.specs.Offer.Laws.{same-self, offer-nothing, offer-of}
+use Rattle.offers.specs.declared.Offer.{Offer}
+use Rattle.offers.specs.declared.Offer.the-variants.{Nothing, Of}
 use Rattle.holding.specs.Own.{ownList}
 use Rattle.upkeep.specs.Shift.{settledOne}
 use Rattle.upkeep.specs.Upkeep.{one-settled, settled-again}
 use Rattle.threads.specs.Threads.{offersMarked, withHeld}
+use Rattle.threads.specs.Threads.Laws.{this-way}
 use Rattle.threads.specs.Looking.{raisedTo, isMarked, reachesBy, reachesAt}
 use Rattle.threads.specs.Looking.Laws.{raised-held, reaches-is, offers-nothing}
 
@@ -41,51 +44,23 @@ module _ (k : List Bool) (c : ℕ) where
   unfolding isMarked
   marked-out h = rw (le-ltb c 128 h)
 
--- is_meeting
-either-way : (d : Direction) → true ≡ (same d Out || same d In)
-unfolding same
-either-way Out = refl
-either-way In = refl
-
-module _ (tb : Table) (row : ℕ) (a : Act) (e : a ≡ actOf tb row) where
-  pub no-tau : a ≡ Tau → false ≡ (meets? (actOf tb row) Out || meets? (actOf tb row) In)
-  unfolding meets?
-  no-tau f = rw (← e, f)
-
-  pub no-new : a ≡ New → false ≡ (meets? (actOf tb row) Out || meets? (actOf tb row) In)
-  unfolding meets?
-  no-new f = rw (← e, f)
-
-  pub no-spawn : a ≡ Spawn → false ≡ (meets? (actOf tb row) Out || meets? (actOf tb row) In)
-  unfolding meets?
-  no-spawn f = rw (← e, f)
-
-  pub no-assignment : a ≡ Assignment → false ≡ (meets? (actOf tb row) Out || meets? (actOf tb row) In)
-  unfolding meets?
-  no-assignment f = rw (← e, f)
-
-  pub a-meeting : (d : Direction) → a ≡ Meeting d → true ≡ (meets? (actOf tb row) Out || meets? (actOf tb row) In)
-  unfolding meets?
-  a-meeting d f = rw (← e, f) (either-way d)
-
-pub ruleset meetings = (no-tau, no-new, no-spawn, no-assignment, a-meeting)
-
--- reaches_by: g is whether the guard is true, a whether the branch is a meeting, and c the channel
-module _ (tb : Table) (row : List ℕ) (k : List Bool) (r : ℕ) (g : Bool) (e : g ≡ guardHolds tb r row) where
-  pub reach-shut : not g ≡ true → false ≡ reachesBy tb row k r
+-- reaches_by: c is the channel that the branch names, in slot x, and m whether it is marked
+module _ (tb : Table) (row : List ℕ) (k : List Bool) (r x c : ℕ) (e : c ≡ slotOf row x) (f : x ≡ at tb r 5) (m : Bool) (g : m ≡ isMarked k c) where
+  pub reach-unmarked : not m ≡ true → false ≡ reachesBy tb row k r
   unfolding reachesBy
-  reach-shut f = rw (← e, not-true g f)
+  reach-unmarked h = rw (← f, ← e, ← g, not-true m h)
 
-  module _ (f : not g ≡ false) (a : Bool) (h : a ≡ (meets? (actOf tb r) Out || meets? (actOf tb r) In)) where
-    pub reach-alone : not a ≡ true → false ≡ reachesBy tb row k r
+  module _ (h : not m ≡ false) (v : Offer) (i : v ≡ offerOn tb row c r) where
+    pub reach-offers : (d : Direction) → v ≡ Of d → true ≡ reachesBy tb row k r
     unfolding reachesBy
-    reach-alone i = rw (← e, not-false g f, ← h, not-true a i)
+    reach-offers d j =
+        rw (← f, ← e, ← g, not-false m h) (sym (this-way (λ o. offersIn tb row o c r) d (offer-of tb row c r v i d d j ∙ same-self d)))
 
-    pub reach-marked : (x c : ℕ) (y : Bool) → not a ≡ false → y ≡ isMarked k c → c ≡ slotOf row x → x ≡ at tb r 5 → y ≡ reachesBy tb row k r
+    pub reach-nothing : v ≡ Nothing → false ≡ reachesBy tb row k r
     unfolding reachesBy
-    reach-marked x c y i j l n = rw (← e, not-false g f, ← h, not-false a i, ← n, ← l) j
+    reach-nothing j = rw (← f, ← e, ← g, not-false m h, offer-nothing tb row c r v i j Out, offer-nothing tb row c r v i j In)
 
-pub ruleset reaching = (reach-shut, reach-alone, reach-marked)
+pub ruleset reaching = (reach-unmarked, reach-offers, reach-nothing)
 
 -- offers_marked: y is the status of the thread
 module _ (tb : Table) (row : List ℕ) (k : List Bool) (y : ℕ) (s : y ≡ status row) where

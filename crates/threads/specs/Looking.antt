@@ -8,8 +8,8 @@ use lib.Dec.{ltb}
 use lib.ListN.{getD, set}
 use Rattle.table.specs.Table.{Table}
 use Rattle.state.specs.State.{maxChannels, standsAt, slotOf}
-use Rattle.rules.specs.Program.{branchAt, fieldA, actOf, guardHolds}
-use Rattle.rules.specs.Offers.{meets?}
+use Rattle.rules.specs.Program.{branchAt, fieldA}
+use Rattle.rules.specs.Offers.{offersIn}
 use Rattle.rules.specs.declared.Direction.the-variants.{Out, In}
 
 -- marks of channels, those of the first n entries of a list set too
@@ -22,10 +22,12 @@ unfoldable pub isMarked : List Bool → ℕ → Bool
 isMarked k c = ltb c maxChannels && getD k c false
 
 module _ (tb : Table) (row : List ℕ) (k : List Bool) where
-  -- the branch in row r, of a thread's row, is a meeting with a true guard on a channel that is marked
+  -- the branch in row r, of a thread's row, offers on its channel, in one direction or the other, and that channel is marked
   unfoldable pub reachesBy : ℕ → Bool
-  reachesBy r = guardHolds tb r row && ((meets? (actOf tb r) Out || meets? (actOf tb r) In) && isMarked k (slotOf row (fieldA tb r)))
+  reachesBy r =
+      isMarked k (slotOf row (fieldA tb r))
+      && (offersIn tb row Out (slotOf row (fieldA tb r)) r || offersIn tb row In (slotOf row (fieldA tb r)) r)
 
-  -- so for branch i of the node at which the thread stands
+  -- branch i of the node at which the thread stands does so
   unfoldable pub reachesAt : ℕ → Bool
   reachesAt i = reachesBy (branchAt tb (standsAt row) i)

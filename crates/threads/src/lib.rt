@@ -1,20 +1,17 @@
 // What a layer above the engine asks of one thread of a state, by its words: its status, its offers on channels that are marked, the channels that it
 // holds; and its release.
 ghost use mathlib.Core.Path.{_≡_};
-ghost use mathlib.Core.Bool.{true, _||_};
+ghost use mathlib.Core.Bool.{true};
 ghost use Prim.Native.Nat.{_<_};
 ghost use lib.ListN.{set};
 ghost use Rattle.table.specs.Table.{tableOf, ports};
 ghost use Rattle.table.specs.Index.{Indexed};
 ghost use Rattle.state.specs.State.{stateOf, thread, status, withThread};
-ghost use Rattle.rules.specs.Program.{actOf};
 ghost use Rattle.rules.specs.Holding.{settled};
 ghost use Rattle.rules.specs.Start.{freeRow};
-ghost use Rattle.rules.specs.Offers.{meets?};
-ghost use Rattle.rules.specs.declared.Direction.the-variants.{Out, In};
 ghost use Rattle.threads.specs.Threads.{offersMarked, withHeld};
 ghost use Rattle.threads.specs.Looking.{raisedTo, isMarked, reachesBy};
-use rules::Act;
+use offers::Offer;
 
 const CHANNELS: u32 = 128;
 
@@ -47,21 +44,7 @@ fn is_marked(marks: &[bool; 128], c: u32) -> bool
     false
 }
 
-// Whether the branch in a row is a meeting.
-fn is_meeting(table: &[u8], index: &[u32], row: usize) -> bool
-    requires { ⌜ Indexed (tableOf (now table)) (now index) ⌝ }
-    ensures { λ r. ⌜ r ≡ (meets? (actOf (tableOf (now (table .entry))) row) Out || meets? (actOf (tableOf (now (table .entry))) row) In) ⌝ }
-{
-    match program::act_of(table, index, row) {
-        Act::Tau => false,
-        Act::Meeting(_) => true,
-        Act::New => false,
-        Act::Spawn => false,
-        Act::Assignment => false,
-    }
-}
-
-// Whether the branch in a row, of thread t, is a meeting with a true guard on a channel that is marked.
+// Whether the branch in a row, of thread t, offers on the channel that it names, and that channel is marked.
 fn reaches_by(
     table: &[u8],
     index: &[u32],
@@ -73,14 +56,14 @@ fn reaches_by(
     requires { ⌜ Indexed (tableOf (now table)) (now index) ⌝ }
     ensures { λ r. ⌜ r ≡ reachesBy (tableOf (now (table .entry))) (thread (stateOf (now (words .entry))) t) (now (marks .entry)) row ⌝ }
 {
-    if !program::guard_holds(table, index, row, words, t) {
-        return false;
-    }
-    if !is_meeting(table, index, row) {
-        return false;
-    }
     let c = program::slot(words, t, table::cell_of(table, index, row, 5));
-    is_marked(marks, c)
+    if !is_marked(marks, c) {
+        return false;
+    }
+    match offers::offer_on(table, index, row, words, t, c) {
+        Offer::Of(_) => true,
+        Offer::Nothing => false,
+    }
 }
 
 // Whether thread t offers, in one direction or the other, on a channel that is marked.

@@ -18,8 +18,7 @@ use Rattle.rules.specs.Start.{entered}
 use Rattle.rules.specs.Moves.{resumed, waitingRow, stored, met}
 use Rattle.rules.specs.declared.Direction.{Direction}
 use Rattle.rules.specs.declared.Direction.the-variants.{Out, In}
-use Rattle.thread_rows.specs.WrittenRows.{entryAt, callAt}
-use Rattle.thread_rows.specs.CalledRow.{slotKept, callKeeps}
+use Rattle.call_rows.specs.CalledRow.{callAt, slotKept, callKeeps}
 use Rattle.rules_laws.specs.Reading.Laws.{head-slot}
 use Rattle.rules_laws.specs.ThreadRow.{resumed-node, resumed-slot, waiting-slot, stored-status, stored-node, stored-other}
 
@@ -67,7 +66,7 @@ module _ (tb : Table) (row : List ℕ) (u : inUse row ≡ true) where
 
   -- a call of its own definition, by which every channel slot gets what it has
   pub call-holds : callKeeps tb row ≡ true → (c : ℕ) → holds tb (entered tb (callee tb (standsAt row)) (λ k. slotOf row (argument tb (standsAt row) k))) c ≡ holds tb row c
-  unfolding callKeeps slotKept callAt entryAt entered
+  unfolding callKeeps slotKept callAt entered
   call-holds e =
       let d = callee tb (standsAt row) in
       let n = start tb Nodes d in

@@ -18,8 +18,8 @@ use Rattle.rules.specs.Holding.{settled}
 use Rattle.rules.specs.Moves.{move, written, perform, typed, spawnedBy}
 use Rattle.rules.specs.declared.Move.{Move}
 use Rattle.rules.specs.declared.Move.the-variants.{Ends, Calls, Waits, Goes, Creates, Spawns, Meets, LacksThread, LacksChannel}
-use Rattle.decision.specs.Top.{UsedBelow, top-le, ready-below, waiting-below}
-use Rattle.decision.specs.Decided.{meets-waiting, spawns-free}
+use Rattle.next_rows.specs.UsedBelow.{UsedBelow, top-le, ready-below, waiting-below}
+use Rattle.rules_laws.specs.Decided.{meets-waiting, spawns-free}
 use Rattle.turns.specs.Made.{ChildIn, made}
 
 -- the number after a move

@@ -3,25 +3,28 @@ use Prim.Native.Nat.{ℕ, suc, _+_, _≤_, _<_}
 use native.Mathlib.Omega.{arith}
 use native.Mathlib.Numerals.{add-one}
 use mathlib.Core.Path.{_≡_, refl, sym, _∙_}
-use mathlib.Core.Bool.{Bool, true, false, not, _&&_, cond}
+use mathlib.Core.Bool.{Bool, true, false, not, _||_, cond}
 use mathlib.Core.List.{List}
 use lib.Dec.{eqb}
 use lib.ListN.{length, getD, set, replicate}
 use lib.Seq.{set-out}
-use borrow.Author.Tests.{eq-eqb, ne-eqb, not-true, not-false}
+use borrow.Author.Tests.{eq-eqb, ne-eqb}
 use Rattle.numbers.specs.Search.{every, tabulate}
 use Rattle.numbers.specs.Search.Laws.{getD-tabulate, every-all, every-not, every-cong}
 use Rattle.numbers.specs.Rows.{at}
 use Rattle.table.specs.Table.{Table, nodeRow}
 use Rattle.table.specs.Layout.{branchCount}
 use Rattle.state.specs.State.{State, maxThreads, maxChannels, thread, status, standsAt, slotOf}
-use Rattle.rules.specs.Program.{branchAt, fieldA, actOf, guardHolds, same}
-use Rattle.rules.specs.Offers.{meets?}
+use Rattle.rules.specs.Program.{branchAt, actOf, guardHolds, same}
 use Rattle.rules.specs.Sound.{waitsRightly}
 use Rattle.rules.specs.declared.Direction.{Direction}
 use Rattle.rules.specs.declared.Direction.the-variants.{Out, In}
 use Rattle.rules.specs.declared.Act.{Act}
-use Rattle.rules.specs.declared.Act.the-variants.{Meeting}
+use Rattle.rules.specs.declared.Act.the-variants.{Tau, Meeting, New, Spawn, Assignment}
+use Rattle.offers.specs.Offer.{offerOf, offerOn}
+use Rattle.offers.specs.Offer.Laws.{same-self, offer-own, offer-nothing, offer-of}
+use Rattle.offers.specs.declared.Offer.{Offer}
+use Rattle.offers.specs.declared.Offer.the-variants.{Nothing, Of}
 use Rattle.waits.specs.Waits.{noted, apart, allApart, needsPartner, heldBack, offerNoted, branchHeld, branchNoted, waitsAlone, who, whoTo}
 use Rattle.waits.specs.Waits.Laws.{waits-law}
 use Rattle.waits.specs.Waits.Pass.{branch-noted, no-branch-noted, branches-noted, none-noted, none-yet}
@@ -49,63 +52,57 @@ module _ (l : List ℕ) (c t : ℕ) where
   pub note-out : length l ≤ c → l ≡ set l c (noted (getD l c 0) t)
   note-out h = sym (set-out l c (noted (getD l c 0) t) h)
 
--- ---- note_row: g is what the guard answered, a the act of the branch
+-- ---- note_branch: c is the channel that the branch names, in slot x, and v what it offers there
 
-module _ (tb : Table) (row : List ℕ) (r : ℕ) (g : Bool) (e : g ≡ guardHolds tb r row) where
-  pub shut-held : g ≡ false → true ≡ heldBack tb row r
-  unfolding heldBack
-  shut-held f = rw (← e, f)
+-- what a branch with guard g and act a holds back, by its offer
+held-offering : (g : Bool) (a : Act) (o : Direction) → cond g (offerOf a) Nothing ≡ Of o → true ≡ (not g || needsPartner a)
+unfolding offerOf needsPartner
+held-offering false a o h = refl
+held-offering true Tau o h = cc
+held-offering true (Meeting d) o h = refl
+held-offering true New o h = cc
+held-offering true Spawn o h = cc
+held-offering true Assignment o h = cc
 
-  pub shut-noted : (d : Direction) (t : ℕ) (l : List ℕ) → g ≡ false → l ≡ offerNoted tb row d r t l
-  unfolding offerNoted
-  shut-noted d t l f = rw (← e, f) (neither (meets? (actOf tb r) d))
-    where
-      neither : (b : Bool) → l ≡ cond (b && false) (set l (slotOf row (fieldA tb r)) (noted (getD l (slotOf row (fieldA tb r)) 0) t)) l
-      neither true = refl
-      neither false = refl
+held-silent : (g : Bool) (a : Act) → cond g (offerOf a) Nothing ≡ Nothing → not g ≡ (not g || needsPartner a)
+unfolding offerOf needsPartner
+held-silent false a h = refl
+held-silent true Tau h = refl
+held-silent true (Meeting d) h = cc
+held-silent true New h = refl
+held-silent true Spawn h = refl
+held-silent true Assignment h = refl
 
-  module _ (f : g ≡ true) (a : Act) (h : a ≡ actOf tb r) where
-    pub alone-held : (b : Act) → a ≡ b → needsPartner b ≡ false → false ≡ heldBack tb row r
-    unfolding heldBack
-    alone-held b i j = rw (← e, f, ← h, i, j)
+module _ (tb : Table) (s : State) (t i n r x c : ℕ) (p : n ≡ standsAt (thread s t)) (q : r ≡ branchAt tb n i) (e : c ≡ slotOf (thread s t) x) (f : x ≡ at tb r 5)
+    (v : Offer) (g : v ≡ offerOn tb (thread s t) c r) where
+  own-offer : v ≡ cond (guardHolds tb r (thread s t)) (offerOf (actOf tb r)) Nothing
+  own-offer = g ∙ rw (e, f) (offer-own tb (thread s t) r)
 
-    pub alone-noted : (d : Direction) (t : ℕ) (l : List ℕ) (b : Act) → a ≡ b → meets? b d ≡ false → l ≡ offerNoted tb row d r t l
-    unfolding offerNoted
-    alone-noted d t l b i j = rw (← e, f, ← h, i, j)
+  pub offering-held : (o : Direction) → v ≡ Of o → true ≡ branchHeld tb s t i
+  unfolding branchHeld heldBack
+  offering-held o h = rw (← p, ← q) (held-offering (guardHolds tb r (thread s t)) (actOf tb r) o (sym own-offer ∙ h))
 
-    module _ (d : Direction) (i : a ≡ Meeting d) where
-      pub meeting-held : true ≡ heldBack tb row r
-      unfolding heldBack needsPartner
-      meeting-held = rw (← e, f, ← h, i)
+  pub silent-held : (b : Bool) → b ≡ guardHolds tb r (thread s t) → v ≡ Nothing → not b ≡ branchHeld tb s t i
+  unfolding branchHeld heldBack
+  silent-held b j h = rw (← p, ← q, j) (held-silent (guardHolds tb r (thread s t)) (actOf tb r) (sym own-offer ∙ h))
 
-      pub meeting-noted : (c x t : ℕ) (l m : List ℕ) (k : Direction) → d ≡ k → m ≡ set l c (noted (getD l c 0) t) → c ≡ slotOf row x → x ≡ fieldA tb r → m ≡ offerNoted tb row k r t l
-      unfolding offerNoted meets? same
-      meeting-noted c x t l m k j o n q = rw (← e, f, ← h, i, j, own k, ← q, ← n) o
-        where
-          own : (k : Direction) → same k k ≡ true
-          own Out = refl
-          own In = refl
+  pub silent-noted : (d : Direction) (l : List ℕ) → v ≡ Nothing → l ≡ branchNoted tb s d t i l
+  unfolding branchNoted offerNoted
+  silent-noted d l h = rw (← p, ← q, ← f, ← e, offer-nothing tb (thread s t) c r v g h d)
 
-      pub other-noted : (t : ℕ) (l : List ℕ) (j k : Direction) → d ≡ j → same j k ≡ false → l ≡ offerNoted tb row k r t l
-      unfolding offerNoted meets?
-      other-noted t l j k n o = rw (← e, f, ← h, i, n, o)
+  -- it offers o, which is the direction k
+  module _ (o k : Direction) (h : v ≡ Of o) (j : o ≡ k) (l : List ℕ) where
+    pub offering-noted : (m : List ℕ) → m ≡ set l c (noted (getD l c 0) t) → m ≡ branchNoted tb s k t i l
+    unfolding branchNoted offerNoted
+    offering-noted m y = rw (← p, ← q, ← f, ← e, offer-of tb (thread s t) c r v g o k h, j, same-self k) y
 
-pub ruleset shut = (shut-held, shut-noted, not-true)
+    pub other-noted : (d : Direction) → same k d ≡ false → l ≡ branchNoted tb s d t i l
+    unfolding branchNoted offerNoted
+    other-noted d y = rw (← p, ← q, ← f, ← e, offer-of tb (thread s t) c r v g o d h, j, y)
 
-pub ruleset alone = (alone-held, alone-noted, not-false)
+pub ruleset silent = (silent-held, silent-noted)
 
-pub ruleset met = (meeting-held, meeting-noted, other-noted, not-false)
-
--- ---- note_branch
-
-module _ (tb : Table) (s : State) (t i n r : ℕ) (e : r ≡ branchAt tb n i) (f : n ≡ standsAt (thread s t)) where
-  pub held-here : (b : Bool) → b ≡ heldBack tb (thread s t) r → b ≡ branchHeld tb s t i
-  unfolding branchHeld
-  held-here b g = rw (← f, ← e) g
-
-  pub noted-here : (d : Direction) (l m : List ℕ) → m ≡ offerNoted tb (thread s t) d r t l → m ≡ branchNoted tb s d t i l
-  unfolding branchNoted
-  noted-here d l m g = rw (← f, ← e) g
+pub ruleset offering = (offering-held, offering-noted, other-noted)
 
 -- ---- note_branches
 

@@ -7,12 +7,12 @@ use mathlib.Core.Bool.{Bool, true, false, not, _&&_, _||_, cond}
 use mathlib.Core.List.{List}
 use lib.Dec.{eqb}
 use lib.ListN.{getD, set}
-use Rattle.numbers.specs.Search.{every, some}
+use Rattle.numbers.specs.Search.{every, some, tabulate}
 use Rattle.table.specs.Table.{Table}
 use Rattle.table.specs.Layout.{branchCount}
 use Rattle.state.specs.State.{State, maxChannels, thread, standsAt, slotOf, isWaiting}
 use Rattle.rules.specs.Program.{kindOf, branchAt, fieldA, actOf, guardHolds}
-use Rattle.rules.specs.Offers.{meets?, offersAt, offers}
+use Rattle.rules.specs.Offers.{offersIn, offersAt, offers}
 use Rattle.rules.specs.declared.Direction.{Direction}
 use Rattle.rules.specs.declared.Act.{Act}
 use Rattle.rules.specs.declared.Act.the-variants.{Tau, Meeting, New, Spawn, Assignment}
@@ -52,31 +52,40 @@ module _ (tb : Table) where
   unfoldable pub heldBack : List ℕ → ℕ → Bool
   heldBack row r = not (guardHolds tb r row) || needsPartner (actOf tb r)
 
-  -- the notes l of direction d, with the offer of thread t, whose row is given, by the branch in row r
+  -- the notes l of direction d, with thread t, whose row is given, at the channel on which the branch in row r offers d
   unfoldable pub offerNoted : List ℕ → Direction → ℕ → ℕ → List ℕ → List ℕ
   offerNoted row d r t l =
-      cond (meets? (actOf tb r) d && guardHolds tb r row)
+      cond (offersIn tb row d (slotOf row (fieldA tb r)) r)
       (set l (slotOf row (fieldA tb r)) (noted (getD l (slotOf row (fieldA tb r)) 0) t)) l
 
   module _ (s : State) where
-    -- so for branch i of thread t
+    -- branch i of thread t holds it back
     unfoldable pub branchHeld : ℕ → ℕ → Bool
     branchHeld t i = heldBack (thread s t) (branchAt tb (standsAt (thread s t)) i)
 
+    -- the notes l of direction d, with what branch i of thread t offers
     unfoldable pub branchNoted : Direction → ℕ → ℕ → List ℕ → List ℕ
     branchNoted d t i l = offerNoted (thread s t) d (branchAt tb (standsAt (thread s t)) i) t l
+
+    -- all branches of thread t hold it back
+    abbrev pub allHeld : ℕ → Bool
+    allHeld t = every (branchHeld t) (branchCount tb (standsAt (thread s t)))
 
     -- a waiting thread stands at a choice of which no branch could go ahead alone
     unfoldable pub waitsAlone : ℕ → Bool
     waitsAlone t =
         not (isWaiting (thread s t))
-        || (eqb (kindOf tb (standsAt (thread s t))) 1 && every (branchHeld t) (branchCount tb (standsAt (thread s t))))
+        || (eqb (kindOf tb (standsAt (thread s t))) 1 && allHeld t)
 
     module _ (d : Direction) where
       -- who of the threads below n offers d on c
       unfoldable pub who : ℕ → ℕ → ℕ
       who n c = noteOf (λ u. offers tb (thread s u) d c) n
 
-      -- ... with the first i branches of thread t, which waits
+      -- the notes of the threads below n, channel by channel
+      abbrev pub notes : ℕ → List ℕ
+      notes n = tabulate maxChannels (who n)
+
+      -- who of the threads below t offers d on c, with the first i branches of thread t, which waits
       unfoldable pub whoTo : ℕ → ℕ → ℕ → ℕ
       whoTo t i c = cond (some (offersAt tb (thread s t) d c) i) (noted (who t c) t) (who t c)

@@ -4,15 +4,14 @@ ghost use mathlib.Core.Path.{_≡_};
 ghost use mathlib.Core.Bool.{true};
 ghost use Prim.Native.Nat.{_+_, _<_};
 ghost use lib.ListN.{getD, set, replicate};
-ghost use Rattle.numbers.specs.Search.{every, tabulate};
+ghost use Rattle.numbers.specs.Search.{every};
 ghost use Rattle.table.specs.Table.{tableOf};
-ghost use Rattle.table.specs.Layout.{branchCount};
 ghost use Rattle.table.specs.Index.{Indexed};
 ghost use Rattle.state.specs.State.{stateOf, maxThreads, maxChannels, thread, status, standsAt};
 ghost use Rattle.rules.specs.Sound.{waitsRightly};
 ghost use Rattle.rules.specs.declared.Direction.the-variants.{Out, In};
-ghost use Rattle.waits.specs.Waits.{noted, apart, allApart, heldBack, offerNoted, branchHeld, branchNoted, waitsAlone, who};
-use rules::Act;
+ghost use Rattle.waits.specs.Waits.{noted, apart, allApart, branchHeld, branchNoted, allHeld, waitsAlone, notes};
+use offers::Offer;
 use rules::Direction;
 
 const THREADS: u32 = 64;
@@ -52,42 +51,7 @@ fn note(notes: &mut [u8], c: u32, t: u32)
     }
 }
 
-// The branch in a row, of thread t: what it offers is noted. Answers whether it is held back, that is, could not go ahead alone.
-fn note_row(
-    table: &[u8],
-    index: &[u32],
-    row: usize,
-    state: &[u32; state::WORDS],
-    t: u32,
-    senders: &mut [u8],
-    receivers: &mut [u8],
-) -> bool
-    requires { ⌜ Indexed (tableOf (now table)) (now index) ⌝ }
-    requires { ⌜ t < maxThreads ⌝ }
-    ensures { λ r. ⌜ r ≡ heldBack (tableOf (now (table .entry))) (thread (stateOf (now (state .entry))) t) row ⌝ }
-    ensures { λ _. ⌜ now (senders .exit) ≡ offerNoted (tableOf (now (table .entry))) (thread (stateOf (now (state .entry))) t) Out row t (now (senders .entry)) ⌝ }
-    ensures { λ _. ⌜ now (receivers .exit) ≡ offerNoted (tableOf (now (table .entry))) (thread (stateOf (now (state .entry))) t) In row t (now (receivers .entry)) ⌝ }
-{
-    if !program::guard_holds(table, index, row, state, t) {
-        return true;
-    }
-    let c = program::slot(state, t, table::cell_of(table, index, row, 5));
-    match program::act_of(table, index, row) {
-        Act::Meeting(d) => {
-            match d {
-                Direction::Out => note(senders, c, t),
-                Direction::In => note(receivers, c, t),
-            }
-            true
-        }
-        Act::Tau => false,
-        Act::New => false,
-        Act::Spawn => false,
-        Act::Assignment => false,
-    }
-}
-
-// So for branch i of thread t, which stands at node n.
+// Branch i of thread t, which stands at node n: what it offers is noted. Answers whether it is held back, that is, could not go ahead alone.
 fn note_branch(
     table: &[u8],
     index: &[u32],
@@ -105,18 +69,21 @@ fn note_branch(
     ensures { λ _. ⌜ now (senders .exit) ≡ branchNoted (tableOf (now (table .entry))) (stateOf (now (state .entry))) Out t i (now (senders .entry)) ⌝ }
     ensures { λ _. ⌜ now (receivers .exit) ≡ branchNoted (tableOf (now (table .entry))) (stateOf (now (state .entry))) In t i (now (receivers .entry)) ⌝ }
 {
-    note_row(
-        table,
-        index,
-        program::branch_at(table, index, n, i),
-        state,
-        t,
-        senders,
-        receivers,
-    )
+    let row = program::branch_at(table, index, n, i);
+    let c = program::slot(state, t, table::cell_of(table, index, row, 5));
+    match offers::offer_on(table, index, row, state, t, c) {
+        Offer::Of(d) => {
+            match d {
+                Direction::Out => note(senders, c, t),
+                Direction::In => note(receivers, c, t),
+            }
+            true
+        }
+        Offer::Nothing => !program::guard_holds(table, index, row, state, t),
+    }
 }
 
-// The branches of thread t, which waits at node n. The notes are whole where all branches are held back.
+// What the branches of thread t, which waits at node n, offer is noted. Answers whether all are held back; where they are, the notes are whole.
 fn note_branches(
     table: &[u8],
     index: &[u32],
@@ -130,11 +97,11 @@ fn note_branches(
     requires { ⌜ t < maxThreads ⌝ }
     requires { ⌜ n ≡ standsAt (thread (stateOf (now state)) t) ⌝ }
     requires { ⌜ status (thread (stateOf (now state)) t) ≡ 2 ⌝ }
-    requires { ⌜ now senders ≡ tabulate maxChannels (who (tableOf (now table)) (stateOf (now state)) Out t) ⌝ }
-    requires { ⌜ now receivers ≡ tabulate maxChannels (who (tableOf (now table)) (stateOf (now state)) In t) ⌝ }
-    ensures { λ r. ⌜ r ≡ every (branchHeld (tableOf (now (table .entry))) (stateOf (now (state .entry))) t) (branchCount (tableOf (now (table .entry))) (standsAt (thread (stateOf (now (state .entry))) t))) ⌝ }
-    ensures { λ r. ⌜ (r ≡ true → now (senders .exit) ≡ tabulate maxChannels (who (tableOf (now (table .entry))) (stateOf (now (state .entry))) Out (t + 1))) ⌝ }
-    ensures { λ r. ⌜ (r ≡ true → now (receivers .exit) ≡ tabulate maxChannels (who (tableOf (now (table .entry))) (stateOf (now (state .entry))) In (t + 1))) ⌝ }
+    requires { ⌜ now senders ≡ notes (tableOf (now table)) (stateOf (now state)) Out t ⌝ }
+    requires { ⌜ now receivers ≡ notes (tableOf (now table)) (stateOf (now state)) In t ⌝ }
+    ensures { λ r. ⌜ r ≡ allHeld (tableOf (now (table .entry))) (stateOf (now (state .entry))) t ⌝ }
+    ensures { λ r. ⌜ (r ≡ true → now (senders .exit) ≡ notes (tableOf (now (table .entry))) (stateOf (now (state .entry))) Out (t + 1)) ⌝ }
+    ensures { λ r. ⌜ (r ≡ true → now (receivers .exit) ≡ notes (tableOf (now (table .entry))) (stateOf (now (state .entry))) In (t + 1)) ⌝ }
 {
     let count = table::branch_count_of(table, index, n);
     for i in 0..count {
@@ -145,7 +112,7 @@ fn note_branches(
     true
 }
 
-// Thread t. The notes are whole where it could not go ahead alone.
+// What thread t offers is noted. Answers whether it could not go ahead alone; where it could not, the notes are whole.
 fn note_thread(
     table: &[u8],
     index: &[u32],
@@ -156,11 +123,11 @@ fn note_thread(
 ) -> bool
     requires { ⌜ Indexed (tableOf (now table)) (now index) ⌝ }
     requires { ⌜ t < maxThreads ⌝ }
-    requires { ⌜ now senders ≡ tabulate maxChannels (who (tableOf (now table)) (stateOf (now state)) Out t) ⌝ }
-    requires { ⌜ now receivers ≡ tabulate maxChannels (who (tableOf (now table)) (stateOf (now state)) In t) ⌝ }
+    requires { ⌜ now senders ≡ notes (tableOf (now table)) (stateOf (now state)) Out t ⌝ }
+    requires { ⌜ now receivers ≡ notes (tableOf (now table)) (stateOf (now state)) In t ⌝ }
     ensures { λ r. ⌜ r ≡ waitsAlone (tableOf (now (table .entry))) (stateOf (now (state .entry))) t ⌝ }
-    ensures { λ r. ⌜ (r ≡ true → now (senders .exit) ≡ tabulate maxChannels (who (tableOf (now (table .entry))) (stateOf (now (state .entry))) Out (t + 1))) ⌝ }
-    ensures { λ r. ⌜ (r ≡ true → now (receivers .exit) ≡ tabulate maxChannels (who (tableOf (now (table .entry))) (stateOf (now (state .entry))) In (t + 1))) ⌝ }
+    ensures { λ r. ⌜ (r ≡ true → now (senders .exit) ≡ notes (tableOf (now (table .entry))) (stateOf (now (state .entry))) Out (t + 1)) ⌝ }
+    ensures { λ r. ⌜ (r ≡ true → now (receivers .exit) ≡ notes (tableOf (now (table .entry))) (stateOf (now (state .entry))) In (t + 1)) ⌝ }
 {
     if state::thread_word(state, t as usize, 0) != WAITING {
         return true;
@@ -179,7 +146,7 @@ fn note_thread(
     note_branches(table, index, state, t, n, senders, receivers)
 }
 
-// All threads, into two lists of zeros.
+// What all threads offer is noted, in two lists of zeros. Answers whether none of them could go ahead alone; then the notes are whole.
 fn note_threads(
     table: &[u8],
     index: &[u32],
@@ -191,8 +158,8 @@ fn note_threads(
     requires { ⌜ now senders ≡ replicate maxChannels 0 ⌝ }
     requires { ⌜ now receivers ≡ replicate maxChannels 0 ⌝ }
     ensures { λ r. ⌜ r ≡ every (waitsAlone (tableOf (now (table .entry))) (stateOf (now (state .entry)))) maxThreads ⌝ }
-    ensures { λ r. ⌜ (r ≡ true → now (senders .exit) ≡ tabulate maxChannels (who (tableOf (now (table .entry))) (stateOf (now (state .entry))) Out maxThreads)) ⌝ }
-    ensures { λ r. ⌜ (r ≡ true → now (receivers .exit) ≡ tabulate maxChannels (who (tableOf (now (table .entry))) (stateOf (now (state .entry))) In maxThreads)) ⌝ }
+    ensures { λ r. ⌜ (r ≡ true → now (senders .exit) ≡ notes (tableOf (now (table .entry))) (stateOf (now (state .entry))) Out maxThreads) ⌝ }
+    ensures { λ r. ⌜ (r ≡ true → now (receivers .exit) ≡ notes (tableOf (now (table .entry))) (stateOf (now (state .entry))) In maxThreads) ⌝ }
 {
     for t in 0..THREADS {
         if !note_thread(table, index, state, t, senders, receivers) {
@@ -218,6 +185,7 @@ fn is_apart(a: u8, b: u8) -> bool
     a != SEVERAL
 }
 
+// Whether no channel has a sender and a receiver that are two threads.
 fn all_apart(senders: &[u8], receivers: &[u8]) -> bool
     ensures { λ r. ⌜ r ≡ allApart (now (senders .entry)) (now (receivers .entry)) ⌝ }
 {

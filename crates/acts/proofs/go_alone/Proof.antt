@@ -1,5 +1,4 @@
-use Rattle.acts.proofs.Laws.{act-passes, act-stores}
-use borrow.Author.Tests.{not-true, not-false}
+use Rattle.acts.proofs.Laws.{lone-goings}
 use borrow.Author.Needs.{needs}
 use Rattle.acts.proofs.go_alone.Statement.{statement}
 use Rattle.acts.proofs.go_alone.Tie as tie
@@ -9,7 +8,14 @@ go-alone-spec =
     tie.close
     (tie.spec
     (λ c κs. search needs)
+    (λ c. search needs)
+    (λ c. search needs)
+    (λ c. search needs)
+    (λ c. search needs)
+    (λ c. search needs)
     (λ c κs. search needs)
-    (λ c. search (act-passes, not-true))
-    (λ c κs. search needs)
-    (λ c. search (act-stores, not-false)))
+    (λ c. search lone-goings)
+    (λ c. search lone-goings)
+    (λ c. search lone-goings)
+    (λ c. search lone-goings)
+    (λ c. search lone-goings))

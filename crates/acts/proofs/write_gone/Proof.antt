@@ -1,13 +1,17 @@
-use Rattle.acts.specs.Way.{goneAlong}
+use Rattle.rules.specs.Moves.{goneBy, written}
 use borrow.Author.Needs.{needs}
 use Rattle.acts.proofs.write_gone.Statement.{statement}
 use Rattle.acts.proofs.write_gone.Tie as tie
 
 pub write-gone-spec : {M : Type 1} → statement M
-unfolding goneAlong
+unfolding goneBy written
 write-gone-spec =
     tie.close
     (tie.spec
+    (λ c κs. search needs)
+    (λ c κs. search needs)
+    (λ c κs. search needs)
+    (λ c κs. search needs)
     (λ c κs. search needs)
     (λ c κs. search needs)
     (λ c κs. search needs)

@@ -1,5 +1,5 @@
 use Rattle.calls.proofs.Laws.{give-refused, give-nobody, give-met}
-use Rattle.decision.specs.Partners.{partner-below}
+use Rattle.offers.specs.Partners.{partner-below}
 use Rattle.turns.specs.Keeping.Laws.{at-port}
 use borrow.Author.Needs.{needs}
 use Rattle.calls.proofs.give.Statement.{statement}

@@ -1,4 +1,4 @@
-use Rattle.decision.specs.Top.{used-all}
+use Rattle.next_rows.specs.UsedBelow.{used-all}
 use Rattle.turns.specs.Made.Laws.{next-is-ready}
 use Rattle.calls.proofs.Laws.{run-done}
 use borrow.Author.Needs.{needs}

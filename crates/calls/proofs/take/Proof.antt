@@ -1,5 +1,5 @@
 use Rattle.calls.proofs.Laws.{take-refused, take-nobody, take-met}
-use Rattle.decision.specs.Partners.{partner-below}
+use Rattle.offers.specs.Partners.{partner-below}
 use Rattle.turns.specs.Keeping.Laws.{at-port}
 use borrow.Author.Needs.{needs}
 use Rattle.calls.proofs.take.Statement.{statement}
@@ -15,7 +15,6 @@ take-spec =
     (λ c. search needs)
     (λ c. search needs)
     (λ c κs. search needs)
-    (λ c κs. search needs)
     (λ c κs. (search, (search partner-below, (search, (search, search at-port)))))
     (λ c. search take-nobody)
-    (λ c. take-met _ _ _ (c .before .before .before .before .before .before .before .before .before .before .before .before .cell-of .result) (c .before .before .before .before .before .before .before .before .before .before .before .before .cell-of .ensures .0) (search needs) (c .before .before .before .before .before .before .before .before .before .find-at-port .result) _ _ _ (search) _ (c .before .before .before .before .way-by .result) (c .make-met .ensures) (c .before .before .value-by .ensures) (c .before .before .before .before .way-by .ensures) (c .before .before .before .before .before .before .before .before .before .find-at-port .ensures)))
+    (λ c. take-met _ _ _ (c .before .before .before .before .before .before .before .before .before .before .cell-of .result) (c .before .before .before .before .before .before .before .before .before .before .cell-of .ensures .0) (search needs) (c .before .before .before .before .before .before .before .find-at-port .result) _ _ _ (search) _ (c .make-met .ensures) (c .before .before .value-by .ensures) (c .before .before .before .before .before .before .before .find-at-port .ensures)))

@@ -27,8 +27,6 @@ use Rattle.rules_laws.specs.Codes.{clash}
 use Rattle.rules_laws.specs.Soundness.{Sound}
 use Rattle.rules_laws.specs.Soundness.Laws.{sound-settled}
 use Rattle.turns.specs.Made.Laws.{next-turn}
-use Rattle.turns.specs.Counted.{Counted}
-use Rattle.turns.specs.Counted.Laws.{counted-start}
 use Rattle.listing_lines.specs.Lines.{stepLine}
 use Rattle.listing_lines.specs.Laid.Laws.{sets-append, joined-snoc, length-line}
 use Rattle.listing_text.specs.Listing.{maxSteps, turnLine, stepLines}
@@ -59,16 +57,10 @@ module _ (tb : Table) (s : State) where
   end-turn t Went = refl
   end-turn t (Stopped r) = refl
 
-  -- a sound state is settled, and so a turn may begin
+  -- a sound state is settled
   module _ (ok : Sound tb s) where
     same : settled tb s ≡ s
     same = sound-settled tb s ok
-
-    pub turn-begins : Sound tb (settled tb s)
-    turn-begins = rw same ok
-
-    pub turn-counted : Counted tb s
-    turn-counted = counted-start tb s same
 
     -- thread t's turn came to w and left state x, which is settled then
     module _ (t : ℕ) (w : Turn) (x : State) (e : turned w (settled tb x) ≡ turnEnd tb (settled tb s) t (turnBy t (move tb (settled tb s) t))) where

@@ -11,7 +11,7 @@ use Rattle.table.specs.Table.{Table, ports}
 use Rattle.state.specs.State.{State, maxThreads, maxChannels, threadMark, channelMark, turn, thread, isWaiting, typeIn}
 use Rattle.rules.specs.Holding.{settled}
 use Rattle.rules.specs.Sound.{marksInRange, freeZero, rowInRange, spareZero, slotsTyped, slotsFilled, countTrue, portTyped, waitsRightly, sound}
-use Rattle.decision.specs.Apart.{Apart}
+use Rattle.offers.specs.Apart.{Apart}
 use Rattle.rules_laws.specs.Shape.{Shaped}
 use Rattle.rules_laws.specs.Chosen.{Blocked}
 use Rattle.rules_laws.specs.Soundness.{RowSound, Orderly, Sound}

@@ -23,7 +23,7 @@ use Rattle.rules.specs.declared.Partner.the-variants.{Nobody}
 use Rattle.rules.specs.declared.Move.the-variants.{Waits}
 use Rattle.rules_laws.specs.Reading.Laws.{offers-elim, offers-intro}
 use Rattle.rules_laws.specs.Chosen.{channelBy, Open, Blocked, Chosen, chosen}
-use Rattle.decision.specs.Apart.{Apart}
+use Rattle.offers.specs.Apart.{Apart}
 use Rattle.rules_laws.specs.Soundness.{Orderly}
 
 module _ (tb : Table) (s : State) (t : ℕ) (d : Direction) (c : ℕ) where

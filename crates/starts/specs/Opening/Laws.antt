@@ -14,16 +14,18 @@ use Rattle.numbers.specs.Rows.{at}
 use Rattle.numbers.specs.Search.{tabulate}
 use Rattle.numbers.specs.Search.Laws.{caseB, getD-tabulate, tabulate-cong}
 use Rattle.table.specs.Table.{Table, ports}
-use Rattle.state.specs.State.{maxThreads, State, stateOf, stateWords, thread, channel, isWaiting, withMark, withThread, withChannel, withChannels}
+use Rattle.table.specs.Layout.{start}
+use Rattle.table.specs.declared.Part.the-variants.{Nodes}
+use Rattle.state.specs.State.{maxThreads, State, stateOf, stateWords, rowSlots, thread, channel, isWaiting, withMark, withThread, withChannel, withChannels}
 use Rattle.state.specs.State.Laws.{length-marks, length-threads, length-channels, length-channel, three-stored}
 use Rattle.rules.specs.Holding.{holds, holders, waiters, countOf, channelRow, recount, settled}
 use Rattle.rules.specs.Start.{freeRow, entered, portRow, started}
 use Rattle.holding.specs.Own.{ownList}
 use Rattle.upkeep.specs.Shift.{settledOne}
-use Rattle.upkeep.specs.Upkeep.{one-settled, settled-again}
+use Rattle.upkeep.specs.Upkeep.{one-settled}
 use Rattle.starts.specs.FilledRows.{filledTo}
 use Rattle.starts.specs.FilledRows.Laws.{filled-all, tabulate-same, none-pass}
-use Rattle.starts.specs.Opening.{portHeld, freedTo, freed, openedTo, opened, marked, unstarted}
+use Rattle.starts.specs.Opening.{portHeld, freedTo, freed, openedTo, opened, marked, unstarted, portAt}
 
 -- ---- free_threads
 
@@ -96,6 +98,13 @@ pub unstarted-is : (tb : Table) (p : ℕ) (s s₁ s₂ s₃ : State) → p ≡ p
 unfolding marked opened freed unstarted withChannels
 unstarted-is tb p s s₁ s₂ s₃ h e f g = rw (g, f, e, h)
 
+-- ---- write_start
+
+pub start-written : (tb : Table) (s s₁ : State) (l : List ℕ) (n : ℕ) → s₁ ≡ withThread s 0 (1 ∷ n ∷ l) → l ≡ tabulate rowSlots (portAt tb) → n ≡ start tb Nodes 0
+    → s₁ ≡ withThread s 0 (entered tb 0 (λ k. k))
+unfolding entered portAt
+start-written tb s s₁ l n e f g = e ∙ rw (f, g)
+
 -- ---- nobody but the bench holds anything
 
 module _ (tb : Table) where
@@ -159,9 +168,3 @@ module _ (tb : Table) where
       let after : s₂ ≡ settled tb (withThread s 0 (entered tb 0 (λ k. k))) =
       f ∙ rw (g, i, j) (one-settled tb s long whole 0 (omega arith) (entered tb 0 (λ k. k))) in
       after ∙ rw e start-settled
-
-  -- ---- the start is settled
-
-  pub started-settled : settled tb (started tb) ≡ started tb
-  unfolding started
-  started-settled = settled-again tb _

@@ -13,13 +13,8 @@ use Rattle.numbers.specs.Search.{tabulate}
 use Rattle.numbers.specs.Search.Laws.{getD-tabulate, length-tabulate}
 use Rattle.state.specs.State.{State, stateOf, thread, standsAt, slotOf, slotsOf, stateWords, rowSlots, withThread}
 use Rattle.state.specs.State.Laws.{length-threads, length-thread, thread-same, thread-twice}
-use Rattle.numbers.specs.Rows.{at}
-use Rattle.table.specs.Table.{Table}
-use Rattle.table.specs.Layout.{start}
-use Rattle.table.specs.declared.Part.the-variants.{Nodes}
-use Rattle.rules.specs.Start.{entered}
 use Rattle.rules.specs.Moves.{waitingRow, stored}
-use Rattle.thread_rows.specs.WrittenRows.{reslotted, refilled, entryAt, portAt}
+use Rattle.thread_rows.specs.WrittenRows.{reslotted, refilled}
 
 -- ---- two words at the head of a row
 
@@ -99,8 +94,6 @@ module _ (b : List ℕ) (t : ℕ) (l : List ℕ) where
       let q : k ≡ 16 = omega arith in
       e ∙ rw (q, refill-all l (thread (stateOf b) t) 16 f (length-thread b g t h))
 
-pub ruleset refills = (refill-none, refill-more, refill-done)
-
 -- a head and then the slots make a row
 pub row-written : (b b₁ : List ℕ) (t v n : ℕ) (l : List ℕ) (s₂ : State) → s₂ ≡ withThread (stateOf b₁) t (reslotted (thread (stateOf b₁) t) l)
     → stateOf b₁ ≡ withThread (stateOf b) t (v ∷ n ∷ slotsOf (thread (stateOf b) t)) → t < 64 → s₂ ≡ withThread (stateOf b) t (v ∷ n ∷ l)
@@ -108,6 +101,14 @@ row-written b b₁ t v n l s₂ e f h =
     let r = v ∷ n ∷ slotsOf (thread (stateOf b) t) in
     let g : thread (stateOf b₁) t ≡ r = ap (λ (s : State). thread s t) f ∙ thread-same (stateOf b) t r (omega (arith, length-threads b)) in
     e ∙ rw (g, f, thread-twice (stateOf b) t r (v ∷ n ∷ l))
+
+-- ---- a row that is written twice: s₁ has row r for thread t, and s₂ has v in its slot k besides
+
+module _ (b : List ℕ) (t : ℕ) (r : List ℕ) (s₁ s₂ : State) (k v : ℕ) where
+  pub stored-after : s₂ ≡ withThread s₁ t (stored (thread s₁ t) k v) → s₁ ≡ withThread (stateOf b) t r → t < 64 → s₂ ≡ withThread (stateOf b) t (stored r k v)
+  stored-after e f h =
+      let w : thread s₁ t ≡ r = ap (λ (s : State). thread s t) f ∙ thread-same (stateOf b) t r (omega (arith, length-threads b)) in
+      e ∙ rw (w, f, thread-twice (stateOf b) t r (stored r k v))
 
 -- ---- a list of slots, laid one after the other
 
@@ -130,13 +131,3 @@ slots-copied b t l k e g h i j =
     slots-done f l k e i j
     ∙ ext-getD 0 (tabulate rowSlots f) (slotsOf (thread (stateOf b) t)) (length-tabulate rowSlots f ∙ sym n)
     (λ x m. getD-tabulate rowSlots x f 0 (omega (arith, length-tabulate rowSlots f)) ∙ sym (getD-drop 2 (thread (stateOf b) t) x 0))
-
-pub ruleset slot-laws = (slots-none, slots-more, slots-done)
-
--- ---- a definition entered
-
-module _ (tb : Table) (s s₁ : State) (l : List ℕ) (n : ℕ) where
-  pub start-written : s₁ ≡ withThread s 0 (1 ∷ n ∷ l) → l ≡ tabulate rowSlots (portAt tb) → n ≡ start tb Nodes 0
-      → s₁ ≡ withThread s 0 (entered tb 0 (λ k. k))
-  unfolding entered portAt entryAt
-  start-written e f g = e ∙ rw (f, g)

@@ -8,16 +8,16 @@ use mathlib.Core.List.{List}
 use lib.Dec.{ltb, eqb}
 use lib.ListN.{length, getD, length-set}
 use lib.Seq.{getD-set-same, getD-set-other}
-use borrow.Author.Tests.{ltb-true, lt-ltb, eqb-true, eqb-false, eq-eqb}
+use borrow.Author.Tests.{ltb-true, lt-ltb, eqb-true, eqb-false}
 use Rattle.numbers.specs.Search.{some}
 use Rattle.numbers.specs.Search.Laws.{caseB, contra, same-truth, some-elim, some-intro, some-void, is-tabulate}
 use Rattle.numbers.specs.Tests.{parts}
 use Rattle.table.specs.Table.{Table}
 use Rattle.table.specs.Layout.{branchCount}
 use Rattle.state.specs.State.{maxChannels, standsAt, slotOf, isWaiting}
-use Rattle.rules.specs.Program.{branchAt, fieldA, actOf, guardHolds}
+use Rattle.rules.specs.Program.{branchAt, fieldA}
 use Rattle.rules.specs.Holding.{holds}
-use Rattle.rules.specs.Offers.{meets?, offersIn, offersAt, offers}
+use Rattle.rules.specs.Offers.{offersIn, offersAt, offers}
 use Rattle.rules.specs.declared.Direction.{Direction}
 use Rattle.rules.specs.declared.Direction.the-variants.{Out, In}
 use Rattle.holding.specs.Own.{ownOf, ownList, holdsTo}
@@ -68,6 +68,11 @@ module _ (tb : Table) (row : List ℕ) (k : List Bool) (e : length k ≡ 128) wh
 
 -- ---- offers and branches
 
+-- a branch offers on the channel that it names
+offers-channel : (tb : Table) (row : List ℕ) (d : Direction) (c r : ℕ) → offersIn tb row d c r ≡ true → slotOf row (fieldA tb r) ≡ c
+unfolding offersIn
+offers-channel tb row d c r x = eqb-true (slotOf row (fieldA tb r)) c (search parts)
+
 module _ (tb : Table) (row : List ℕ) (k : List Bool) where
   module _ (w : isWaiting row ≡ true) where
     -- branch i is a meeting of direction d on c
@@ -77,23 +82,21 @@ module _ (tb : Table) (row : List ℕ) (k : List Bool) where
       offers-by b x = rw (lt-ltb c maxChannels b, w) (some-intro (offersAt tb row d c) (branchCount tb (standsAt row)) i l x)
 
       reaches-marked : c < maxChannels → getD k c false ≡ true → offersAt tb row d c i ≡ true → some (reachesAt tb row k) (branchCount tb (standsAt row)) ≡ true
-      unfolding reachesAt reachesBy isMarked offersAt offersIn
+      unfolding reachesAt reachesBy isMarked offersAt
       reaches-marked b g x =
           let r = branchAt tb (standsAt row) i in
-          let q : slotOf row (fieldA tb r) ≡ c = eqb-true (slotOf row (fieldA tb r)) c (search parts) in
-          let m : meets? (actOf tb r) d ≡ true = search parts in
-          let p : guardHolds tb r row ≡ true = search parts in
-          some-intro (reachesAt tb row k) (branchCount tb (standsAt row)) i l (rw (p, q, this-way (meets? (actOf tb r)) d m, lt-ltb c maxChannels b, g))
+          let q : slotOf row (fieldA tb r) ≡ c = offers-channel tb row d c r x in
+          some-intro (reachesAt tb row k) (branchCount tb (standsAt row)) i l
+          (rw (q, lt-ltb c maxChannels b, g) (this-way (λ e. offersIn tb row e c r) d x))
 
     offered-by : (i : ℕ) → i < branchCount tb (standsAt row) → reachesAt tb row k i ≡ true
         → (d : Direction) × (c : ℕ) × (c < maxChannels) × (getD k c false ≡ true) × (offersAt tb row d c i ≡ true)
-    unfolding reachesAt reachesBy isMarked offersAt offersIn
+    unfolding reachesAt reachesBy isMarked offersAt
     offered-by i l h =
         let r = branchAt tb (standsAt row) i in
         let c = slotOf row (fieldA tb r) in
-        let (d, m) = one-way (meets? (actOf tb r)) (search parts) in
-        let p : guardHolds tb r row ≡ true = search parts in
-        (d, c, ltb-true c maxChannels (search parts), search parts, rw (m, eq-eqb c c refl, p))
+        let (d, o) = one-way (λ e. offersIn tb row e c r) (search parts) in
+        (d, c, ltb-true c maxChannels (search parts), search parts, o)
 
     by-branch : (d : Direction) (c : ℕ) → offers tb row d c ≡ true → (i : ℕ) × (i < branchCount tb (standsAt row)) × (offersAt tb row d c i ≡ true)
     unfolding offers

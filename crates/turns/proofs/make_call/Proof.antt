@@ -1,4 +1,5 @@
-use Rattle.turns.specs.Keeping.Laws.{calls-made, calls-counted}
+use Rattle.turns.specs.Counted.Laws.{call-made}
+use Rattle.turns.specs.Keeping.Laws.{call-keeps}
 use borrow.Author.Needs.{needs}
 use Rattle.turns.proofs.make_call.Statement.{statement}
 use Rattle.turns.proofs.make_call.Tie as tie
@@ -9,6 +10,8 @@ make-call-spec =
     (tie.spec
     (λ c κs. search needs)
     (λ c κs. search needs)
-    (λ c. (search calls-made, search calls-counted))
-    (λ c κs. (search needs, (search needs, (search needs, search))))
-    (λ c. search needs))
+    (λ c. search call-keeps)
+    (λ c κs. search needs)
+    (λ c κs. search needs)
+    (λ c κs. search needs)
+    (λ c. call-made _ _ _ _ _ _ _ (c .settle-one .ensures) (search) (search) (search) (search) (search)))

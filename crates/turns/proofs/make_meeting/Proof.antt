@@ -1,4 +1,5 @@
-use Rattle.turns.specs.Keeping.Laws.{meets-made, meets-counted, meets-in, meets-other, meets-facing}
+use Rattle.turns.specs.Counted.Laws.{meeting-made}
+use Rattle.turns.specs.Keeping.Laws.{number-keeps, meet-other, meet-facing}
 use borrow.Author.Needs.{needs}
 use Rattle.turns.proofs.make_meeting.Statement.{statement}
 use Rattle.turns.proofs.make_meeting.Tie as tie
@@ -8,7 +9,10 @@ make-meeting-spec =
     tie.close
     (tie.spec
     (λ c κs. search needs)
-    (λ c κs. (search, (search, (search meets-in, (search meets-other, search meets-facing)))))
-    (λ c. (search meets-made, search meets-counted))
-    (λ c κs. (search, (search, (search, (search meets-in, search meets-other)))))
-    (λ c. search needs))
+    (λ c κs. (search, (search, (search, (search meet-other, search meet-facing)))))
+    (λ c. search number-keeps)
+    (λ c κs. search needs)
+    (λ c κs. search needs)
+    (λ c κs. (search, (search, (search, search meet-other))))
+    (λ c κs. search needs)
+    (λ c. meeting-made _ _ _ _ _ _ _ _ _ _ (c .settle-two .ensures) _ _ (search) (search) (search) (search) (search) (search) (search) (search) (search meet-other)))

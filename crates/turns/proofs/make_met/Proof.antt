@@ -8,6 +8,5 @@ make-met-spec =
     tie.close
     (tie.spec
     (λ c κs. search needs)
-    (λ c κs. search needs)
     (λ c κs. (search, search met-counted))
     (λ c. search met-made))

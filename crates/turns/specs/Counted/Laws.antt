@@ -4,7 +4,8 @@ use Prim.Native.Nat.{ℕ, zero, suc, _+_, _<_, _≤_}
 use native.Mathlib.Omega.{arith}
 use native.Mathlib.Numerals.{add-one}
 use mathlib.Core.Path.{_≡_, refl, sym, _∙_, ap}
-use mathlib.Core.Bool.{true, _&&_, cond}
+use mathlib.Core.Logic.{_≢_}
+use mathlib.Core.Bool.{_&&_, cond}
 use mathlib.Core.List.{List, [], _∷_}
 use lib.Dec.{eqb, leb}
 use lib.ListN.{length, getD, set, take, length-set}
@@ -17,30 +18,24 @@ use Rattle.numbers.specs.Search.Laws.{caseB, getD-tabulate, length-tabulate, ta
 use Rattle.numbers.specs.Signed.{sum}
 use Rattle.table.specs.Table.{Table}
 use Rattle.state.specs.State.Laws.{length-threads, length-channel}
-use Rattle.state.specs.State.{State, stateOf, stateWords, maxThreads, thread, channel, isReady, standsAt, typeIn, channelMark, isWaiting, withMark, withThread, withChannel, withChannels}
+use Rattle.state.specs.State.{State, stateOf, stateWords, thread, channel, standsAt, typeIn, channelMark, isWaiting, withMark, withThread, withChannel, withChannels}
+use Rattle.rules.specs.Start.{freeRow}
 use Rattle.rules.specs.Holding.{holds, waiters, countOf, channelRow, recount, settled}
 use Rattle.table.specs.Layout.{branchCount}
 use Rattle.rules.specs.Program.{branchAt, guardHolds, actOf}
 use Rattle.rules.specs.declared.Act.{Act}
 use Rattle.rules.specs.declared.Act.the-variants.{Tau, Meeting, New, Spawn, Assignment}
 use Rattle.rules.specs.Offers.{answers, answering, partnerOf}
-use Rattle.rules.specs.Moves.{firstFrom, around, isFreeThread, isFreeChannel, freeThread, freeChannel, creation, goesAhead, actMove, branchMove, ahead, choice, move, typed, oneUp, spawnedBy, written, perform}
+use Rattle.rules.specs.Moves.{firstFrom, around, isFreeThread, isFreeChannel, freeThread, freeChannel, creation, goesAhead, actMove, branchMove, ahead, choice, move, typed, spawnedBy, written, perform}
 use Rattle.rules.specs.declared.Move.{Move}
 use Rattle.rules.specs.declared.Move.the-variants.{Ends, Calls, Waits, Goes, Creates, Spawns, Meets, LacksThread, LacksChannel}
 use Rattle.holding.specs.Own.{ownList}
 use Rattle.upkeep.specs.Shift.{shiftRow, shiftTo, shiftedTo, channelShifted, rowEntered, rowLeft, settledOne, settledTwo, settledNew}
-use Rattle.upkeep.specs.Upkeep.{waiters-le, counts-move, settled-again, settled-length, settled-mark}
-use Rattle.rules_laws.specs.Granted.{Granted}
-use Rattle.rules_laws.specs.Soundness.{Sound}
-use Rattle.rules_laws.specs.Soundness.Laws.{sound-apart}
-use Rattle.decision.specs.Top.{UsedBelow}
-use Rattle.decision.specs.Apart.{Apart}
-use Rattle.rules.specs.Calls.{turnBy, turned, turnEnd}
-use Rattle.rules.specs.declared.Turn.{Turn}
-use Rattle.turns.specs.TopRaised.{raisedBy, turn-used}
-use Rattle.turns.specs.Made.{Alone, Paired, Creation, made}
-use Rattle.turns.specs.Made.Laws.{alone-settled, creation-settled, paired-settled, turn-ends, turn-sound}
-use Rattle.turns.specs.Counted.{Alike, Counted, weighedTo}
+use Rattle.upkeep.specs.Upkeep.{waiters-le, counts-move, settled-again, settled-length}
+use Rattle.turns.specs.Made.{Alone, Paired, Creation}
+use Rattle.turns.specs.Made.Laws.{alone-settled, creation-settled, paired-settled}
+use Rattle.turns.specs.Running.{MoveMade}
+use Rattle.turns.specs.Counted.{Alike, Counted, weighedTo, weighed}
 
 -- ---- one row
 
@@ -268,64 +263,49 @@ module _ (tb : Table) (s : State) (e : Counted tb s) where
 
 -- ---- the code's ways out: s₁ after the writes, s₂ after the upkeep
 
-module _ (tb : Table) (b : List ℕ) (e : Counted tb (stateOf b)) (t : ℕ) (h : t < 64) (m : Move) (s₁ s₂ : State) where
-  module _ (l : List ℕ) (w : ℕ) (g : s₁ ≡ written tb (stateOf b) t m) (i : l ≡ ownList tb (thread (stateOf b) t)) (j : w ≡ bit (isWaiting (thread (stateOf b) t))) where
-    pub alone-made : s₂ ≡ settledOne tb s₁ t l w → Alone m → settled tb s₂ ≡ perform tb (settled tb (stateOf b)) t m
-    alone-made f a = rw (f, g, i, j) (alone-kept tb (stateOf b) e (length-threads b) t h m a .0)
+module _ (tb : Table) (b : List ℕ) (t : ℕ) (s₁ s₂ : State) (l : List ℕ) (w : ℕ) where
+  module _ (f : s₂ ≡ settledOne tb s₁ t l w) where
+    alone-made : (m : Move) → s₁ ≡ written tb (stateOf b) t m → l ≡ ownList tb (thread (stateOf b) t) → w ≡ bit (isWaiting (thread (stateOf b) t)) → Counted tb (stateOf b) → t < 64
+        → Alone m → MoveMade tb (stateOf b) t m s₂
+    alone-made m g i j e h a =
+        let (p, q) = alone-kept tb (stateOf b) e (length-threads b) t h m a in
+        record { after = rw (f, g, i, j) p; counted = rw (f, g, i, j) q }
 
-    pub alone-counted : s₂ ≡ settledOne tb s₁ t l w → Alone m → Counted tb s₂
-    alone-counted f a = rw (f, g, i, j) (alone-kept tb (stateOf b) e (length-threads b) t h m a .1)
+    pub end-made : s₁ ≡ withThread (stateOf b) t freeRow → l ≡ ownList tb (thread (stateOf b) t) → w ≡ bit (isWaiting (thread (stateOf b) t)) → Counted tb (stateOf b) → t < 64
+        → MoveMade tb (stateOf b) t Ends s₂
+    unfolding written Alone
+    end-made g i j e h = alone-made Ends g i j e h tt
 
-    pub creation-made : (x : ℕ) → s₂ ≡ settledNew tb s₁ t x l w → Creation x m → settled tb s₂ ≡ perform tb (settled tb (stateOf b)) t m
-    creation-made x f a = rw (f, g, i, j) (creation-kept tb (stateOf b) e (length-threads b) t h m x a .0)
+    pub call-made : s₁ ≡ written tb (stateOf b) t Calls → l ≡ ownList tb (thread (stateOf b) t) → w ≡ bit (isWaiting (thread (stateOf b) t)) → Counted tb (stateOf b) → t < 64
+        → MoveMade tb (stateOf b) t Calls s₂
+    unfolding Alone
+    call-made g i j e h = alone-made Calls g i j e h tt
 
-    pub creation-counted : (x : ℕ) → s₂ ≡ settledNew tb s₁ t x l w → Creation x m → Counted tb s₂
-    creation-counted x f a = rw (f, g, i, j) (creation-kept tb (stateOf b) e (length-threads b) t h m x a .1)
+  pub channel-made : (k c : ℕ) → s₂ ≡ settledNew tb s₁ t c l w → s₁ ≡ written tb (stateOf b) t (Creates k c) → l ≡ ownList tb (thread (stateOf b) t)
+      → w ≡ bit (isWaiting (thread (stateOf b) t)) → Counted tb (stateOf b) → t < 64 → c < 128 → MoveMade tb (stateOf b) t (Creates k c) s₂
+  unfolding Creation
+  channel-made k c f g i j e h n =
+      let (p, q) = creation-kept tb (stateOf b) e (length-threads b) t h (Creates k c) c (refl, n) in
+      record { after = rw (f, g, i, j) p; counted = rw (f, g, i, j) q }
 
-module _ (tb : Table) (b : List ℕ) (e : Counted tb (stateOf b)) (t : ℕ) (h : t < 64) (m : Move) (s₁ s₂ : State) (x : ℕ) (l : List ℕ) (w : ℕ) (l′ : List ℕ) (w′ : ℕ)
-    (g : s₁ ≡ written tb (stateOf b) t m) (f : s₂ ≡ settledTwo tb s₁ t x l w l′ w′) (i : l ≡ ownList tb (thread (stateOf b) t)) (j : w ≡ bit (isWaiting (thread (stateOf b) t)))
-    (k : l′ ≡ ownList tb (thread (stateOf b) x)) (n : w′ ≡ bit (isWaiting (thread (stateOf b) x))) (a : Paired t x m) where
-  pub paired-made : settled tb s₂ ≡ perform tb (settled tb (stateOf b)) t m
-  paired-made = rw (f, g, i, j, k, n) (paired-kept tb (stateOf b) e (length-threads b) t h m x a .0)
+  module _ (u : ℕ) (l′ : List ℕ) (w′ : ℕ) (f : s₂ ≡ settledTwo tb s₁ t u l w l′ w′) where
+    paired-made : (m : Move) → s₁ ≡ written tb (stateOf b) t m → l ≡ ownList tb (thread (stateOf b) t) → w ≡ bit (isWaiting (thread (stateOf b) t))
+        → l′ ≡ ownList tb (thread (stateOf b) u) → w′ ≡ bit (isWaiting (thread (stateOf b) u)) → Counted tb (stateOf b) → t < 64 → Paired t u m → MoveMade tb (stateOf b) t m s₂
+    paired-made m g i j k n e h a =
+        let (p, q) = paired-kept tb (stateOf b) e (length-threads b) t h m u a in
+        record { after = rw (f, g, i, j, k, n) p; counted = rw (f, g, i, j, k, n) q }
 
-  pub paired-counted : Counted tb s₂
-  paired-counted = rw (f, g, i, j, k, n) (paired-kept tb (stateOf b) e (length-threads b) t h m x a .1)
+    pub child-made : (x : ℕ) → s₁ ≡ written tb (stateOf b) t (Spawns x u) → l ≡ ownList tb (thread (stateOf b) t) → w ≡ bit (isWaiting (thread (stateOf b) t))
+        → l′ ≡ ownList tb (thread (stateOf b) u) → w′ ≡ bit (isWaiting (thread (stateOf b) u)) → Counted tb (stateOf b) → t < 64 → u < 64 → u ≢ t
+        → MoveMade tb (stateOf b) t (Spawns x u) s₂
+    unfolding Paired
+    child-made x g i j k n e h o z = paired-made (Spawns x u) g i j k n e h (refl, o, z)
 
--- ---- a step and a turn
-
-module _ (tb : Table) (s : State) (t : ℕ) where
-  pub apart-alike : Sound tb (settled tb s) → Apart tb (s .threads)
-  unfolding settled withChannels
-  apart-alike ok = sound-apart tb (settled tb s) ok
-
-  module _ (m : Move) (f : m ≡ move tb s t) (e : Counted tb s) where
-    pub move-read : m ≡ move tb (settled tb s) t
-    move-read = f ∙ move-alike tb s e t
-
-    pub step-made : (s₁ : State) → settled tb s₁ ≡ made tb (settled tb s) t m → settled tb s₁ ≡ made tb (settled tb s) t (move tb (settled tb s) t)
-    step-made s₁ g = g ∙ rw move-read
-
-  module _ (r : isReady (thread s t) ≡ true) where
-    -- s₁ after the move, s₂ with the turn moved on
-    module _ (s₁ s₂ : State) (v : ℕ) (f : s₂ ≡ withMark s₁ 2 v) (g : settled tb s₁ ≡ made tb (settled tb s) t (move tb (settled tb s) t)) where
-      marked : settled tb s₂ ≡ withMark (settled tb s₁) 2 v
-      marked = rw f (settled-mark tb s₁ 2 v)
-
-      pub turn-made : (m : Move) (w : Turn) → m ≡ move tb (settled tb s) t → v ≡ oneUp maxThreads t → w ≡ turnBy t m
-          → turned w (settled tb s₂) ≡ turnEnd tb (settled tb s) t (turnBy t (move tb (settled tb s) t))
-      turn-made m w h i j = turn-ends tb (settled tb s) t m (settled tb s₁) (settled tb s₂) w v marked g h i j
-
-      pub turn-lasts : Granted tb → Sound tb (settled tb s) → t < 64 → v ≡ oneUp maxThreads t → Sound tb (settled tb s₂)
-      unfolding settled withChannels
-      turn-lasts gr ok l i = turn-sound tb gr (settled tb s) ok t l r (settled tb s₁) (settled tb s₂) v marked g i
-
-      pub turn-below : (top : ℕ) (m : Move) (k : ℕ) → UsedBelow s top → m ≡ move tb (settled tb s) t → k ≡ raisedBy top m → UsedBelow s₂ k
-      unfolding settled withChannels UsedBelow
-      turn-below top m k used h i = turn-used tb (settled tb s) t top used r m (settled tb s₁) (settled tb s₂) v k marked g h i
-
-  pub counted-mark : (s₁ : State) (i v : ℕ) → Counted tb s → s₁ ≡ withMark s i v → Counted tb s₁
-  unfolding Counted settled withMark withChannels
-  counted-mark s₁ i v e f = rw f e
+    pub meeting-made : (x y : ℕ) → s₁ ≡ written tb (stateOf b) t (Meets x u y) → l ≡ ownList tb (thread (stateOf b) t) → w ≡ bit (isWaiting (thread (stateOf b) t))
+        → l′ ≡ ownList tb (thread (stateOf b) u) → w′ ≡ bit (isWaiting (thread (stateOf b) u)) → Counted tb (stateOf b) → t < 64 → u < 64 → u ≢ t
+        → MoveMade tb (stateOf b) t (Meets x u y) s₂
+    unfolding Paired
+    meeting-made x y g i j k n e h o z = paired-made (Meets x u y) g i j k n e h (refl, o, z)
 
 -- ---- a settled state is counted
 
@@ -336,17 +316,15 @@ counted-start tb s e = rw (ap (λ (x : State). x .channels) e) (let l : length (
 -- ---- the counts of waiting holders, settled at last
 
 module _ (l : List ℕ) (b : List ℕ) where
-  pub weighed-none : stateOf b ≡ withChannels (stateOf b) (weighedTo l (stateOf b .channels) 0)
-  unfolding weighedTo withChannels stateOf
+  pub weighed-none : stateOf b ≡ weighed l (stateOf b) 0
+  unfolding weighed weighedTo withChannels stateOf
   weighed-none = refl
 
-  pub weighed-more : (s₁ s₂ : State) (k v : ℕ) → s₂ ≡ withChannel s₁ k (set (channel s₁ k) 2 v) → s₁ ≡ withChannels (stateOf b) (weighedTo l (stateOf b .channels) k) → v ≡ getD l k 0
-      → s₂ ≡ withChannels (stateOf b) (weighedTo l (stateOf b .channels) (k + 1))
-  unfolding weighedTo withChannels withChannel
+  pub weighed-more : (s₁ s₂ : State) (k v : ℕ) → s₂ ≡ withChannel s₁ k (set (channel s₁ k) 2 v) → s₁ ≡ weighed l (stateOf b) k → v ≡ getD l k 0 → s₂ ≡ weighed l (stateOf b) (k + 1)
+  unfolding weighed weighedTo withChannels withChannel
   weighed-more s₁ s₂ k v e f g = e ∙ rw (f, g, add-one k)
 
-  pub weighed-all : (s₁ : State) (k : ℕ) → s₁ ≡ withChannels (stateOf b) (weighedTo l (stateOf b .channels) k) → k ≤ 128 → 128 ≤ k
-      → s₁ ≡ withChannels (stateOf b) (weighedTo l (stateOf b .channels) 128)
+  pub weighed-all : (s₁ : State) (k : ℕ) → s₁ ≡ weighed l (stateOf b) k → k ≤ 128 → 128 ≤ k → s₁ ≡ weighed l (stateOf b) 128
   weighed-all s₁ k e h i = let q : k ≡ 128 = omega arith in rw (← q) e
 
 module _ (l : List ℕ) (chs : List (List ℕ)) where
@@ -387,9 +365,9 @@ last-word (x ∷ y ∷ z ∷ []) ty (suc n) w h e i =
     let b : y ≡ suc n = ap (λ (l : List ℕ). getD l 1 0) e in
     rw (a, b)
 
-pub settled-last : (tb : Table) (b : List ℕ) → length b ≡ stateWords → Counted tb (stateOf b) → (l : List ℕ) (s₁ : State) → s₁ ≡ withChannels (stateOf b) (weighedTo l (stateOf b .channels) 128)
+pub settled-last : (tb : Table) (b : List ℕ) → length b ≡ stateWords → Counted tb (stateOf b) → (l : List ℕ) (s₁ : State) → s₁ ≡ weighed l (stateOf b) 128
     → l ≡ tabulate 128 (waiters tb (stateOf b .threads)) → s₁ ≡ settled tb (stateOf b)
-unfolding Counted Alike settled withChannels recount
+unfolding weighed Counted Alike settled withChannels recount
 settled-last tb b long e l s₁ f g =
     let s = stateOf b in
     let row : ℕ → List ℕ = λ c. channelRow (typeIn s c) (countOf tb (s .threads) c) (waiters tb (s .threads) c) in

@@ -12,17 +12,13 @@ use Rattle.rules.specs.Holding.{settled}
 use Rattle.rules.specs.Moves.{oneUp, move, written, perform, spawnedBy}
 use Rattle.rules.specs.declared.Move.{Move}
 use Rattle.rules.specs.declared.Move.the-variants.{Ends, Calls, Waits, Goes, Creates, Spawns, Meets, LacksThread, LacksChannel}
-use Rattle.rules.specs.Calls.{stepAnswer, nextReady, pastTurn, reasonFor, turnFor, turnBy, Turned, turned, turnEnd, takeTurn}
-use Rattle.rules.specs.declared.Refusal.{Refusal}
-use Rattle.rules.specs.declared.Deed.{Deed}
+use Rattle.rules.specs.Calls.{stepAnswer, nextReady, pastTurn, turnFor, turnBy, Turned, turned, turnEnd, takeTurn}
 use Rattle.rules.specs.declared.Stepped.{Stepped}
-use Rattle.rules.specs.declared.Stepped.the-variants.{Done, Refused}
-use Rattle.rules.specs.declared.Reason.{Reason}
 use Rattle.rules.specs.declared.Reason.the-variants.{NoneReady}
 use Rattle.rules.specs.declared.Turn.{Turn}
-use Rattle.rules.specs.declared.Turn.the-variants.{Went, Stopped}
-use Rattle.decision.specs.Around.{next-ready-in}
-use Rattle.decision.specs.Decided.{spawns-free}
+use Rattle.rules.specs.declared.Turn.the-variants.{Stopped}
+use Rattle.next_rows.specs.Around.{next-ready-in}
+use Rattle.rules_laws.specs.Decided.{spawns-free}
 use Rattle.holding.specs.Own.{ownList}
 use Rattle.upkeep.specs.Shift.{settledOne, settledTwo, settledNew}
 use Rattle.upkeep.specs.Upkeep.{one-settled, two-settled, new-settled, settled-mark, two-mark, new-mark}
@@ -85,15 +81,20 @@ module _ (tb : Table) (s : State) (long : length (s .threads) ≡ 64) (e : settl
   paired-settled x LacksThread a = absurd a
   paired-settled x LacksChannel a = absurd a
 
--- ---- arms
+-- ---- a move of a settled state, whether or not it lacks a row
 
--- an arm of the match that makes a move
-module _ (tb : Table) (s s₁ : State) (t : ℕ) (m n : Move) (e : m ≡ n) where
-  pub made-anew : s₁ ≡ perform tb s t n → perform tb s t n ≡ made tb s t n → s₁ ≡ made tb s t m
-  made-anew f g = f ∙ rw e g
-
-  pub lacking-arm : s₁ ≡ made tb s t n → s₁ ≡ made tb s t m
-  lacking-arm f = rw e f
+module _ (tb : Table) (s : State) (e : settled tb s ≡ s) (t : ℕ) where
+  pub performed : (m : Move) → perform tb s t m ≡ made tb s t m
+  unfolding made perform written
+  performed Ends = refl
+  performed Calls = refl
+  performed Waits = refl
+  performed (Goes i) = refl
+  performed (Creates i c) = refl
+  performed (Spawns i u) = refl
+  performed (Meets i u j) = refl
+  performed LacksThread = e
+  performed LacksChannel = e
 
 -- ---- the move that a thread makes
 
@@ -115,21 +116,12 @@ module _ (tb : Table) (s : State) (t : ℕ) where
 
 -- after a move, and after the turn has moved on, the state is sound
 module _ (tb : Table) (g : Granted tb) (s : State) (ok : Sound tb s) (t : ℕ) (l : t < 64) (r : isReady (thread s t) ≡ true) where
-  made-sound : (m : Move) → move tb s t ≡ m → Sound tb (made tb s t m)
-  unfolding made
-  made-sound Ends e = rw e at (move-kept tb g s ok t l r)
-  made-sound Calls e = rw e at (move-kept tb g s ok t l r)
-  made-sound Waits e = rw e at (move-kept tb g s ok t l r)
-  made-sound (Goes i) e = rw e at (move-kept tb g s ok t l r)
-  made-sound (Creates i c) e = rw e at (move-kept tb g s ok t l r)
-  made-sound (Spawns i u) e = rw e at (move-kept tb g s ok t l r)
-  made-sound (Meets i u j) e = rw e at (move-kept tb g s ok t l r)
-  made-sound LacksThread e = ok
-  made-sound LacksChannel e = ok
+  made-sound : Sound tb (made tb s t (move tb s t))
+  made-sound = rw (performed tb s (ok .counts) t (move tb s t)) at (move-kept tb g s ok t l r)
 
   pub turn-sound : (s₁ s₂ : State) (v : ℕ) → s₂ ≡ withMark s₁ 2 v → s₁ ≡ made tb s t (move tb s t) → v ≡ oneUp maxThreads t → Sound tb s₂
   unfolding pastTurn
-  turn-sound s₁ s₂ v f h i = rw (f, h, i) (turn-kept tb (made tb s t (move tb s t)) (made-sound (move tb s t) refl) t l)
+  turn-sound s₁ s₂ v f h i = rw (f, h, i) (turn-kept tb (made tb s t (move tb s t)) made-sound t l)
 
 -- ---- a turn
 
@@ -151,22 +143,13 @@ module _ (tb : Table) (s : State) (t : ℕ) where
   unfolding pastTurn
   turn-ends m s₁ s₂ w v f g h i j = rw (f, g, i, j, h) (made-turn (move tb s t) (move tb s t) refl refl)
 
--- ---- the arms: a move, a ground, and the answer to a step
+-- ---- the arms: the answer to a step, and what a turn comes to
 
 pub answer-arm : (r : Stepped) (n : ℕ) (m k : Move) → m ≡ k → r ≡ stepAnswer n k → r ≡ stepAnswer n m
 answer-arm r n m k e f = rw e f
 
-pub reason-arm : (r : Reason) (t : ℕ) (g h : Refusal) → g ≡ h → r ≡ reasonFor t h → r ≡ reasonFor t g
-reason-arm r t g h e f = rw e f
-
-module _ (t : ℕ) (m : Move) (a : Stepped) (e : a ≡ stepAnswer 0 m) where
-  pub went-by : (n : ℕ) (d : Deed) → a ≡ Done n d → Went ≡ turnBy t m
-  unfolding turnBy turnFor
-  went-by n d f = rw (← e, f)
-
-  pub stopped-by : (g : Refusal) (r : Reason) → a ≡ Refused g → r ≡ reasonFor t g → Stopped r ≡ turnBy t m
-  unfolding turnBy turnFor
-  stopped-by g r f h = rw (← e, f, h)
+pub turn-arm : (w : Turn) (t : ℕ) (m k : Move) → m ≡ k → w ≡ turnBy t k → w ≡ turnBy t m
+turn-arm w t m k e f = rw e f
 
 module _ (tb : Table) (s : State) (t : ℕ) (e : t ≡ nextReady s) where
   pub next-turn : (k : Turned) → k ≡ turnEnd tb s t (turnBy t (move tb s t)) → t < 64 → k ≡ takeTurn tb s

@@ -11,8 +11,7 @@ use lib.Seq.{getD-set-same, getD-set-other}
 use borrow.Author.Tests.{lt-ltb, eqb-true, eqb-false, eq-eqb, ne-eqb}
 use Rattle.numbers.specs.Laid.Laws.{zeros-at}
 use Rattle.numbers.specs.Search.{some, tabulate}
-use Rattle.numbers.specs.Search.Laws.{caseB, getD-tabulate, length-tabulate, tabulate-cong, some-zero, some-suc, is-tabulate}
-use Rattle.numbers.specs.Tests.{and-left, and-right}
+use Rattle.numbers.specs.Search.Laws.{caseB, contra, getD-tabulate, length-tabulate, tabulate-cong, some-zero, some-suc, is-tabulate}
 use Rattle.table.specs.Table.{Table}
 use Rattle.table.specs.Layout.{branchCount}
 use Rattle.state.specs.State.{State, maxChannels, thread, standsAt, slotOf, isWaiting}
@@ -35,13 +34,16 @@ module _ (tb : Table) (s : State) (d : Direction) (t : ℕ) where
   abbrev channelAt : ℕ → ℕ
   channelAt i = slotOf (thread s t) (fieldA tb (line i))
 
-  -- branch i is an offer of d, on its channel alone
+  -- branch i offers d on the channel that it names, and on no other
   abbrev isOpen : ℕ → Bool
-  isOpen i = meets? (actOf tb (line i)) d && guardHolds tb (line i) (thread s t)
+  isOpen i = offersIn tb (thread s t) d (channelAt i) (line i)
+
+  own-channel : (i : ℕ) → eqb (channelAt i) (channelAt i) ≡ true
+  own-channel i = eq-eqb (channelAt i) (channelAt i) refl
 
   shut-offer : (i c : ℕ) → isOpen i ≡ false → offersAt tb (thread s t) d c i ≡ false
   unfolding offersAt offersIn
-  shut-offer i c e = shut (meets? (actOf tb (line i)) d) (eqb (channelAt i) c) (guardHolds tb (line i) (thread s t)) e
+  shut-offer i c e = shut (meets? (actOf tb (line i)) d) (eqb (channelAt i) c) (guardHolds tb (line i) (thread s t)) (rw (own-channel i) at e)
     where
       shut : (a b g : Bool) → (a && g) ≡ false → (a && (b && g)) ≡ false
       shut true true g e = e
@@ -50,11 +52,13 @@ module _ (tb : Table) (s : State) (d : Direction) (t : ℕ) where
 
   open-offer : (i c : ℕ) → isOpen i ≡ true → offersAt tb (thread s t) d c i ≡ eqb (channelAt i) c
   unfolding offersAt offersIn
-  open-offer i c e = rw (and-left (meets? (actOf tb (line i)) d) _ e, and-right (meets? (actOf tb (line i)) d) _ e) (kept (eqb (channelAt i) c))
+  open-offer i c e = opened (meets? (actOf tb (line i)) d) (eqb (channelAt i) c) (guardHolds tb (line i) (thread s t)) (rw (own-channel i) at e)
     where
-      kept : (b : Bool) → (b && true) ≡ b
-      kept true = refl
-      kept false = refl
+      opened : (a b g : Bool) → (a && g) ≡ true → (a && (b && g)) ≡ b
+      opened true true true e = refl
+      opened true true false e = e
+      opened true false g e = refl
+      opened false b g e = contra e refl
 
   -- one branch more
   whoTo-same : (i c : ℕ) → offersAt tb (thread s t) d c i ≡ false → whoTo tb s d t (suc i) c ≡ whoTo tb s d t i c

@@ -1,0 +1,139 @@
+// What a meeting writes: the rows of the two threads that meet, and the row of a thread that the bench meets.
+ghost use mathlib.Core.Path.{_≡_};
+ghost use mathlib.Core.Logic.{_≢_};
+ghost use Prim.Native.Nat.{_<_};
+ghost use Rattle.table.specs.Table.{tableOf};
+ghost use Rattle.table.specs.Index.{Indexed};
+ghost use Rattle.state.specs.State.{stateOf, thread};
+ghost use Rattle.rules.specs.Moves.{met, metBy, valueBy, sideOf, written};
+ghost use Rattle.rules.specs.declared.Move.the-variants.{Meets};
+ghost use Rattle.thread_rows.specs.WrittenRows.{rewritten};
+ghost use Rattle.meetings.specs.Sides.{Facing, passed};
+use rules::Act;
+use rules::Direction;
+
+// The direction of an act.
+fn side_of(act: Act) -> Direction
+    ensures { λ r. ⌜ r ≡ sideOf act ⌝ }
+{
+    match act {
+        Act::Tau => Direction::Out,
+        Act::Meeting(d) => d,
+        Act::New => Direction::Out,
+        Act::Spawn => Direction::Out,
+        Act::Assignment => Direction::Out,
+    }
+}
+
+// What thread t gives at a meeting by its branch i.
+pub fn value_by(table: &[u8], index: &[u32], state: &[u32; state::WORDS], t: u32, i: u32) -> u32
+    requires { ⌜ Indexed (tableOf (now table)) (now index) ⌝ }
+    ensures { λ r. ⌜ r ≡ valueBy (tableOf (now (table .entry))) (thread (stateOf (now (state .entry))) t) i ⌝ }
+{
+    let row = program::branch_at(table, index, thread_rows::stands_at(state, t), i);
+    program::slot(state, t, table::cell_of(table, index, row, 6))
+}
+
+// Thread t goes on at a node after a meeting: a receiver has v in its slot.
+fn go_on(state: &mut [u32; state::WORDS], t: u32, d: Direction, node: u32, slot: u32, v: u32)
+    requires { ⌜ t < 64 ⌝ }
+    ensures { λ _. ⌜ stateOf (now (state .exit)) ≡ rewritten (stateOf (now (state .entry))) t (λ row. met d row node slot v) ⌝ }
+{
+    thread_rows::resume(state, t, node);
+    match d {
+        Direction::Out => {}
+        Direction::In => thread_rows::store(state, t, slot, v),
+    }
+}
+
+// Thread t goes on after a meeting by its branch i with somebody who gives v.
+pub fn write_met(
+    table: &[u8],
+    index: &[u32],
+    state: &mut [u32; state::WORDS],
+    t: u32,
+    i: u32,
+    v: u32,
+)
+    requires { ⌜ Indexed (tableOf (now table)) (now index) ⌝ }
+    requires { ⌜ t < 64 ⌝ }
+    ensures { λ _. ⌜ stateOf (now (state .exit)) ≡ rewritten (stateOf (now (state .entry))) t (λ row. metBy (tableOf (now (table .entry))) row i v) ⌝ }
+{
+    let node = thread_rows::stands_at(state, t);
+    let row = program::branch_at(table, index, node, i);
+    let next = program::next_of(table, index, node, row);
+    let slot = table::cell_of(table, index, row, 6);
+    let act = program::act_of(table, index, row);
+    go_on(state, t, side_of(act), next, slot, v);
+}
+
+// Threads t and u go on after the meeting of their branches i and j, each with what the other one gives.
+pub fn write_meeting(
+    table: &[u8],
+    index: &[u32],
+    state: &mut [u32; state::WORDS],
+    t: u32,
+    i: u32,
+    u: u32,
+    j: u32,
+)
+    requires { ⌜ Indexed (tableOf (now table)) (now index) ⌝ }
+    requires { ⌜ t < 64 ⌝ }
+    requires { ⌜ u < 64 ⌝ }
+    requires { ⌜ u ≢ t ⌝ }
+    ensures { λ _. ⌜ stateOf (now (state .exit)) ≡ written (tableOf (now (table .entry))) (stateOf (now (state .entry))) t (Meets i u j) ⌝ }
+{
+    let given = value_by(table, index, state, u, j);
+    let gives = value_by(table, index, state, t, i);
+    write_met(table, index, state, t, i, given);
+    write_met(table, index, state, u, j, gives);
+}
+
+// Thread t goes on after the send in a row, and thread u after the receive in another, with what t gives in its slot.
+fn write_passed(
+    table: &[u8],
+    index: &[u32],
+    state: &mut [u32; state::WORDS],
+    t: u32,
+    send: usize,
+    u: u32,
+    receive: usize,
+)
+    requires { ⌜ Indexed (tableOf (now table)) (now index) ⌝ }
+    requires { ⌜ t < 64 ⌝ }
+    requires { ⌜ u < 64 ⌝ }
+    requires { ⌜ u ≢ t ⌝ }
+    ensures { λ _. ⌜ stateOf (now (state .exit)) ≡ passed (tableOf (now (table .entry))) (stateOf (now (state .entry))) t send u receive ⌝ }
+{
+    let slot = table::cell_of(table, index, receive, 6);
+    let v = program::slot(state, t, table::cell_of(table, index, send, 6));
+    let next = program::next_of(table, index, thread_rows::stands_at(state, t), send);
+    let after = program::next_of(table, index, thread_rows::stands_at(state, u), receive);
+    thread_rows::resume(state, t, next);
+    go_on(state, u, Direction::In, after, slot, v);
+}
+
+// Threads t and u go on after the meeting of their branches i and j, by who of the two sends: fewer words are read and written than by `write_meeting`.
+pub fn write_directed(
+    table: &[u8],
+    index: &[u32],
+    state: &mut [u32; state::WORDS],
+    t: u32,
+    i: u32,
+    u: u32,
+    j: u32,
+)
+    requires { ⌜ Indexed (tableOf (now table)) (now index) ⌝ }
+    requires { ⌜ t < 64 ⌝ }
+    requires { ⌜ u < 64 ⌝ }
+    requires { ⌜ u ≢ t ⌝ }
+    requires { ⌜ Facing (tableOf (now table)) (stateOf (now state)) t i u j ⌝ }
+    ensures { λ _. ⌜ stateOf (now (state .exit)) ≡ written (tableOf (now (table .entry))) (stateOf (now (state .entry))) t (Meets i u j) ⌝ }
+{
+    let own = program::branch_at(table, index, thread_rows::stands_at(state, t), i);
+    let other = program::branch_at(table, index, thread_rows::stands_at(state, u), j);
+    match side_of(program::act_of(table, index, own)) {
+        Direction::Out => write_passed(table, index, state, t, own, u, other),
+        Direction::In => write_passed(table, index, state, u, other, t, own),
+    }
+}

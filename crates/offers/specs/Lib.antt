@@ -1,0 +1,5 @@
+pub mod Offer
+pub mod Apart
+pub mod Partners
+pub mod Seen
+pub mod Tried
