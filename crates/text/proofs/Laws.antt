@@ -9,7 +9,8 @@ use mathlib.Core.List.{List, [], _∷_}
 use lib.Dec.{ltb, eqb}
 use lib.ListN.{length, getD, set}
 use lib.Seq.{sets}
-use borrow.Author.Tests.{lt-ltb, le-ltb, ltb-true, ltb-false, eqb-true}
+use borrow.Author.Tests.{lt-ltb, le-ltb, ltb-true, ltb-false, eqb-true, eq-eqb, ne-eqb}
+use Rattle.numbers.specs.Tests.{cond-self}
 use Rattle.numbers.specs.Search.Laws.{contra}
 use Rattle.text.specs.declared.Reading.{Reading}
 use Rattle.text.specs.declared.Reading.the-variants.{Value, Wrong}
@@ -60,10 +61,36 @@ figures-five m h l =
     let g : m / 10 / 1000 ≡ m / 10000 = omega arith in
     rw (figures-more m (omega arith), figures-four (m / 10) (omega arith) (omega arith), e, f, g)
 
--- both forms, by the count of figures and the sign
+-- from one to five characters, with a minus before them or none
+one-justified : (n : Bool) (a : ℕ) → rightJustified 6 (signed n (a ∷ [])) ≡ six (cond n 32 32) (cond n 32 32) (cond n 32 32) (cond n 32 32) (cond n 45 32) a
+unfolding rightJustified
+one-justified true a = refl
+one-justified false a = refl
+
+two-justified : (n : Bool) (a b : ℕ) → rightJustified 6 (signed n (a ∷ b ∷ [])) ≡ six (cond n 32 32) (cond n 32 32) (cond n 32 32) (cond n 45 32) a b
+unfolding rightJustified
+two-justified true a b = refl
+two-justified false a b = refl
+
+three-justified : (n : Bool) (a b c : ℕ) → rightJustified 6 (signed n (a ∷ b ∷ c ∷ [])) ≡ six (cond n 32 32) (cond n 32 32) (cond n 45 32) a b c
+unfolding rightJustified
+three-justified true a b c = refl
+three-justified false a b c = refl
+
+four-justified : (n : Bool) (a b c d : ℕ) → rightJustified 6 (signed n (a ∷ b ∷ c ∷ d ∷ [])) ≡ six (cond n 32 32) (cond n 45 32) a b c d
+unfolding rightJustified
+four-justified true a b c d = refl
+four-justified false a b c d = refl
+
+five-justified : (n : Bool) (a b c d e : ℕ) → rightJustified 6 (signed n (a ∷ b ∷ c ∷ d ∷ e ∷ [])) ≡ six (cond n 45 32) a b c d e
+unfolding rightJustified
+five-justified true a b c d e = refl
+five-justified false a b c d e = refl
+
+-- both forms, by the count of figures
 columns-are : (n : Bool) (m : ℕ) → m < 100000 → rightJustified 6 (signed n (figures m)) ≡ columns n m
-unfolding rightJustified columns letterOf
-columns-are n m h = go n (decLt m 10) (decLt m 100) (decLt m 1000) (decLt m 10000)
+unfolding columns letterOf
+columns-are n m h = go (decLt m 10) (decLt m 100) (decLt m 1000) (decLt m 10000)
   where
     ends : (p : ℕ) → m < p → m / p ≡ 0
     ends p l = div-eq-of-lt l
@@ -71,17 +98,12 @@ columns-are n m h = go n (decLt m 10) (decLt m 100) (decLt m 1000) (decLt m 1000
     reaches : (p : ℕ) → 0 < m / p → ltb 0 (m / p) ≡ true
     reaches p l = lt-ltb 0 (m / p) l
 
-    go : (n : Bool) → Dec (m < 10) → Dec (m < 100) → Dec (m < 1000) → Dec (m < 10000) → rightJustified 6 (signed n (figures m)) ≡ columns n m
-    go true (yes i) j k l = rw (figures-one m i, ends 10 (omega arith), ends 100 (omega arith), ends 1000 (omega arith), ends 10000 (omega arith), ends 100000 (omega arith))
-    go true (no i) (yes j) k l = rw (figures-two m (omega arith) j, reaches 10 (omega arith), ends 100 (omega arith), ends 1000 (omega arith), ends 10000 (omega arith), ends 100000 (omega arith))
-    go true (no i) (no j) (yes k) l = rw (figures-three m (omega arith) k, reaches 10 (omega arith), reaches 100 (omega arith), ends 1000 (omega arith), ends 10000 (omega arith), ends 100000 (omega arith))
-    go true (no i) (no j) (no k) (yes l) = rw (figures-four m (omega arith) l, reaches 10 (omega arith), reaches 100 (omega arith), reaches 1000 (omega arith), ends 10000 (omega arith), ends 100000 (omega arith))
-    go true (no i) (no j) (no k) (no l) = rw (figures-five m (omega arith) h, reaches 10 (omega arith), reaches 100 (omega arith), reaches 1000 (omega arith), reaches 10000 (omega arith), ends 100000 (omega arith))
-    go false (yes i) j k l = rw (figures-one m i, ends 10 (omega arith), ends 100 (omega arith), ends 1000 (omega arith), ends 10000 (omega arith), ends 100000 (omega arith))
-    go false (no i) (yes j) k l = rw (figures-two m (omega arith) j, reaches 10 (omega arith), ends 100 (omega arith), ends 1000 (omega arith), ends 10000 (omega arith), ends 100000 (omega arith))
-    go false (no i) (no j) (yes k) l = rw (figures-three m (omega arith) k, reaches 10 (omega arith), reaches 100 (omega arith), ends 1000 (omega arith), ends 10000 (omega arith), ends 100000 (omega arith))
-    go false (no i) (no j) (no k) (yes l) = rw (figures-four m (omega arith) l, reaches 10 (omega arith), reaches 100 (omega arith), reaches 1000 (omega arith), ends 10000 (omega arith), ends 100000 (omega arith))
-    go false (no i) (no j) (no k) (no l) = rw (figures-five m (omega arith) h, reaches 10 (omega arith), reaches 100 (omega arith), reaches 1000 (omega arith), reaches 10000 (omega arith), ends 100000 (omega arith))
+    go : Dec (m < 10) → Dec (m < 100) → Dec (m < 1000) → Dec (m < 10000) → rightJustified 6 (signed n (figures m)) ≡ columns n m
+    go (yes i) j k l = rw (figures-one m i, ends 10 (omega arith), ends 100 (omega arith), ends 1000 (omega arith), ends 10000 (omega arith), ends 100000 (omega arith)) (one-justified n _)
+    go (no i) (yes j) k l = rw (figures-two m (omega arith) j, reaches 10 (omega arith), ends 100 (omega arith), ends 1000 (omega arith), ends 10000 (omega arith), ends 100000 (omega arith)) (two-justified n _ _)
+    go (no i) (no j) (yes k) l = rw (figures-three m (omega arith) k, reaches 10 (omega arith), reaches 100 (omega arith), ends 1000 (omega arith), ends 10000 (omega arith), ends 100000 (omega arith)) (three-justified n _ _ _)
+    go (no i) (no j) (no k) (yes l) = rw (figures-four m (omega arith) l, reaches 10 (omega arith), reaches 100 (omega arith), reaches 1000 (omega arith), ends 10000 (omega arith), ends 100000 (omega arith)) (four-justified n _ _ _ _)
+    go (no i) (no j) (no k) (no l) = rw (figures-five m (omega arith) h, reaches 10 (omega arith), reaches 100 (omega arith), reaches 1000 (omega arith), reaches 10000 (omega arith), ends 100000 (omega arith)) (five-justified n _ _ _ _ _)
 
 text-neg : (v : ℕ) → 32767 < v → text v ≡ columns true (65536 - v)
 unfolding text numeral
@@ -90,6 +112,61 @@ text-neg v h = rw (lt-ltb 32767 v h) (columns-are true (65536 - v) (omega arith)
 text-pos : (v : ℕ) → v ≤ 32767 → text v ≡ columns false v
 unfolding text numeral
 text-pos v h = rw (le-ltb 32767 v h) (columns-are false v (omega arith))
+
+-- ---- the tests of columns
+
+-- a minus at this column, further on, or at the last one
+module _ (c : ℕ) where
+  pub minus-here : (s : List ℕ) → c ≡ 45 → true ≡ hasMinus (c ∷ s)
+  unfolding hasMinus
+  minus-here s e = rw e
+
+  pub minus-past : (s : List ℕ) (r : Bool) → (c ≡ 45 → ⊥) → r ≡ hasMinus s → r ≡ hasMinus (c ∷ s)
+  unfolding hasMinus
+  minus-past s r h e = rw (ne-eqb c 45 h) e
+
+  pub minus-last : eqb c 45 ≡ hasMinus (c ∷ [])
+  unfolding hasMinus
+  minus-last = cond-self (eqb c 45)
+
+-- the columns before the last, from the right
+module _ (a b c d e : ℕ) where
+  pub fifth-filled : (e ≡ 32 → ⊥) → false ≡ blankOf a b c d e
+  unfolding blankOf
+  fifth-filled h = rw (ne-eqb e 32 h)
+
+  module _ (p : e ≡ 32) where
+    pub fourth-filled : (d ≡ 32 → ⊥) → false ≡ blankOf a b c d e
+    unfolding blankOf
+    fourth-filled h = rw (p, ne-eqb d 32 h)
+
+    module _ (q : d ≡ 32) where
+      pub third-filled : (c ≡ 32 → ⊥) → false ≡ blankOf a b c d e
+      unfolding blankOf
+      third-filled h = rw (p, q, ne-eqb c 32 h)
+
+      module _ (r : c ≡ 32) where
+        pub second-filled : (b ≡ 32 → ⊥) → false ≡ blankOf a b c d e
+        unfolding blankOf
+        second-filled h = rw (p, q, r, ne-eqb b 32 h)
+
+        pub all-blank : b ≡ 32 → eqb a 32 ≡ blankOf a b c d e
+        unfolding blankOf
+        all-blank h = rw (p, q, r, h)
+
+-- a column x is compared with the letter v that a call answered for it
+module _ (x y v : ℕ) (xs ys : List ℕ) (e : v ≡ y) where
+  pub column-differs : (x ≡ v → ⊥) → false ≡ same (x ∷ xs) (y ∷ ys)
+  unfolding same
+  column-differs h = rw (ne-eqb x y (λ q. h (q ∙ sym e)))
+
+  pub column-agrees : (r : Bool) → x ≡ v → r ≡ same xs ys → r ≡ same (x ∷ xs) (y ∷ ys)
+  unfolding same
+  column-agrees r h f = rw (eq-eqb x y (h ∙ e)) f
+
+pub last-column : (x y : ℕ) → eqb x y ≡ same (x ∷ []) (y ∷ [])
+unfolding same
+last-column x y = cond-self (eqb x y)
 
 -- ---- what the reader answers
 

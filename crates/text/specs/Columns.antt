@@ -8,7 +8,7 @@ use lib.Dec.{ltb, eqb}
 abbrev pub six : ℕ → ℕ → ℕ → ℕ → ℕ → ℕ → List ℕ
 six a b c d e f = a ∷ b ∷ c ∷ d ∷ e ∷ f ∷ []
 
--- a column: `here` is the size without the figures to the right of this column, and `right` the same for the column to its right.
+-- a column: `here` is the size without the figures to the right of this column, and `right` the size without those to the right of the next column.
 -- A figure where the size reaches the column, the minus just before the first figure, else a blank
 unfoldable pub letterOf : Bool → ℕ → ℕ → ℕ
 letterOf n here right = cond (ltb 0 here) (48 + here % 10) (cond n (cond (ltb 0 right) 45 32) 32)

@@ -80,7 +80,7 @@ fn letter(negative: bool, here: u32, right: u32) -> u8
     32
 }
 
-// Whether six columns are those of a number.
+// Whether six columns print a number of this sign and size.
 fn prints(a: u8, b: u8, c: u8, d: u8, e: u8, f: u8, negative: bool, size: u32) -> bool
     ensures { λ r. ⌜ r ≡ same (six a b c d e f) (columns negative size) ⌝ }
 {
