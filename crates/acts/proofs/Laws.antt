@@ -4,6 +4,7 @@ use mathlib.Core.Path.{_≡_, _∙_}
 use mathlib.Core.List.{List, _∷_}
 use lib.ListN.{set}
 use Rattle.numbers.specs.Rows.{at}
+use Rattle.table.specs.Fields as Field
 use Rattle.table.specs.Table.{Table}
 use Rattle.state.specs.State.{State, stateOf, thread, channel, standsAt, slotsOf, withMark, withThread, withChannel}
 use Rattle.rules.specs.Program.{branchAt, nextOf, childOf}
@@ -41,7 +42,7 @@ module _ (b : List ℕ) (t n k v : ℕ) (s₁ : State) (e : s₁ ≡ withThread 
     assignment-stores a f = rw f (stored-after b t (resumed (thread (stateOf b) t) n) s₁ s₂ k v g e h)
 
     -- a new channel v in slot k
-    pub holder-goes : (tb : Table) (i m r : ℕ) → k ≡ at tb r 5 → n ≡ nextOf tb m r → r ≡ branchAt tb m i → m ≡ standsAt (thread (stateOf b) t)
+    pub holder-goes : (tb : Table) (i m r : ℕ) → k ≡ at tb r Field.a → n ≡ nextOf tb m r → r ≡ branchAt tb m i → m ≡ standsAt (thread (stateOf b) t)
         → s₂ ≡ withThread (stateOf b) t (createdBy tb (thread (stateOf b) t) i v)
     unfolding createdBy
     holder-goes tb i m r p q x y =

@@ -3,19 +3,16 @@ ghost use mathlib.Core.Path.{_≡_};
 ghost use Prim.Native.Nat.{_<_};
 ghost use Rattle.table.specs.Table.{tableOf};
 ghost use Rattle.table.specs.Index.{Indexed};
-ghost use Rattle.state.specs.State.{stateOf, thread};
+ghost use Rattle.state.specs.State.{maxThreads, maxChannels, stateOf, thread};
 ghost use Rattle.rules.specs.Moves.{gone, createdBy, typeBy, spawnedBy, written};
 ghost use Rattle.rules.specs.declared.Move.the-variants.{Goes, Creates, Spawns};
 ghost use Rattle.thread_rows.specs.WrittenRows.{rewritten};
 use rules::Act;
-
-const MAX_THREADS: u32 = 64;
-
-const MAX_CHANNELS: u32 = 128;
+use table::field;
 
 // Thread t goes on after an act of its own: an assignment stores v in its slot.
 fn go_alone(state: &mut [u32; state::WORDS], t: u32, act: Act, node: u32, slot: u32, v: u32)
-    requires { ⌜ t < 64 ⌝ }
+    requires { ⌜ t < maxThreads ⌝ }
     ensures { λ _. ⌜ stateOf (now (state .exit)) ≡ rewritten (stateOf (now (state .entry))) t (λ row. gone act row node slot v) ⌝ }
 {
     thread_rows::resume(state, t, node);
@@ -31,13 +28,13 @@ fn go_alone(state: &mut [u32; state::WORDS], t: u32, act: Act, node: u32, slot: 
 // Thread t goes on after its branch i, a tau or an assignment.
 pub fn write_gone(table: &[u8], index: &[u32], state: &mut [u32; state::WORDS], t: u32, i: u32)
     requires { ⌜ Indexed (tableOf (now table)) (now index) ⌝ }
-    requires { ⌜ t < 64 ⌝ }
+    requires { ⌜ t < maxThreads ⌝ }
     ensures { λ _. ⌜ stateOf (now (state .exit)) ≡ written (tableOf (now (table .entry))) (stateOf (now (state .entry))) t (Goes i) ⌝ }
 {
     let node = thread_rows::stands_at(state, t);
     let row = program::branch_at(table, index, node, i);
     let next = program::next_of(table, index, node, row);
-    let slot = table::cell_of(table, index, row, 5);
+    let slot = table::cell_of(table, index, row, field::A);
     let v = program::assigned_value(table, index, row, state, t);
     go_alone(state, t, program::act_of(table, index, row), next, slot, v);
 }
@@ -52,13 +49,13 @@ fn write_holder(
     c: u32,
 )
     requires { ⌜ Indexed (tableOf (now table)) (now index) ⌝ }
-    requires { ⌜ t < 64 ⌝ }
+    requires { ⌜ t < maxThreads ⌝ }
     ensures { λ _. ⌜ stateOf (now (state .exit)) ≡ rewritten (stateOf (now (state .entry))) t (λ row. createdBy (tableOf (now (table .entry))) row i c) ⌝ }
 {
     let node = thread_rows::stands_at(state, t);
     let row = program::branch_at(table, index, node, i);
     let next = program::next_of(table, index, node, row);
-    let slot = table::cell_of(table, index, row, 5);
+    let slot = table::cell_of(table, index, row, field::A);
     thread_rows::resume(state, t, next);
     thread_rows::store(state, t, slot, c);
 }
@@ -73,7 +70,12 @@ fn type_by(table: &[u8], index: &[u32], state: &[u32; state::WORDS], t: u32, i: 
         table,
         index,
         node,
-        table::cell_of(table, index, program::branch_at(table, index, node, i), 5),
+        table::cell_of(
+            table,
+            index,
+            program::branch_at(table, index, node, i),
+            field::A,
+        ),
     )
 }
 
@@ -87,21 +89,25 @@ pub fn write_creation(
     c: u32,
 )
     requires { ⌜ Indexed (tableOf (now table)) (now index) ⌝ }
-    requires { ⌜ t < 64 ⌝ }
-    requires { ⌜ c < 128 ⌝ }
+    requires { ⌜ t < maxThreads ⌝ }
+    requires { ⌜ c < maxChannels ⌝ }
     ensures { λ _. ⌜ stateOf (now (state .exit)) ≡ written (tableOf (now (table .entry))) (stateOf (now (state .entry))) t (Creates i c) ⌝ }
 {
     let kind = type_by(table, index, state, t, i);
     write_holder(table, index, state, t, i, c);
-    state::put_channel(state, c as usize, 0, kind);
-    state::put_mark(state, 1, next_rows::one_up(MAX_CHANNELS, c));
+    state::put_channel(state, c as usize, state::TYPE, kind);
+    state::put_mark(
+        state,
+        state::CHANNEL_MARK,
+        next_rows::one_up(state::CHANNELS, c),
+    );
 }
 
 // The rows of thread t, which makes the child u by its branch i, and of the child: both go on with the slots of t.
 fn write_child(table: &[u8], index: &[u32], state: &mut [u32; state::WORDS], t: u32, i: u32, u: u32)
     requires { ⌜ Indexed (tableOf (now table)) (now index) ⌝ }
-    requires { ⌜ t < 64 ⌝ }
-    requires { ⌜ u < 64 ⌝ }
+    requires { ⌜ t < maxThreads ⌝ }
+    requires { ⌜ u < maxThreads ⌝ }
     ensures { λ _. ⌜ stateOf (now (state .exit)) ≡ spawnedBy (tableOf (now (table .entry))) (stateOf (now (state .entry))) t i u ⌝ }
 {
     let mut slots = [0u32; thread_rows::SLOTS];
@@ -128,10 +134,14 @@ pub fn write_spawn(
     u: u32,
 )
     requires { ⌜ Indexed (tableOf (now table)) (now index) ⌝ }
-    requires { ⌜ t < 64 ⌝ }
-    requires { ⌜ u < 64 ⌝ }
+    requires { ⌜ t < maxThreads ⌝ }
+    requires { ⌜ u < maxThreads ⌝ }
     ensures { λ _. ⌜ stateOf (now (state .exit)) ≡ written (tableOf (now (table .entry))) (stateOf (now (state .entry))) t (Spawns i u) ⌝ }
 {
     write_child(table, index, state, t, i, u);
-    state::put_mark(state, 0, next_rows::one_up(MAX_THREADS, u));
+    state::put_mark(
+        state,
+        state::THREAD_MARK,
+        next_rows::one_up(state::THREADS, u),
+    );
 }

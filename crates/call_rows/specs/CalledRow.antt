@@ -7,6 +7,7 @@ use mathlib.Core.List.{List}
 use lib.Dec.{ltb, leb, eqb}
 use Rattle.numbers.specs.Rows.{at}
 use Rattle.numbers.specs.Search.{every, tabulate}
+use Rattle.table.specs.Fields as Field
 use Rattle.table.specs.Table.{Table, parameters}
 use Rattle.table.specs.Layout.{start, definitionOf}
 use Rattle.table.specs.declared.Part.the-variants.{Nodes}
@@ -21,11 +22,11 @@ module _ (tb : Table) where
   -- slot k, where the call stands in row r of the table and the types of the slots from a row on
   unfoldable pub callBy : ℕ → ℕ → ℕ → ℕ → List ℕ → ℕ → ℕ
   callBy r from p n row k =
-      cond (ltb k p) (slotOf row (at tb r (3 + k))) (cond (ltb k n) (cond (eqb (at tb (from + k) 1) 0) 0 minusOne) 0)
+      cond (ltb k p) (slotOf row (at tb r (Field.arguments + k))) (cond (ltb k n) (cond (eqb (at tb (from + k) Field.type) 0) 0 minusOne) 0)
 
   -- slot k, which gets v by the call, gets what it has, if it is a channel slot
   unfoldable pub keptAt : ℕ → ℕ → List ℕ → ℕ → ℕ → Bool
-  keptAt from n row k v = cond (ltb k n) (cond (eqb (at tb (from + k) 1) 0) true (eqb v (slotOf row k))) true
+  keptAt from n row k v = cond (ltb k n) (cond (eqb (at tb (from + k) Field.type) 0) true (eqb v (slotOf row k))) true
 
   -- slot k gets what it has by the call in row r, if it is a channel slot
   unfoldable pub keptBy : ℕ → ℕ → ℕ → ℕ → List ℕ → ℕ → Bool

@@ -6,27 +6,24 @@ ghost use lib.ListN.{replicate};
 ghost use Rattle.numbers.specs.Search.{every, tabulate};
 ghost use Rattle.table.specs.Table.{tableOf};
 ghost use Rattle.table.specs.Index.{Indexed};
-ghost use Rattle.state.specs.State.{stateOf, thread, standsAt, rowSlots};
+ghost use Rattle.state.specs.State.{maxThreads, stateOf, thread, standsAt, rowSlots};
 ghost use Rattle.rules.specs.Program.{callee};
 ghost use Rattle.rules.specs.Moves.{written};
 ghost use Rattle.rules.specs.declared.Move.the-variants.{Calls};
 ghost use Rattle.call_rows.specs.CalledRow.{lastSlot, callBy, keptAt, keptBy, callAt, slotKept, callSlots, callKeeps};
 use table::Part;
-
-const ROW_SLOTS: u32 = 16;
-
-const MINUS_ONE: u32 = 4294967295;
+use table::field;
 
 // From which slot on all are 0 as a definition with p parameters among n slots is entered.
 fn last_slot(p: u32, n: u32) -> u32
     ensures { λ r. ⌜ r ≡ lastSlot p n ⌝ }
 {
     if p <= n {
-        if n < ROW_SLOTS {
+        if n < state::SLOTS {
             return n;
         }
     }
-    ROW_SLOTS
+    state::SLOTS
 }
 
 // Slot k as the call in a row enters a definition with p parameters among n slots, whose types stand from a row on.
@@ -46,13 +43,14 @@ fn call_slot(
     ensures { λ r. ⌜ r ≡ callBy (tableOf (now (table .entry))) row from p n (thread (stateOf (now (state .entry))) t) k ⌝ }
 {
     if k < p {
-        return program::slot(state, t, table::cell_of(table, index, row, 3 + k as usize));
+        let argument = table::cell_of(table, index, row, field::ARGUMENTS + k as usize);
+        return program::slot(state, t, argument);
     }
     if k < n {
-        if table::cell_of(table, index, from + k as usize, 1) == 0 {
+        if table::cell_of(table, index, from + k as usize, field::TYPE) == 0 {
             return 0;
         }
-        return MINUS_ONE;
+        return state::MINUS_ONE;
     }
     0
 }
@@ -73,7 +71,7 @@ fn slot_keeps(
     ensures { λ r. ⌜ r ≡ keptAt (tableOf (now (table .entry))) from n (thread (stateOf (now (state .entry))) t) k v ⌝ }
 {
     if k < n {
-        if table::cell_of(table, index, from + k as usize, 1) == 0 {
+        if table::cell_of(table, index, from + k as usize, field::TYPE) == 0 {
             return true;
         }
         return v == program::slot(state, t, k);
@@ -147,7 +145,7 @@ fn called_by(table: &[u8], index: &[u32], state: &[u32; state::WORDS], t: u32) -
     ensures { λ r. ⌜ r ≡ callee (tableOf (now (table .entry))) (standsAt (thread (stateOf (now (state .entry))) t)) ⌝ }
 {
     let row = table::node_row_of(table, index) + thread_rows::stands_at(state, t) as usize;
-    table::cell_of(table, index, row, 2)
+    table::cell_of(table, index, row, field::CALLEE)
 }
 
 // All slots with which thread t makes the call at its node are laid down, before any is written. Answers whether the call is to the thread's own definition and
@@ -184,7 +182,7 @@ pub fn enter_call(
     slots: &[u32; thread_rows::SLOTS],
 )
     requires { ⌜ Indexed (tableOf (now table)) (now index) ⌝ }
-    requires { ⌜ t < 64 ⌝ }
+    requires { ⌜ t < maxThreads ⌝ }
     requires { ⌜ now slots ≡ callSlots (tableOf (now table)) (thread (stateOf (now state)) t) ⌝ }
     ensures { λ _. ⌜ stateOf (now (state .exit)) ≡ written (tableOf (now (table .entry))) (stateOf (now (state .entry))) t Calls ⌝ }
 {

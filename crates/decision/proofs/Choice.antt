@@ -7,6 +7,7 @@ use borrow.Author.Tests.{ne-eqb, lt-ltb, le-ltb}
 use Rattle.numbers.specs.Rows.{at}
 use Rattle.numbers.specs.Search.{first}
 use Rattle.numbers.specs.Search.Laws.{first-more, first-hit}
+use Rattle.table.specs.Fields as Field
 use Rattle.table.specs.Table.{Table, nodeRow, branchRow}
 use Rattle.table.specs.Layout.{branchCount, start}
 use Rattle.table.specs.declared.Part.the-variants.{Branches}
@@ -70,7 +71,7 @@ module _ (tb : Table) (s : State) (t i r : ℕ) (a : Act) (e : a ≡ actOf tb r)
   spawn-spawns m f g = rw (← e, f) g
 
   pub meeting-meets : (m : Move) (d : Direction) (c k : ℕ) → a ≡ Meeting d → r ≡ branchAt tb (at (s .threads) t 1) i
-      → m ≡ meeting i (partnerOf tb s t (opposite d) c) → c ≡ slotOf (thread s t) k → k ≡ at tb r 5 → m ≡ actMove tb s t i (actOf tb r)
+      → m ≡ meeting i (partnerOf tb s t (opposite d) c) → c ≡ slotOf (thread s t) k → k ≡ at tb r Field.a → m ≡ actMove tb s t i (actOf tb r)
   unfolding actMove
   meeting-meets m d c k f h g j l = rw (← e, f, ← h, ← l, ← j) g
 
@@ -124,8 +125,8 @@ module _ (tb : Table) (s : State) (t i : ℕ) where
 pub from-read : (tb : Table) (s : State) (t r n : ℕ) → r ≡ branchRow tb + start tb Branches n → n ≡ at (s .threads) t 1 → r ≡ branchRow tb + start tb Branches (at (s .threads) t 1)
 from-read tb s t r n e f = rw (← f) e
 
-module _ (tb : Table) (s : State) (t k n b : ℕ) (e : k ≡ at tb (b + n) 1) (f : b ≡ nodeRow tb) (g : n ≡ at (s .threads) t 1) where
-  pub count-read : (x : ℕ) → k ≡ 1 → x ≡ at tb (b + n) 2 → x ≡ branchCount tb (at (s .threads) t 1)
+module _ (tb : Table) (s : State) (t k n b : ℕ) (e : k ≡ at tb (b + n) Field.nodeKind) (f : b ≡ nodeRow tb) (g : n ≡ at (s .threads) t 1) where
+  pub count-read : (x : ℕ) → k ≡ 1 → x ≡ at tb (b + n) Field.ownBranches → x ≡ branchCount tb (at (s .threads) t 1)
   unfolding branchCount
   count-read x h i = rw (← g, ← f, ← e, h) i
 

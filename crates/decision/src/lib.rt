@@ -15,10 +15,7 @@ use rules::Act;
 use rules::Direction;
 use rules::Move;
 use rules::Partner;
-
-const THREADS: u32 = 64;
-
-const CHANNELS: u32 = 128;
+use table::field;
 
 // The move of thread t by branch i, a meeting of direction d on channel c.
 fn meeting_move(
@@ -48,7 +45,7 @@ fn creation_move(state: &[u32; state::WORDS], i: u32) -> Move
     ensures { λ r. ⌜ r ≡ creation i (freeChannel (stateOf (now (state .entry)))) ⌝ }
 {
     let made = next_rows::free_channel(state);
-    if made < CHANNELS {
+    if made < state::CHANNELS {
         return Move::Creates(i, made);
     }
     Move::LacksChannel
@@ -59,7 +56,7 @@ fn spawning_move(state: &[u32; state::WORDS], i: u32) -> Move
     ensures { λ r. ⌜ r ≡ spawning i (freeThread (stateOf (now (state .entry)))) ⌝ }
 {
     let child = next_rows::free_thread(state);
-    if child < THREADS {
+    if child < state::THREADS {
         return Move::Spawns(i, child);
     }
     Move::LacksThread
@@ -84,7 +81,7 @@ fn act_move(
     match program::act_of(table, index, row) {
         Act::Tau => Move::Goes(i),
         Act::Meeting(d) => {
-            let c = program::slot(state, t, table::cell_of(table, index, row, 5));
+            let c = program::slot(state, t, table::cell_of(table, index, row, field::A));
             meeting_move(table, index, state, t, i, d, c, top)
         }
         Act::New => creation_move(state, i),
@@ -166,10 +163,10 @@ pub fn decide(table: &[u8], index: &[u32], state: &[u32; state::WORDS], t: u32, 
     requires { ⌜ Apart (tableOf (now table)) (stateOf (now state) .threads) ⌝ }
     ensures { λ r. ⌜ r ≡ move (tableOf (now (table .entry))) (stateOf (now (state .entry))) t ⌝ }
 {
-    let node = state::thread_word(state, t as usize, 1);
+    let node = state::thread_word(state, t as usize, state::NODE);
     let nodes = table::node_row_of(table, index);
     let row = nodes + node as usize;
-    match table::cell_of(table, index, row, 1) {
+    match table::cell_of(table, index, row, field::NODE_KIND) {
         1 => {
             let from = offers::first_branch(table, index, nodes, node);
             choose(
@@ -177,7 +174,7 @@ pub fn decide(table: &[u8], index: &[u32], state: &[u32; state::WORDS], t: u32, 
                 index,
                 state,
                 t,
-                table::cell_of(table, index, row, 2),
+                table::cell_of(table, index, row, field::OWN_BRANCHES),
                 from,
                 top,
             )

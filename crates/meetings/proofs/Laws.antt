@@ -5,8 +5,9 @@ use mathlib.Core.Logic.{_≢_}
 use mathlib.Core.List.{List}
 use lib.Seq.{set-comm}
 use Rattle.numbers.specs.Rows.{at}
+use Rattle.table.specs.Fields as Field
 use Rattle.table.specs.Table.{Table}
-use Rattle.state.specs.State.{State, stateOf, thread, standsAt, slotOf, withThread}
+use Rattle.state.specs.State.{State, stateOf, thread, standsAt, slotOf, withThread, withThreads}
 use Rattle.state.specs.State.Laws.{thread-other}
 use Rattle.rules.specs.Program.{branchAt, nextOf, actOf, opposite}
 use Rattle.rules.specs.Moves.{resumed, stored, met, sideOf, rowOf, metBy, valueBy, written}
@@ -46,7 +47,7 @@ both-go tb s s₁ s₂ t i u j x y e f g h n =
 -- ---- two rows: thread t sends, and thread u receives
 
 pub passed-on : (tb : Table) (s s₁ s₂ : State) (t a u b n m k v x y z : ℕ) → s₂ ≡ withThread s₁ u (met In (thread s₁ u) m k v) → s₁ ≡ withThread s t (resumed (thread s t) n)
-    → u ≢ t → n ≡ nextOf tb y a → y ≡ standsAt (thread s t) → m ≡ nextOf tb z b → z ≡ standsAt (thread s u) → k ≡ at tb b 6 → x ≡ at tb a 6 → v ≡ slotOf (thread s t) x
+    → u ≢ t → n ≡ nextOf tb y a → y ≡ standsAt (thread s t) → m ≡ nextOf tb z b → z ≡ standsAt (thread s u) → k ≡ at tb b Field.b → x ≡ at tb a Field.b → v ≡ slotOf (thread s t) x
     → s₂ ≡ passed tb s t a u b
 unfolding passed
 passed-on tb s s₁ s₂ t a u b n m k v x y z e f o p i q j g h l =
@@ -55,7 +56,7 @@ passed-on tb s s₁ s₂ t a u b n m k v x y z e f o p i q j g h l =
 
 swapped : (s : State) (t u : ℕ) (x y : List ℕ) → u ≢ t → withThread (withThread s u x) t y ≡ withThread (withThread s t y) u x
 unfolding withThread
-swapped s t u x y n = ap {B = State} (λ (l : List (List ℕ)). record { marks = s .marks; threads = l; channels = s .channels }) (set-comm (s .threads) u t x y n)
+swapped s t u x y n = ap (λ (l : List (List ℕ)). withThreads s l) (set-comm (s .threads) u t x y n)
 
 pub turned-about : (t u : ℕ) → u ≢ t → t ≢ u
 turned-about t u n e = n (sym e)

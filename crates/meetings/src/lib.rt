@@ -4,13 +4,14 @@ ghost use mathlib.Core.Logic.{_≢_};
 ghost use Prim.Native.Nat.{_<_};
 ghost use Rattle.table.specs.Table.{tableOf};
 ghost use Rattle.table.specs.Index.{Indexed};
-ghost use Rattle.state.specs.State.{stateOf, thread};
+ghost use Rattle.state.specs.State.{maxThreads, stateOf, thread};
 ghost use Rattle.rules.specs.Moves.{met, metBy, valueBy, sideOf, written};
 ghost use Rattle.rules.specs.declared.Move.the-variants.{Meets};
 ghost use Rattle.thread_rows.specs.WrittenRows.{rewritten};
 ghost use Rattle.meetings.specs.Sides.{Facing, passed};
 use rules::Act;
 use rules::Direction;
+use table::field;
 
 // The direction of an act.
 fn side_of(act: Act) -> Direction
@@ -31,12 +32,12 @@ pub fn value_by(table: &[u8], index: &[u32], state: &[u32; state::WORDS], t: u32
     ensures { λ r. ⌜ r ≡ valueBy (tableOf (now (table .entry))) (thread (stateOf (now (state .entry))) t) i ⌝ }
 {
     let row = program::branch_at(table, index, thread_rows::stands_at(state, t), i);
-    program::slot(state, t, table::cell_of(table, index, row, 6))
+    program::slot(state, t, table::cell_of(table, index, row, field::B))
 }
 
 // Thread t goes on at a node after a meeting: a receiver has v in its slot.
 fn go_on(state: &mut [u32; state::WORDS], t: u32, d: Direction, node: u32, slot: u32, v: u32)
-    requires { ⌜ t < 64 ⌝ }
+    requires { ⌜ t < maxThreads ⌝ }
     ensures { λ _. ⌜ stateOf (now (state .exit)) ≡ rewritten (stateOf (now (state .entry))) t (λ row. met d row node slot v) ⌝ }
 {
     thread_rows::resume(state, t, node);
@@ -56,13 +57,13 @@ pub fn write_met(
     v: u32,
 )
     requires { ⌜ Indexed (tableOf (now table)) (now index) ⌝ }
-    requires { ⌜ t < 64 ⌝ }
+    requires { ⌜ t < maxThreads ⌝ }
     ensures { λ _. ⌜ stateOf (now (state .exit)) ≡ rewritten (stateOf (now (state .entry))) t (λ row. metBy (tableOf (now (table .entry))) row i v) ⌝ }
 {
     let node = thread_rows::stands_at(state, t);
     let row = program::branch_at(table, index, node, i);
     let next = program::next_of(table, index, node, row);
-    let slot = table::cell_of(table, index, row, 6);
+    let slot = table::cell_of(table, index, row, field::B);
     let act = program::act_of(table, index, row);
     go_on(state, t, side_of(act), next, slot, v);
 }
@@ -78,8 +79,8 @@ pub fn write_meeting(
     j: u32,
 )
     requires { ⌜ Indexed (tableOf (now table)) (now index) ⌝ }
-    requires { ⌜ t < 64 ⌝ }
-    requires { ⌜ u < 64 ⌝ }
+    requires { ⌜ t < maxThreads ⌝ }
+    requires { ⌜ u < maxThreads ⌝ }
     requires { ⌜ u ≢ t ⌝ }
     ensures { λ _. ⌜ stateOf (now (state .exit)) ≡ written (tableOf (now (table .entry))) (stateOf (now (state .entry))) t (Meets i u j) ⌝ }
 {
@@ -100,13 +101,13 @@ fn write_passed(
     receive: usize,
 )
     requires { ⌜ Indexed (tableOf (now table)) (now index) ⌝ }
-    requires { ⌜ t < 64 ⌝ }
-    requires { ⌜ u < 64 ⌝ }
+    requires { ⌜ t < maxThreads ⌝ }
+    requires { ⌜ u < maxThreads ⌝ }
     requires { ⌜ u ≢ t ⌝ }
     ensures { λ _. ⌜ stateOf (now (state .exit)) ≡ passed (tableOf (now (table .entry))) (stateOf (now (state .entry))) t send u receive ⌝ }
 {
-    let slot = table::cell_of(table, index, receive, 6);
-    let v = program::slot(state, t, table::cell_of(table, index, send, 6));
+    let slot = table::cell_of(table, index, receive, field::B);
+    let v = program::slot(state, t, table::cell_of(table, index, send, field::B));
     let next = program::next_of(table, index, thread_rows::stands_at(state, t), send);
     let after = program::next_of(table, index, thread_rows::stands_at(state, u), receive);
     thread_rows::resume(state, t, next);
@@ -124,8 +125,8 @@ pub fn write_directed(
     j: u32,
 )
     requires { ⌜ Indexed (tableOf (now table)) (now index) ⌝ }
-    requires { ⌜ t < 64 ⌝ }
-    requires { ⌜ u < 64 ⌝ }
+    requires { ⌜ t < maxThreads ⌝ }
+    requires { ⌜ u < maxThreads ⌝ }
     requires { ⌜ u ≢ t ⌝ }
     requires { ⌜ Facing (tableOf (now table)) (stateOf (now state)) t i u j ⌝ }
     ensures { λ _. ⌜ stateOf (now (state .exit)) ≡ written (tableOf (now (table .entry))) (stateOf (now (state .entry))) t (Meets i u j) ⌝ }

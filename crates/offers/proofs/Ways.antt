@@ -8,6 +8,7 @@ use lib.Dec.{eqb}
 use borrow.Author.Tests.{eq-eqb, ne-eqb, eqb-true}
 use Rattle.numbers.specs.Rows.{at}
 use Rattle.numbers.specs.Search.Laws.{caseB}
+use Rattle.table.specs.Fields as Field
 use Rattle.table.specs.Table.{Table, nodeRow, branchRow}
 use Rattle.table.specs.Layout.{branchCount, start}
 use Rattle.table.specs.declared.Part.the-variants.{Branches}
@@ -32,9 +33,9 @@ module _ (tb : Table) (row : List ℕ) (c r : ℕ) (a : Act) (e : a ≡ actOf tb
   pub offers-nothing : (b : Act) → a ≡ b → offerOf b ≡ Nothing → Nothing ≡ offerOn tb row c r
   unfolding offerOn
   offers-nothing b f g =
-      caseB (eqb (slotOf row (at tb r 5)) c && guardHolds tb r row) (λ y. rw (y, ← e, f) (sym g)) (λ n. rw n)
+      caseB (eqb (slotOf row (at tb r Field.a)) c && guardHolds tb r row) (λ y. rw (y, ← e, f) (sym g)) (λ n. rw n)
 
-  module _ (k x : ℕ) (f : k ≡ at tb r 5) (g : x ≡ slotOf row k) where
+  module _ (k x : ℕ) (f : k ≡ at tb r Field.a) (g : x ≡ slotOf row k) where
     pub offers-elsewhere : (x ≡ c → ⊥) → Nothing ≡ offerOn tb row c r
     unfolding offerOn
     offers-elsewhere h = rw (← f, ← g, ne-eqb x c h)
@@ -58,7 +59,7 @@ module _ (d e : Direction) where
 
 -- ---- the code of a branch's act
 
-module _ (tb : Table) (r k : ℕ) (d : Direction) (e : k ≡ at tb r 4) where
+module _ (tb : Table) (r k : ℕ) (d : Direction) (e : k ≡ at tb r Field.action) where
   pub meets-out : d ≡ Out → eqb k 1 ≡ meets? (actOf tb r) d
   unfolding actOf meets? same
   meets-out f =
@@ -111,8 +112,8 @@ module _ (tb : Table) (row : List ℕ) (d : Direction) (c i node r : ℕ) (e : n
 -- ---- how many branches are tried, and from which row on
 
 -- the number of branches of node n, whose row b + n was read
-module _ (tb : Table) (b n k : ℕ) (e : k ≡ at tb (b + n) 1) (f : b ≡ nodeRow tb) where
-  pub count-choice : (r : ℕ) → k ≡ 1 → r ≡ at tb (b + n) 2 → r ≡ branchCount tb n
+module _ (tb : Table) (b n k : ℕ) (e : k ≡ at tb (b + n) Field.nodeKind) (f : b ≡ nodeRow tb) where
+  pub count-choice : (r : ℕ) → k ≡ 1 → r ≡ at tb (b + n) Field.ownBranches → r ≡ branchCount tb n
   unfolding branchCount
   count-choice r g h = rw (← f, ← e, g) h
 

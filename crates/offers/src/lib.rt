@@ -5,7 +5,7 @@ ghost use Rattle.table.specs.Table.{tableOf, nodeRow, branchRow};
 ghost use Rattle.table.specs.Layout.{branchCount, start};
 ghost use Rattle.table.specs.declared.Part.the-variants.{Branches};
 ghost use Rattle.table.specs.Index.{Indexed};
-ghost use Rattle.state.specs.State.{stateOf, thread};
+ghost use Rattle.state.specs.State.{maxThreads, stateOf, thread};
 ghost use Rattle.rules.specs.Program.{actOf, same};
 ghost use Rattle.rules.specs.Offers.{meets?, offersAt, partnerOf};
 ghost use Rattle.rules.specs.Moves.{firstFrom};
@@ -18,10 +18,7 @@ use rules::Act;
 use rules::Direction;
 use rules::Partner;
 use table::Part;
-
-const THREADS: u32 = 64;
-
-const CHANNELS: u32 = 128;
+use table::field;
 
 // What a branch offers on one channel: nothing, to send or to receive.
 pub enum Offer {
@@ -44,7 +41,7 @@ pub fn offer_on(
 {
     match program::act_of(table, index, row) {
         Act::Meeting(d) => {
-            if program::slot(state, u, table::cell_of(table, index, row, 5)) != c {
+            if program::slot(state, u, table::cell_of(table, index, row, field::A)) != c {
                 return Offer::Nothing;
             }
             if program::guard_holds(table, index, row, state, u) {
@@ -80,7 +77,7 @@ pub fn is_meeting(table: &[u8], index: &[u32], row: usize, d: Direction) -> bool
     requires { ⌜ Indexed (tableOf (now table)) (now index) ⌝ }
     ensures { λ r. ⌜ r ≡ meets? (actOf (tableOf (now (table .entry))) row) d ⌝ }
 {
-    let code = table::cell_of(table, index, row, 4);
+    let code = table::cell_of(table, index, row, field::ACTION);
     match d {
         Direction::Out => code == 1,
         Direction::In => code == 2,
@@ -127,8 +124,8 @@ fn branches_of(table: &[u8], index: &[u32], nodes: usize, node: u32) -> u32
     ensures { λ r. ⌜ r < 65536 ⌝ }
 {
     let row = nodes + node as usize;
-    if table::cell_of(table, index, row, 1) == 1 {
-        return table::cell_of(table, index, row, 2);
+    if table::cell_of(table, index, row, field::NODE_KIND) == 1 {
+        return table::cell_of(table, index, row, field::OWN_BRANCHES);
     }
     0
 }
@@ -147,7 +144,7 @@ fn branches_tried(
     requires { ⌜ nodes ≤ 196608 ⌝ }
     ensures { λ r. ⌜ r ≡ tried (tableOf (now (table .entry))) (stateOf (now (state .entry))) t u ⌝ }
 {
-    if state::thread_word(state, u as usize, 0) != 2 {
+    if state::thread_word(state, u as usize, state::STATUS) != state::WAITING {
         return 0;
     }
     if u == t {
@@ -157,7 +154,7 @@ fn branches_tried(
         table,
         index,
         nodes,
-        state::thread_word(state, u as usize, 1),
+        state::thread_word(state, u as usize, state::NODE),
     )
 }
 
@@ -169,7 +166,7 @@ pub fn first_branch(table: &[u8], index: &[u32], nodes: usize, node: u32) -> usi
     ensures { λ r. ⌜ r ≡ branchRow (tableOf (now (table .entry))) + start (tableOf (now (table .entry))) Branches node ⌝ }
     ensures { λ r. ⌜ r ≤ 12844864 ⌝ }
 {
-    let branches = nodes + table::cell_of(table, index, 0, 4) as usize;
+    let branches = nodes + table::cell_of(table, index, 0, field::NODES) as usize;
     branches + table::start_of(table, index, Part::Branches, node) as usize
 }
 
@@ -195,7 +192,7 @@ fn first_row(
         table,
         index,
         nodes,
-        state::thread_word(state, u as usize, 1),
+        state::thread_word(state, u as usize, state::NODE),
     )
 }
 
@@ -204,10 +201,10 @@ fn at_most_all(state: &[u32; state::WORDS], top: u32) -> u32
     requires { ⌜ UsedBelow (stateOf (now state)) top ⌝ }
     ensures { λ r. ⌜ UsedBelow (stateOf (now (state .entry))) r ⌝ }
 {
-    if top < THREADS {
+    if top < state::THREADS {
         return top;
     }
-    THREADS
+    state::THREADS
 }
 
 // The first waiting thread from a number on, below a limit; the limit where there is none.
@@ -217,7 +214,7 @@ fn next_waiting(state: &[u32; state::WORDS], from: u32, limit: u32) -> u32
     ensures { λ r. ⌜ r ≤ limit ⌝ }
 {
     for u in from..limit {
-        if state::thread_word(state, u as usize, 0) == 2 {
+        if state::thread_word(state, u as usize, state::STATUS) == state::WAITING {
             return u;
         }
     }
@@ -240,7 +237,7 @@ pub fn find_partner(
     requires { ⌜ Apart (tableOf (now table)) (stateOf (now state) .threads) ⌝ }
     ensures { λ r. ⌜ r ≡ partnerOf (tableOf (now (table .entry))) (stateOf (now (state .entry))) t d c ⌝ }
 {
-    if CHANNELS <= c {
+    if state::CHANNELS <= c {
         return Partner::Nobody;
     }
     let limit = at_most_all(state, top);
@@ -282,7 +279,7 @@ fn offers_at(
     requires { ⌜ Indexed (tableOf (now table)) (now index) ⌝ }
     ensures { λ r. ⌜ r ≡ offersAt (tableOf (now (table .entry))) (thread (stateOf (now (state .entry))) u) d c i ⌝ }
 {
-    let node = state::thread_word(state, u as usize, 1);
+    let node = state::thread_word(state, u as usize, state::NODE);
     let row = program::branch_at(table, index, node, i);
     match offer_on(table, index, row, state, u, c) {
         Offer::Of(e) => is_same(e, d),
@@ -300,15 +297,15 @@ pub fn find_at_port(
     p: u32,
 ) -> Partner
     requires { ⌜ Indexed (tableOf (now table)) (now index) ⌝ }
-    ensures { λ r. ⌜ r ≡ partnerOf (tableOf (now (table .entry))) (stateOf (now (state .entry))) 64 d p ⌝ }
+    ensures { λ r. ⌜ r ≡ partnerOf (tableOf (now (table .entry))) (stateOf (now (state .entry))) maxThreads d p ⌝ }
 {
-    if CHANNELS <= p {
+    if state::CHANNELS <= p {
         return Partner::Nobody;
     }
     let nodes = table::node_row_of(table, index);
     let mut found = Partner::Nobody;
-    'threads: for u in 0..THREADS {
-        let n = branches_tried(table, index, nodes, state, THREADS, u);
+    'threads: for u in 0..state::THREADS {
+        let n = branches_tried(table, index, nodes, state, state::THREADS, u);
         for i in 0..n {
             if offers_at(table, index, state, u, d, p, i) {
                 found = Partner::At(u, i);

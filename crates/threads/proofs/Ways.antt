@@ -12,6 +12,7 @@ use Rattle.numbers.specs.Count.{bit}
 use Rattle.numbers.specs.Rows.{at}
 use Rattle.numbers.specs.Search.{some}
 use Rattle.numbers.specs.Search.Laws.{some-zero, some-still, some-intro}
+use Rattle.table.specs.Fields as Field
 use Rattle.table.specs.Table.{Table}
 use Rattle.table.specs.Layout.{branchCount}
 use Rattle.state.specs.State.{State, stateOf, thread, status, standsAt, slotOf, isWaiting, withThread}
@@ -45,7 +46,7 @@ module _ (k : List Bool) (c : ℕ) where
   marked-out h = rw (le-ltb c 128 h)
 
 -- reaches_by: c is the channel that the branch names, in slot x, and m whether it is marked
-module _ (tb : Table) (row : List ℕ) (k : List Bool) (r x c : ℕ) (e : c ≡ slotOf row x) (f : x ≡ at tb r 5) (m : Bool) (g : m ≡ isMarked k c) where
+module _ (tb : Table) (row : List ℕ) (k : List Bool) (r x c : ℕ) (e : c ≡ slotOf row x) (f : x ≡ at tb r Field.a) (m : Bool) (g : m ≡ isMarked k c) where
   pub reach-unmarked : not m ≡ true → false ≡ reachesBy tb row k r
   unfolding reachesBy
   reach-unmarked h = rw (← f, ← e, ← g, not-true m h)

@@ -6,39 +6,34 @@ ghost use Prim.Native.Nat.{_<_};
 ghost use lib.ListN.{set};
 ghost use Rattle.table.specs.Table.{tableOf, ports};
 ghost use Rattle.table.specs.Index.{Indexed};
-ghost use Rattle.state.specs.State.{stateOf, thread, status, withThread};
+ghost use Rattle.state.specs.State.{maxThreads, rowSlots, stateOf, thread, status, withThread};
 ghost use Rattle.rules.specs.Holding.{settled};
 ghost use Rattle.rules.specs.Start.{freeRow};
 ghost use Rattle.threads.specs.Threads.{offersMarked, withHeld};
 ghost use Rattle.threads.specs.Looking.{raisedTo, isMarked, reachesBy};
 use offers::Offer;
-
-const CHANNELS: u32 = 128;
-
-const NO_CHANNEL: u8 = 128;
-
-const WAITING: u32 = 2;
+use table::field;
 
 // How many ports the bench holds.
 pub fn port_count(table: &[u8], index: &[u32]) -> u32
     requires { ⌜ Indexed (tableOf (now table)) (now index) ⌝ }
     ensures { λ r. ⌜ r ≡ ports (tableOf (now (table .entry))) ⌝ }
 {
-    table::cell_of(table, index, 0, 6)
+    table::cell_of(table, index, 0, field::PORTS)
 }
 
 // The status of thread t: 0 free, 1 ready, 2 waiting.
 pub fn status_of(words: &[u32; state::WORDS], t: u32) -> u32
     ensures { λ r. ⌜ r ≡ status (thread (stateOf (now (words .entry))) t) ⌝ }
 {
-    state::thread_word(words, t as usize, 0)
+    state::thread_word(words, t as usize, state::STATUS)
 }
 
 // Whether c is a channel, and marked.
-fn is_marked(marks: &[bool; 128], c: u32) -> bool
+fn is_marked(marks: &[bool; state::CHANNELS as usize], c: u32) -> bool
     ensures { λ r. ⌜ r ≡ isMarked (now (marks .entry)) c ⌝ }
 {
-    if c < CHANNELS {
+    if c < state::CHANNELS {
         return marks[c as usize];
     }
     false
@@ -51,12 +46,12 @@ fn reaches_by(
     row: usize,
     words: &[u32; state::WORDS],
     t: u32,
-    marks: &[bool; 128],
+    marks: &[bool; state::CHANNELS as usize],
 ) -> bool
     requires { ⌜ Indexed (tableOf (now table)) (now index) ⌝ }
     ensures { λ r. ⌜ r ≡ reachesBy (tableOf (now (table .entry))) (thread (stateOf (now (words .entry))) t) (now (marks .entry)) row ⌝ }
 {
-    let c = program::slot(words, t, table::cell_of(table, index, row, 5));
+    let c = program::slot(words, t, table::cell_of(table, index, row, field::A));
     if !is_marked(marks, c) {
         return false;
     }
@@ -72,15 +67,15 @@ pub fn offers_marked(
     index: &[u32],
     words: &[u32; state::WORDS],
     t: u32,
-    marks: &[bool; 128],
+    marks: &[bool; state::CHANNELS as usize],
 ) -> bool
     requires { ⌜ Indexed (tableOf (now table)) (now index) ⌝ }
     ensures { λ r. ⌜ r ≡ offersMarked (tableOf (now (table .entry))) (thread (stateOf (now (words .entry))) t) (now (marks .entry)) ⌝ }
 {
-    if status_of(words, t) != WAITING {
+    if status_of(words, t) != state::WAITING {
         return false;
     }
-    let node = state::thread_word(words, t as usize, 1);
+    let node = state::thread_word(words, t as usize, state::NODE);
     let n = table::branch_count_of(table, index, node);
     for i in 0..n {
         let row = program::branch_at(table, index, node, i);
@@ -92,19 +87,19 @@ pub fn offers_marked(
 }
 
 // Channel c is marked; 128, which is no channel, marks nothing.
-fn mark_channel(marks: &mut [bool; 128], c: u8)
+fn mark_channel(marks: &mut [bool; state::CHANNELS as usize], c: u8)
     ensures { λ _. ⌜ now (marks .exit) ≡ set (now (marks .entry)) c true ⌝ }
 {
     // as a slice the marks tell their number
     let all: &[bool] = marks;
-    if c < NO_CHANNEL {
+    if c < state::NO_CHANNEL {
         marks[c as usize] = true;
     }
 }
 
 // The channels of a list are marked.
-fn set_marks(marks: &mut [bool; 128], list: &[u8; holding::LIST])
-    ensures { λ _. ⌜ now (marks .exit) ≡ raisedTo (now (marks .entry)) (now (list .entry)) 16 ⌝ }
+fn set_marks(marks: &mut [bool; state::CHANNELS as usize], list: &[u8; holding::LIST])
+    ensures { λ _. ⌜ now (marks .exit) ≡ raisedTo (now (marks .entry)) (now (list .entry)) rowSlots ⌝ }
 {
     for i in 0..holding::LIST {
         mark_channel(marks, list[i]);
@@ -117,7 +112,7 @@ pub fn mark_held(
     index: &[u32],
     words: &[u32; state::WORDS],
     t: u32,
-    marks: &mut [bool; 128],
+    marks: &mut [bool; state::CHANNELS as usize],
 )
     requires { ⌜ Indexed (tableOf (now table)) (now index) ⌝ }
     ensures { λ _. ⌜ now (marks .exit) ≡ withHeld (tableOf (now (table .entry))) (thread (stateOf (now (words .entry))) t) (now (marks .entry)) ⌝ }
@@ -132,7 +127,7 @@ pub fn mark_held(
 // The row of thread t is freed, and the channel rows are settled again.
 pub fn release(table: &[u8], index: &[u32], words: &mut [u32; state::WORDS], t: u32)
     requires { ⌜ Indexed (tableOf (now table)) (now index) ⌝ }
-    requires { ⌜ t < 64 ⌝ }
+    requires { ⌜ t < maxThreads ⌝ }
     requires { ⌜ settled (tableOf (now table)) (stateOf (now words)) ≡ stateOf (now words) ⌝ }
     ensures { λ _. ⌜ stateOf (now (words .exit)) ≡ settled (tableOf (now (table .entry))) (withThread (stateOf (now (words .entry))) t freeRow) ⌝ }
     ensures { λ _. ⌜ settled (tableOf (now (table .entry))) (stateOf (now (words .exit))) ≡ stateOf (now (words .exit)) ⌝ }

@@ -12,6 +12,7 @@ use borrow.Author.Tests.{eq-eqb, ne-eqb}
 use Rattle.numbers.specs.Search.{every, tabulate}
 use Rattle.numbers.specs.Search.Laws.{getD-tabulate, every-all, every-not, every-cong}
 use Rattle.numbers.specs.Rows.{at}
+use Rattle.table.specs.Fields as Field
 use Rattle.table.specs.Table.{Table, nodeRow}
 use Rattle.table.specs.Layout.{branchCount}
 use Rattle.state.specs.State.{State, maxThreads, maxChannels, thread, status, standsAt, slotOf}
@@ -73,7 +74,7 @@ held-silent true New h = refl
 held-silent true Spawn h = refl
 held-silent true Assignment h = refl
 
-module _ (tb : Table) (s : State) (t i n r x c : ℕ) (p : n ≡ standsAt (thread s t)) (q : r ≡ branchAt tb n i) (e : c ≡ slotOf (thread s t) x) (f : x ≡ at tb r 5)
+module _ (tb : Table) (s : State) (t i n r x c : ℕ) (p : n ≡ standsAt (thread s t)) (q : r ≡ branchAt tb n i) (e : c ≡ slotOf (thread s t) x) (f : x ≡ at tb r Field.a)
     (v : Offer) (g : v ≡ offerOn tb (thread s t) c r) where
   own-offer : v ≡ cond (guardHolds tb r (thread s t)) (offerOf (actOf tb r)) Nothing
   own-offer = g ∙ rw (e, f) (offer-own tb (thread s t) r)
@@ -135,14 +136,14 @@ module _ (tb : Table) (s : State) (t x n : ℕ) (e : x ≡ status (thread s t)) 
   unfolding waitsAlone
   ready-alone f = rw (← e, ne-eqb x 2 f)
 
-  module _ (f : x ≡ 2) (g : n ≡ standsAt (thread s t)) (y k : ℕ) (h : y ≡ at tb (k + n) 1) (i : k ≡ nodeRow tb) where
+  module _ (f : x ≡ 2) (g : n ≡ standsAt (thread s t)) (y k : ℕ) (h : y ≡ at tb (k + n) Field.nodeKind) (i : k ≡ nodeRow tb) where
     pub elsewhere-alone : (y ≡ 1 → ⊥) → false ≡ waitsAlone tb s t
     unfolding waitsAlone
     elsewhere-alone j = rw (← e, f, ← g, ← i, ← h, ne-eqb y 1 j)
 
     pub choice-alone : (r : Bool) → y ≡ 1 → r ≡ every (branchHeld tb s t) (branchCount tb (standsAt (thread s t))) → r ≡ waitsAlone tb s t
     unfolding waitsAlone
-    choice-alone r j q = let z : at tb (nodeRow tb + standsAt (thread s t)) 1 ≡ 1 = rw (← g, ← i, ← h) j in rw (← e, f, z) q
+    choice-alone r j q = let z : at tb (nodeRow tb + standsAt (thread s t)) Field.nodeKind ≡ 1 = rw (← g, ← i, ← h) j in rw (← e, f, z) q
 
 -- ---- note_threads
 

@@ -13,12 +13,7 @@ ghost use Rattle.rules.specs.declared.Direction.the-variants.{Out, In};
 ghost use Rattle.waits.specs.Waits.{noted, apart, allApart, branchHeld, branchNoted, allHeld, waitsAlone, notes};
 use offers::Offer;
 use rules::Direction;
-
-const THREADS: u32 = 64;
-
-const CHANNELS: u32 = 128;
-
-const WAITING: u32 = 2;
+use table::field;
 
 const CHOICE: u32 = 1;
 
@@ -70,7 +65,7 @@ fn note_branch(
     ensures { λ _. ⌜ now (receivers .exit) ≡ branchNoted (tableOf (now (table .entry))) (stateOf (now (state .entry))) In t i (now (receivers .entry)) ⌝ }
 {
     let row = program::branch_at(table, index, n, i);
-    let c = program::slot(state, t, table::cell_of(table, index, row, 5));
+    let c = program::slot(state, t, table::cell_of(table, index, row, field::A));
     match offers::offer_on(table, index, row, state, t, c) {
         Offer::Of(d) => {
             match d {
@@ -129,18 +124,12 @@ fn note_thread(
     ensures { λ r. ⌜ (r ≡ true → now (senders .exit) ≡ notes (tableOf (now (table .entry))) (stateOf (now (state .entry))) Out (t + 1)) ⌝ }
     ensures { λ r. ⌜ (r ≡ true → now (receivers .exit) ≡ notes (tableOf (now (table .entry))) (stateOf (now (state .entry))) In (t + 1)) ⌝ }
 {
-    if state::thread_word(state, t as usize, 0) != WAITING {
+    if state::thread_word(state, t as usize, state::STATUS) != state::WAITING {
         return true;
     }
-    let n = state::thread_word(state, t as usize, 1);
-    if table::cell_of(
-        table,
-        index,
-        table::node_row_of(table, index) + n as usize,
-        1,
-    )
-        != CHOICE
-    {
+    let n = state::thread_word(state, t as usize, state::NODE);
+    let row = table::node_row_of(table, index) + n as usize;
+    if table::cell_of(table, index, row, field::NODE_KIND) != CHOICE {
         return false;
     }
     note_branches(table, index, state, t, n, senders, receivers)
@@ -161,7 +150,7 @@ fn note_threads(
     ensures { λ r. ⌜ (r ≡ true → now (senders .exit) ≡ notes (tableOf (now (table .entry))) (stateOf (now (state .entry))) Out maxThreads) ⌝ }
     ensures { λ r. ⌜ (r ≡ true → now (receivers .exit) ≡ notes (tableOf (now (table .entry))) (stateOf (now (state .entry))) In maxThreads) ⌝ }
 {
-    for t in 0..THREADS {
+    for t in 0..state::THREADS {
         if !note_thread(table, index, state, t, senders, receivers) {
             return false;
         }
@@ -189,7 +178,7 @@ fn is_apart(a: u8, b: u8) -> bool
 fn all_apart(senders: &[u8], receivers: &[u8]) -> bool
     ensures { λ r. ⌜ r ≡ allApart (now (senders .entry)) (now (receivers .entry)) ⌝ }
 {
-    for c in 0..CHANNELS {
+    for c in 0..state::CHANNELS {
         if !is_apart(recount::byte_at(senders, c), recount::byte_at(receivers, c)) {
             return false;
         }
@@ -202,8 +191,8 @@ pub fn waits_rightly(table: &[u8], index: &[u32], state: &[u32; state::WORDS]) -
     requires { ⌜ Indexed (tableOf (now table)) (now index) ⌝ }
     ensures { λ r. ⌜ r ≡ every (waitsRightly (tableOf (now (table .entry))) (stateOf (now (state .entry)))) maxThreads ⌝ }
 {
-    let mut senders = [0u8; 128];
-    let mut receivers = [0u8; 128];
+    let mut senders = [0u8; state::CHANNELS as usize];
+    let mut receivers = [0u8; state::CHANNELS as usize];
     if !note_threads(table, index, state, &mut senders, &mut receivers) {
         return false;
     }

@@ -13,6 +13,7 @@ use Rattle.numbers.specs.Laid.Laws.{laid-all, laid-skip}
 use Rattle.numbers.specs.Search.{every, tabulate}
 use Rattle.numbers.specs.Tests.{and-left, and-right}
 use Rattle.numbers.specs.Search.Laws.{caseB, same-truth, every-none, every-more, every-elim, every-intro, every-cong, tabulate-cong}
+use Rattle.table.specs.Fields as Field
 use Rattle.table.specs.Table.{Table, slotRow, nodeRow, slotCount, parameters}
 use Rattle.table.specs.Layout.{start, definitionOf, slotType}
 use Rattle.table.specs.declared.Part.the-variants.{Slots, Nodes}
@@ -75,16 +76,16 @@ every-and-next q k =
 module _ (tb : Table) (r from p n : ℕ) (row : List ℕ) where
   -- the code's ways out: x is the slot that the call names, v what it has
   module _ (k x : ℕ) where
-    pub call-given : (v : ℕ) → v ≡ slotOf row x → x ≡ at tb r (3 + k) → k < p → v ≡ callBy tb r from p n row k
+    pub call-given : (v : ℕ) → v ≡ slotOf row x → x ≡ at tb r (Field.arguments + k) → k < p → v ≡ callBy tb r from p n row k
     unfolding callBy
     call-given v e f h = rw (lt-ltb k p h, e, f)
 
     -- x is the type of the slot
-    pub call-number : x ≡ at tb (from + k) 1 → p ≤ k → k < n → x ≡ 0 → 0 ≡ callBy tb r from p n row k
+    pub call-number : x ≡ at tb (from + k) Field.type → p ≤ k → k < n → x ≡ 0 → 0 ≡ callBy tb r from p n row k
     unfolding callBy
     call-number e h i z = rw (le-ltb k p h, lt-ltb k n i, ← e, eq-eqb x 0 z)
 
-    pub call-channel : x ≡ at tb (from + k) 1 → p ≤ k → k < n → (x ≡ 0 → ⊥) → 4294967295 ≡ callBy tb r from p n row k
+    pub call-channel : x ≡ at tb (from + k) Field.type → p ≤ k → k < n → (x ≡ 0 → ⊥) → minusOne ≡ callBy tb r from p n row k
     unfolding callBy
     call-channel e h i z = rw (le-ltb k p h, lt-ltb k n i, ← e, ne-eqb x 0 z)
 
@@ -132,7 +133,7 @@ module _ (tb : Table) (row : List ℕ) (d a m from p n : ℕ) (ea : a ≡ nodeRo
   pub kept-looked : (r : Bool) → r ≡ every (keptBy tb (a + m) from p n row) rowSlots → r ≡ every (slotKept tb row d) rowSlots
   kept-looked r e = e ∙ every-cong (keptBy tb (a + m) from p n row) (slotKept tb row d) 16 (λ k b. kept-at k)
 
-pub callee-read : (tb : Table) (r a m n : ℕ) → r ≡ at tb (a + m) 2 → a ≡ nodeRow tb → m ≡ n → r ≡ callee tb n
+pub callee-read : (tb : Table) (r a m n : ℕ) → r ≡ at tb (a + m) Field.callee → a ≡ nodeRow tb → m ≡ n → r ≡ callee tb n
 callee-read tb r a m n e f g = e ∙ rw (f, g)
 
 -- the code's ways out: d is the callee, x and y the definitions of the node, m, and of the callee's first node, z
@@ -168,7 +169,7 @@ module _ (tb : Table) (from n : ℕ) (row : List ℕ) (k v : ℕ) where
   kept-past h = rw (le-ltb k n h)
 
   -- x is the type of the slot
-  module _ (x : ℕ) (e : x ≡ at tb (from + k) 1) (h : k < n) where
+  module _ (x : ℕ) (e : x ≡ at tb (from + k) Field.type) (h : k < n) where
     pub kept-number : x ≡ 0 → true ≡ keptAt tb from n row k v
     unfolding keptAt
     kept-number z = rw (lt-ltb k n h, ← e, eq-eqb x 0 z)
