@@ -34,7 +34,7 @@ module _ (p : ℕ → Bool) (m : ℕ) where
     from-all n h =
         sym (first-void (λ k. leb m k && p k) n (λ k l. first-below (λ j. leb m j && p j) i k (let q : k < i = omega arith in rw e q)))
 
-  -- what is found is not below m, and none before it from m upward passes
+  -- what is found is not below m, it passes, and none before it from m upward does
   module _ (n r : ℕ) (e : r ≡ firstFrom n m p) where
     pub from-ge : m ≤ n → m ≤ r
     unfolding firstFrom
@@ -45,6 +45,13 @@ module _ (p : ℕ → Bool) (m : ℕ) where
         let w : (leb m r && p r) ≡ true = rw e (first-passes (λ i. leb m i && p i) n k) in
         contra (and-left (leb m r) (p r) w) (lt-leb m r l)))
         (λ y. ltb-false r m y)
+
+    pub from-passes : r < n → p r ≡ true
+    unfolding firstFrom
+    from-passes h =
+        let k : first (λ i. leb m i && p i) n < n = rw (← e) h in
+        let w : (leb m r && p r) ≡ true = rw e (first-passes (λ i. leb m i && p i) n k) in
+        and-right (leb m r) (p r) w
 
     pub from-before : (k : ℕ) → m ≤ k → k < r → p k ≡ false
     unfolding firstFrom

@@ -11,7 +11,7 @@ use Rattle.numbers.specs.Search.{first}
 use Rattle.numbers.specs.Search.Laws.{caseB, contra, first-more, first-below, first-void, first-rest, some-intro}
 use Rattle.numbers.specs.Tests.{and-right}
 use Rattle.table.specs.Table.{Table}
-use Rattle.state.specs.State.{State, maxThreads, thread}
+use Rattle.state.specs.State.{State, maxThreads, thread, isWaiting}
 use Rattle.rules.specs.Program.{opposite, same}
 use Rattle.rules.specs.Offers.{offersIn, offersAt, offers, answers, partnerOf}
 use Rattle.rules.specs.Moves.{firstFrom}
@@ -19,7 +19,7 @@ use Rattle.rules.specs.declared.Direction.{Direction}
 use Rattle.rules.specs.declared.Partner.{Partner}
 use Rattle.rules.specs.declared.Partner.the-variants.{Nobody, At}
 use Rattle.offers.specs.Apart.{Apart}
-use Rattle.next_rows.specs.Around.{from-more, from-hit, from-ge, from-before}
+use Rattle.next_rows.specs.Around.{from-more, from-hit, from-ge, from-before, from-passes}
 use Rattle.offers.specs.Partners.{none-answers}
 use Rattle.offers.specs.Offer.{offerOn, isOf}
 use Rattle.offers.specs.Offer.Laws.{same-other, offers-in}
@@ -147,6 +147,14 @@ module _ (s : State) (m u w : ℕ) (e : firstFrom u m (isWaitingThread s) ≡ u)
   pub waiting-more : (w ≡ 2 → ⊥) → firstFrom (u + 1) m (isWaitingThread s) ≡ u + 1
   unfolding isWaitingThread
   waiting-more g = from-more (isWaitingThread s) m u e false (rw (← f, ne-eqb w 2 g)) l refl
+
+-- it waits
+pub waits-here : (s : State) (n m r : ℕ) → r ≡ firstFrom n m (isWaitingThread s) → r < n → isWaiting (thread s r) ≡ true
+unfolding isWaitingThread
+waits-here s n m r e h = from-passes (isWaitingThread s) m n r e h
+
+pub waits-now : (s : State) (n u : ℕ) → (u < n → isWaiting (thread s u) ≡ true) → u < n → isWaiting (thread s u) ≡ true
+waits-now s n u f h = f h
 
 -- it comes after the thread that was tried
 pub waiting-less : (s : State) (n u r : ℕ) → r ≡ firstFrom n (u + 1) (isWaitingThread s) → u < n → r ≤ n → n - r < n - u

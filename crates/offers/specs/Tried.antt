@@ -60,21 +60,24 @@ module _ (tb : Table) (s : State) where
       (λ e. absurd (let z : i < 0 = rw e at l in omega arith))
       (λ e. rw e (caseB (isWaiting (thread s u)) (λ w. rw w) (λ w. absurd (let z : i < 0 = rw (e, w) at l in omega arith))))
 
--- the word of thread u's status was read
-module _ (tb : Table) (s : State) (t u w : ℕ) (e : w ≡ at (s .threads) u 0) where
-  pub tried-idle : (w ≡ 2 → ⊥) → 0 ≡ tried tb s t u
-  unfolding tried
-  tried-idle g = rw (← e, ne-eqb w 2 g) (caseB (eqb u t) (λ a. rw a) (λ a. rw a))
+-- the status of thread u was read as w
+pub read-waiting : (s : State) (u w : ℕ) → w ≡ at (s .threads) u 0 → w ≡ 2 → isWaiting (thread s u) ≡ true
+read-waiting s u w e g = rw (← e, g)
 
-  pub tried-waiting : (n r : ℕ) → (u ≡ t → ⊥) → w ≡ 2 → n ≡ at (s .threads) u 1 → r ≡ branchCount tb n → r ≡ tried tb s t u
-  unfolding tried
-  tried-waiting n r f g h i = rw (ne-eqb u t f, ← e, g, i, h)
-
+-- what was read of thread u
+module _ (tb : Table) (s : State) (t u : ℕ) where
   pub tried-own : u ≡ t → 0 ≡ tried tb s t u
   unfolding tried
   tried-own f = rw (eq-eqb u t f)
 
-pub ruleset tries = (tried-own, tried-waiting, tried-idle)
+  pub tried-other : isWaiting (thread s u) ≡ true → (u ≡ t → ⊥) → (n r : ℕ) → r ≡ branchCount tb n → n ≡ at (s .threads) u 1 → r ≡ tried tb s t u
+  unfolding tried
+  tried-other w f n r i h = rw (ne-eqb u t f, w, i, h)
+
+  module _ (w : ℕ) (e : w ≡ at (s .threads) u 0) where
+    pub tried-idle : (w ≡ 2 → ⊥) → 0 ≡ tried tb s t u
+    unfolding tried
+    tried-idle g = rw (← e, ne-eqb w 2 g) (caseB (eqb u t) (λ a. rw a) (λ a. rw a))
 
 -- ---- what the loops have shown at each place
 

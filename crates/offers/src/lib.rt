@@ -1,11 +1,12 @@
 // What a thread offers by a branch, and the search for the partner that answers an offer.
 ghost use mathlib.Core.Path.{_≡_};
+ghost use mathlib.Core.Bool.{true};
 ghost use Prim.Native.Nat.{_+_, _≤_, _<_};
 ghost use Rattle.table.specs.Table.{tableOf, nodeRow, branchRow};
 ghost use Rattle.table.specs.Layout.{branchCount, start};
 ghost use Rattle.table.specs.declared.Part.the-variants.{Branches};
 ghost use Rattle.table.specs.Index.{Indexed};
-ghost use Rattle.state.specs.State.{maxThreads, stateOf, thread};
+ghost use Rattle.state.specs.State.{maxThreads, stateOf, thread, isWaiting};
 ghost use Rattle.rules.specs.Program.{actOf, same};
 ghost use Rattle.rules.specs.Offers.{meets?, offersAt, partnerOf};
 ghost use Rattle.rules.specs.Moves.{firstFrom};
@@ -130,6 +131,32 @@ fn branches_of(table: &[u8], index: &[u32], nodes: usize, node: u32) -> u32
     0
 }
 
+// How many branches of thread u, which waits, are tried for thread t: none of its own.
+fn branches_asked(
+    table: &[u8],
+    index: &[u32],
+    nodes: usize,
+    state: &[u32; state::WORDS],
+    t: u32,
+    u: u32,
+) -> u32
+    requires { ⌜ Indexed (tableOf (now table)) (now index) ⌝ }
+    requires { ⌜ nodes ≡ nodeRow (tableOf (now table)) ⌝ }
+    requires { ⌜ nodes ≤ 196608 ⌝ }
+    requires { ⌜ isWaiting (thread (stateOf (now state)) u) ≡ true ⌝ }
+    ensures { λ r. ⌜ r ≡ tried (tableOf (now (table .entry))) (stateOf (now (state .entry))) t u ⌝ }
+{
+    if u == t {
+        return 0;
+    }
+    branches_of(
+        table,
+        index,
+        nodes,
+        state::thread_word(state, u as usize, 1),
+    )
+}
+
 // How many branches of thread u are tried for thread t: none of its own, and none of a thread that does not wait.
 fn branches_tried(
     table: &[u8],
@@ -147,15 +174,7 @@ fn branches_tried(
     if state::thread_word(state, u as usize, state::STATUS) != state::WAITING {
         return 0;
     }
-    if u == t {
-        return 0;
-    }
-    branches_of(
-        table,
-        index,
-        nodes,
-        state::thread_word(state, u as usize, state::NODE),
-    )
+    branches_asked(table, index, nodes, state, t, u)
 }
 
 // The row of the first branch of a node, where the rows of the nodes begin at a row.
@@ -245,7 +264,7 @@ pub fn find_partner(
     let mut found = Partner::Nobody;
     let mut u = next_waiting(state, 0, limit);
     'threads: while u < limit {
-        let n = branches_tried(table, index, nodes, state, t, u);
+        let n = branches_asked(table, index, nodes, state, t, u);
         let from = first_row(table, index, nodes, state, u, n);
         let mut competes = false;
         for i in 0..n {

@@ -1,4 +1,4 @@
-use Rattle.offers.specs.Tried.{tries}
+use Rattle.offers.specs.Tried.{tried-idle, read-waiting}
 use borrow.Author.Needs.{needs}
 use Rattle.offers.proofs.branches_tried.Statement.{statement}
 use Rattle.offers.proofs.branches_tried.Tie as tie
@@ -8,8 +8,6 @@ branches-tried-spec =
     tie.close
     (tie.spec
     (λ c κs. search needs)
-    (λ c. search tries)
-    (λ c. search tries)
-    (λ c κs. search needs)
-    (λ c κs. search needs)
-    (λ c. search tries))
+    (λ c. search tried-idle)
+    (λ c κs. (search, (search, (search, search read-waiting))))
+    (λ c. search needs))
