@@ -11,7 +11,7 @@ use borrow.Author.Tests.{lt-ltb, le-ltb, ltb-true}
 use Rattle.numbers.specs.Rows.{at}
 use Rattle.numbers.specs.Tests.{and-left, and-right}
 use Rattle.table.specs.Table.{Table}
-use Rattle.state.specs.State.{State, maxThreads, maxChannels, thread, standsAt, isReady, withMark, withThread, withChannel, withChannels}
+use Rattle.state.specs.State.{State, maxThreads, maxChannels, thread, standsAt, isReady, withMark, withThread, withChannel, withChannels, withMarks}
 use Rattle.rules.specs.Holding.{settled}
 use Rattle.rules.specs.Offers.{partnerOf}
 use Rattle.rules.specs.Moves.{oneUp, move, written, perform, typed, spawnedBy, valueBy, metByBench}
@@ -88,7 +88,7 @@ module _ (tb : Table) (s : State) (t : ℕ) where
   put-back : (m : Move) → withMark (pastTurn (made tb s t m) t) 2 (getD (s .marks) 2 0) ≡ made tb s t m
   unfolding pastTurn withMark
   put-back m =
-      ap {B = State} (λ (y : List ℕ). record { marks = y; threads = made tb s t m .threads; channels = made tb s t m .channels })
+      ap (λ (y : List ℕ). withMarks (made tb s t m) y)
       (set-set (made tb s t m .marks) 2 (oneUp maxThreads t) (getD (s .marks) 2 0) ∙ rw (← turn-stays m) (set-getD (made tb s t m .marks) 2 0))
 
 -- ---- step: s before and s₁ after

@@ -4,7 +4,7 @@ ghost use mathlib.Core.Bool.{true};
 ghost use Prim.Native.Nat.{_<_};
 ghost use Rattle.table.specs.Table.{tableOf};
 ghost use Rattle.table.specs.Index.{Indexed};
-ghost use Rattle.state.specs.State.{stateOf, thread, isReady};
+ghost use Rattle.state.specs.State.{maxThreads, stateOf, thread, isReady};
 ghost use Rattle.rules_laws.specs.Granted.{Granted};
 ghost use Rattle.rules_laws.specs.Soundness.{Sound};
 ghost use Rattle.rules.specs.Calls.{afterwards, canStep, stepOn, giveOn, takeOn, runOn};
@@ -19,15 +19,14 @@ use rules::Refusal;
 use rules::Stepped;
 use rules::Taken;
 use rules::Turn;
-
-const MAX_THREADS: u32 = 64;
+use table::field;
 
 // Ground 11: whether thread t is there and ready.
 fn can_step(state: &[u32; state::WORDS], t: u32) -> bool
     ensures { λ r. ⌜ r ≡ canStep (stateOf (now (state .entry))) t ⌝ }
 {
-    if t < MAX_THREADS {
-        return state::thread_word(state, t as usize, 0) == 1;
+    if t < state::THREADS {
+        return state::thread_word(state, t as usize, state::STATUS) == state::READY;
     }
     false
 }
@@ -44,14 +43,14 @@ fn take_turns(table: &[u8], index: &[u32], state: &mut [u32; state::WORDS], t: u
     requires { ⌜ Indexed (tableOf (now table)) (now index) ⌝ }
     requires { ⌜ Granted (tableOf (now table)) ⌝ }
     requires { ⌜ Sound (tableOf (now table)) (stateOf (now state)) ⌝ }
-    requires { ⌜ (t < 64 → isReady (thread (stateOf (now state)) t) ≡ true) ⌝ }
+    requires { ⌜ (t < maxThreads → isReady (thread (stateOf (now state)) t) ≡ true) ⌝ }
     ensures { λ r. ⌜ TurnsOf (tableOf (now (table .entry))) n (stateOf (now (state .entry))) t (r .went) (r .reason) (r .last) (stateOf (now (state .exit))) ⌝ }
 {
     let mut top = next_rows::rows_used(state);
     let mut next = t;
     let mut last = Move::Ends;
     for i in 0..n {
-        if MAX_THREADS <= next {
+        if state::THREADS <= next {
             return Turns {
                 went: i as u32,
                 reason: Reason::NoneReady,
@@ -89,10 +88,10 @@ pub fn step(table: &[u8], index: &[u32], state: &mut [u32; state::WORDS], t: u32
     ensures { λ r. ⌜ afterwards r (stateOf (now (state .exit))) ≡ stepOn (tableOf (now (table .entry))) (stateOf (now (state .entry))) t ⌝ }
 {
     if can_step(state, t) {
-        let node = state::thread_word(state, t as usize, 1);
-        let turn = state::mark(state, 2);
+        let node = state::thread_word(state, t as usize, state::NODE);
+        let turn = state::mark(state, state::TURN);
         let turns = take_turns(table, index, state, t, 1);
-        state::put_mark(state, 2, turn);
+        state::put_mark(state, state::TURN, turn);
         turns::settle_waiting(table, index, state);
         let m = turns.last;
         return turns::step_answer(node, m);
@@ -107,7 +106,7 @@ pub fn give(table: &[u8], index: &[u32], state: &mut [u32; state::WORDS], p: u32
     requires { ⌜ Sound (tableOf (now table)) (stateOf (now state)) ⌝ }
     ensures { λ r. ⌜ afterwards r (stateOf (now (state .exit))) ≡ giveOn (tableOf (now (table .entry))) (stateOf (now (state .entry))) p v ⌝ }
 {
-    if table::cell_of(table, index, 0, 6) <= p {
+    if table::cell_of(table, index, 0, field::PORTS) <= p {
         return Given::Refused(Refusal::Port);
     }
     match offers::find_at_port(table, index, state, Direction::In, p) {
@@ -126,7 +125,7 @@ pub fn take(table: &[u8], index: &[u32], state: &mut [u32; state::WORDS], p: u32
     requires { ⌜ Sound (tableOf (now table)) (stateOf (now state)) ⌝ }
     ensures { λ r. ⌜ afterwards r (stateOf (now (state .exit))) ≡ takeOn (tableOf (now (table .entry))) (stateOf (now (state .entry))) p ⌝ }
 {
-    if table::cell_of(table, index, 0, 6) <= p {
+    if table::cell_of(table, index, 0, field::PORTS) <= p {
         return Taken::Refused(Refusal::Port);
     }
     match offers::find_at_port(table, index, state, Direction::Out, p) {
@@ -146,7 +145,7 @@ pub fn run(table: &[u8], index: &[u32], state: &mut [u32; state::WORDS], n: u16)
     requires { ⌜ Sound (tableOf (now table)) (stateOf (now state)) ⌝ }
     ensures { λ r. ⌜ afterwards r (stateOf (now (state .exit))) ≡ runOn (tableOf (now (table .entry))) (stateOf (now (state .entry))) n ⌝ }
 {
-    let t = next_rows::next_ready(state, MAX_THREADS);
+    let t = next_rows::next_ready(state, state::THREADS);
     let turns = take_turns(table, index, state, t, n);
     turns::settle_waiting(table, index, state);
     let reason = turns.reason;

@@ -34,13 +34,13 @@ fn take_thread(
     ensures { λ _. ⌜ stateOf (now (state .exit)) ≡ freedBy (tableOf (now (table .entry))) (stateOf (now (state .entry))) (now (marks .entry)) t ⌝ }
     ensures { λ _. ⌜ settled (tableOf (now (table .entry))) (stateOf (now (state .exit))) ≡ stateOf (now (state .exit)) ⌝ }
 {
-    if threads::status_of(state, t) == state::FREE {
+    if engine::status_of(state, t) == state::FREE {
         return 0;
     }
     if marking::mark_at(marks, t as usize) {
         return 0;
     }
-    threads::release(table, index, state, t);
+    engine::release(table, index, state, t);
     1
 }
 

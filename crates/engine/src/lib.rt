@@ -1,5 +1,5 @@
-// The calls of the engine: start, step, give, take, run. Each judges its buffers first, and a call that is refused writes nothing. For the collector,
-// which works on the words of an admitted state, the admission and the writing of the words are handed on.
+// The calls of the engine: start, step, give, take, run. Each judges its buffers first, and a call that is refused writes nothing. A layer above, which works
+// on the words of an admitted state, has the admission, what it may ask of a thread, the release of a thread and the writing of the words from here.
 ghost use mathlib.Core.Path.{_≡_};
 ghost use lib.ListN.{length, replicate};
 ghost use Rattle.numbers.specs.Bytes.{words as wordsOf};
@@ -19,21 +19,20 @@ use rules::Stepped;
 use rules::Taken;
 pub use state::WORDS;
 pub use state::write;
-
-const TABLE: usize = 20760;
-
-const STATE_BYTES: usize = 6156;
-
-const INDEX: usize = 807;
+pub use threads::mark_held;
+pub use threads::offers_marked;
+pub use threads::port_count;
+pub use threads::release;
+pub use threads::status_of;
 
 // Ground 8.
 fn lengths_right(table: &[u8], state: &[u8]) -> bool
     ensures { λ r. ⌜ r ≡ lengthsRight (now (table .entry)) (now (state .entry)) ⌝ }
 {
-    if table.len() != TABLE {
+    if table.len() != table::BYTES {
         return false;
     }
-    state.len() == STATE_BYTES
+    state.len() == state::BYTES
 }
 
 // Grounds 8 and 9. The index of an admitted table is left in `index`, which comes as zeros.
@@ -82,7 +81,7 @@ pub fn admit(
 pub fn start(table: &[u8], state: &mut [u8]) -> Started
     ensures { λ r. ⌜ outcome r (now (state .exit)) ≡ startCall (now (table .entry)) (now (state .entry)) ⌝ }
 {
-    let mut index = [0u32; INDEX];
+    let mut index = [0u32; table::INDEX];
     match admit_start(table, state, &mut index) {
         Admission::Refused(ground) => Started::Refused(ground),
         Admission::Admitted => {
@@ -98,7 +97,7 @@ pub fn start(table: &[u8], state: &mut [u8]) -> Started
 pub fn step(table: &[u8], state: &mut [u8], t: u32) -> Stepped
     ensures { λ r. ⌜ outcome r (now (state .exit)) ≡ stepCall (now (table .entry)) (now (state .entry)) t ⌝ }
 {
-    let mut index = [0u32; INDEX];
+    let mut index = [0u32; table::INDEX];
     let mut words = [0u32; state::WORDS];
     match admit(table, state, &mut index, &mut words) {
         Admission::Refused(ground) => Stepped::Refused(ground),
@@ -118,7 +117,7 @@ pub fn step(table: &[u8], state: &mut [u8], t: u32) -> Stepped
 pub fn give(table: &[u8], state: &mut [u8], p: u32, v: u32) -> Given
     ensures { λ r. ⌜ outcome r (now (state .exit)) ≡ giveCall (now (table .entry)) (now (state .entry)) p v ⌝ }
 {
-    let mut index = [0u32; INDEX];
+    let mut index = [0u32; table::INDEX];
     let mut words = [0u32; state::WORDS];
     match admit(table, state, &mut index, &mut words) {
         Admission::Refused(ground) => Given::Refused(ground),
@@ -139,7 +138,7 @@ pub fn give(table: &[u8], state: &mut [u8], p: u32, v: u32) -> Given
 pub fn take(table: &[u8], state: &mut [u8], p: u32) -> Taken
     ensures { λ r. ⌜ outcome r (now (state .exit)) ≡ takeCall (now (table .entry)) (now (state .entry)) p ⌝ }
 {
-    let mut index = [0u32; INDEX];
+    let mut index = [0u32; table::INDEX];
     let mut words = [0u32; state::WORDS];
     match admit(table, state, &mut index, &mut words) {
         Admission::Refused(ground) => Taken::Refused(ground),
@@ -160,7 +159,7 @@ pub fn take(table: &[u8], state: &mut [u8], p: u32) -> Taken
 pub fn run(table: &[u8], state: &mut [u8], n: u16) -> Ran
     ensures { λ r. ⌜ outcome r (now (state .exit)) ≡ runCall (now (table .entry)) (now (state .entry)) n ⌝ }
 {
-    let mut index = [0u32; INDEX];
+    let mut index = [0u32; table::INDEX];
     let mut words = [0u32; state::WORDS];
     match admit(table, state, &mut index, &mut words) {
         Admission::Refused(ground) => Ran::Refused(ground),

@@ -57,6 +57,6 @@ module _ (tb : Table) (g : Granted tb) (s : State) (ok : Orderly tb s) (t : ℕ)
       ap (λ (y : ℕ). holds tb (thread s t) y) (sym (o .is))
       ∙ on-held tb g (typeIn s) (thread s t) (ok .row t l) (waiting-used (thread s t) (o .waits)) (o .branch) (o .branch-in) d (o .does)
 
-  -- and that is a channel in use
+  -- the channel on which a thread offers is in use
   pub offered-used : typeIn s c ≢ 0
   offered-used = held-used tb (typeIn s) (thread s t) (ok .row t l) c (holds-elim tb (thread s t) c offered-held)

@@ -19,7 +19,7 @@ module _ (tb : Table) (s : State) (ok : Sound tb s) (t u : ℕ) (l : t < maxThre
   unfolding Apart opposite
   no-receiver a = caseB (offers tb (thread s u) In c) (λ b. absurd (ok .orderly .apart t u l m n Out c a b)) (λ b. b)
 
-  -- so the offers of two waiting threads on one channel are of one direction
+  -- the offers of two waiting threads on one channel are of one direction
   pub one-direction : (d e : Direction) → offers tb (thread s t) d c ≡ true → offers tb (thread s u) e c ≡ true → d ≡ e
   unfolding Apart opposite
   one-direction Out Out a b = refl

@@ -20,9 +20,8 @@ use Rattle.rules.specs.Moves.{firstFrom, around, oneUp, isFreeThread, isFreeCha
 use Rattle.rules.specs.Calls.{stepAnswer, isReadyThread, nextReady, pastTurn, reasonFor, turnFor, turnBy, turnEnd, takeTurn, oneMore, onward, courseOf}
 use Rattle.rules.specs.Sound.{marksInRange, freeZero, rowInRange, spareZero, slotTyped, slotsTyped, slotFilled, slotsFilled, countTrue, portTyped, waitsRightly, sound}
 use Rattle.marking.specs.Enabled as Enabled
-use Rattle.marking.specs.Enabled.{known, reaches, joins, rounds, enabledSet}
+use Rattle.marking.specs.Enabled.{nobody, known, reaches, joins, rounds, enabledSet}
 use Rattle.collector.specs.Collect.{taken, remaining, collected, takenCount}
-use Rattle.marking.specs.Enabled.{nobody}
 
 -- the tests of a table
 unfoldable pub judging : Unit {0}

@@ -6,8 +6,6 @@ use mathlib.Core.List.{List, []}
 use lib.Dec.{ltb, leb, eqb}
 use lib.ListN.{length, getD}
 use borrow.Author.Tests.{ltb-true, leb-true, eqb-true}
-use Rattle.numbers.specs.Bytes.{joined}
-use Rattle.numbers.specs.Bytes.Laws.{encode-below}
 use Rattle.numbers.specs.Rows.{at}
 use Rattle.numbers.specs.Search.{every}
 use Rattle.numbers.specs.Search.Laws.{every-elim}
@@ -19,8 +17,8 @@ use Rattle.loader.specs.Verdict.{judged, verdict, isSound}
 use Rattle.loader.specs.Load.{tableLength, tableBytes, outcome, loaded, accepted}
 use Rattle.loader.specs.declared.Loaded.the-variants.{Done}
 use Rattle.loader.specs.declared.Verdict.the-variants as Verdict
-use Rattle.loader_laws.specs.PrintedFile.{Printable, filledUp, sound-bytes, print-table, print-judged}
-use Rattle.loader_laws.specs.Yields.{is-sound, file-shaped, length-bytes, bytes-hold, sound-loads, accepted-iff}
+use Rattle.loader_laws.specs.PrintedFile.{Printable, filledUp, print-table, print-judged}
+use Rattle.loader_laws.specs.Yields.{is-sound, file-shaped, length-bytes, bytes-hold, sound-loads, file-small, file-accepted}
 use Rattle.rules.specs.Start.{started}
 use Rattle.rules.specs.Calls.{courseOf}
 use Rattle.rules_laws.specs.Granted.{Granted}
@@ -89,13 +87,10 @@ module _ (rs : Table) (e : inOrder rs ≡ true) where
   table-long = rw (← rows-load rs e .1) (length-bytes (fileTable (fileText rs)) (file-shaped (fileText rs)))
 
   pub table-small : (i : ℕ) → getD (tableFor rs) i 0 < 256
-  unfolding tableBytes
-  table-small = encode-below 2 (joined (filledUp rs))
+  table-small = rw (rows-load rs e .1) at (file-small (fileText rs))
 
   pub table-accepted : accepted (tableFor rs) ≡ true
-  table-accepted =
-      accepted-iff (tableFor rs) table-small .1
-      (fileText rs, tableFor rs, sound-bytes (fileText rs) (rows-load rs e .0), rows-loaded (tableFor rs) table-long)
+  table-accepted = let (v, q) = rows-load rs e in rw q at (file-accepted (fileText rs) v)
 
   -- all that the engine's theorems ask of a table
   pub rows-granted : Granted (filledUp rs)

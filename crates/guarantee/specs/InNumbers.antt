@@ -70,7 +70,7 @@ moved table state (give p v h) =
 moved table state (take p) = ifDone (takeResult table state p .answer .refusal) (named (takeResult table state p .answer .thread))
 moved table state (run n) = ifDone (runResult table state n .answer .refusal) (ranMovers (tableOf table) n (view state))
 
--- and in a list of calls
+-- the threads that step or are met in a list of calls
 unfoldable pub movedAll : List ℕ → List ℕ → List Call → List ℕ
 movedAll table state [] = []
 movedAll table state (k ∷ ks) = moved table state k ++ movedAll table (left table state (on k)) ks

@@ -3,7 +3,7 @@
 use Prim.Native.Nat.{ℕ, suc}
 use native.Mathlib.Omega.{arith}
 use mathlib.Core.Path.{_≡_, refl, _∙_}
-use mathlib.Core.Logic.{inl, inr}
+use mathlib.Core.Logic.{inl}
 use mathlib.Core.Bool.{true, false}
 use mathlib.Core.List.{List, [], _∷_}
 use mathlib.Core.Option.{Option, none, some}
@@ -11,7 +11,7 @@ use Rattle.numbers.specs.Search.Laws.{contra}
 use Rattle.table.specs.Table.{Table, tableOf}
 use Rattle.loader_laws.specs.PrintedFile.{filledUp}
 use Rattle.state.specs.State.{view, stateBytes, thread, inUse, isReady}
-use Rattle.rules.specs.Start.{entered, started}
+use Rattle.rules.specs.Start.{started}
 use Rattle.rules.specs.Moves.{move, written}
 use Rattle.rules_laws.specs.Started.{started-sound}
 use Rattle.engine_laws.specs.Lists.{give}
@@ -23,18 +23,18 @@ use Rattle.guarantee.specs.Claim.{on, takenBy}
 use Rattle.guarantee.specs.ClaimKept.{taken-is}
 use Rattle.published.specs.Syntax.{Process, end, choice, nothing, branch, always, output, assign, constant, waiting}
 use Rattle.published.specs.Agents as Agents
-use Rattle.published.specs.Agents.{_∈_, Value, channel, bind, adding, refers, mentions, knows, Thread, Agent}
+use Rattle.published.specs.Agents.{Value, channel, bind, adding, refers, mentions, knows, Thread, Agent}
 use Rattle.published.specs.Rules.{swapped, new, Reaches}
 use Rattle.published.specs.ProductLaws.{same-order}
 use Rattle.published.specs.Choices.{commits}
 use Rattle.published.specs.Whole.{acted, WholeTurn, UpTo}
 use Rattle.published.specs.Enabling.{Disabled}
-use Rattle.published.specs.Polarity.{Bare, our-proposition-2}
-use Rattle.published_laws.specs.Standing.{channelsOf, guardOf, prefixOf, sumBefore, nodeProcess, unrolled, processAt, bodyOf, forNumbers, OurRules, envOf, readyThread, committed, commitmentsFrom, waitingThread, threadOf, threadsOf, agentOf}
+use Rattle.published.specs.Polarity.{our-proposition-2}
+use Rattle.published_laws.specs.Standing.{channelsOf, guardOf, prefixOf, sumBefore, nodeProcess, unrolled, processAt, bodyOf, forNumbers, OurRules, readyThread, committed, commitmentsFrom, waitingThread, threadOf, threadsOf, agentOf}
 use Rattle.published_laws.specs.Places.{rank}
 use Rattle.published_laws.specs.Products.{Bench}
 use Rattle.published_laws.specs.Benches.{portsAnd, bench-is}
-use Rattle.published_laws.specs.Starting.{started-agent}
+use Rattle.published_laws.specs.Starting.{started-bare}
 use Rattle.published_laws.specs.Stepping.{Allowed}
 use Rattle.published_laws.specs.Conversely.{turn-conversely}
 use Rattle.published_laws.specs.Taking.{taken-iff-disabled}
@@ -64,21 +64,12 @@ tb = filledUp listing
 abbrev benchAt : Option Value → Process → Thread
 benchAt o E = Agents.thread [] (portsAnd (filledUp listing) o) E
 
-start-bare : (o : Option Value) (E : Process) → Bare (agentOf tb (benchAt o E) (started tb) .threads)
-unfolding agentOf
-start-bare o E x (inl e) = rw e
-start-bare o E x (inr i) = last-bare x (rw (started-agent tb) at i)
-  where
-    last-bare : (x : Thread) → x ∈ (Agents.thread [] (envOf tb (entered tb 0 (λ k. k))) (bodyOf tb 0) ∷ []) → x .commitments ≡ []
-    last-bare x (inl e) = rw e
-    last-bare x (inr z) = absurd z
-
 pub facing-unreached : (o o′ : Option Value) (E E′ : Process)
     → ¬ Reaches (bodyOf (filledUp listing)) (OurRules (filledUp listing)) (agentOf (filledUp listing) (benchAt o E) (started (filledUp listing)))
     (agentOf (filledUp listing) (benchAt o′ E′) bothWait)
 unfolding running agentOf threadsOf threadOf waitingThread commitmentsFrom committed
 facing-unreached o o′ E E′ p =
-    our-proposition-2 (bodyOf tb) (forNumbers tb) (agentOf tb (benchAt o E) (started tb)) (agentOf tb (benchAt o′ E′) bothWait) (start-bare o E) p
+    our-proposition-2 (bodyOf tb) (forNumbers tb) (agentOf tb (benchAt o E) (started tb)) (agentOf tb (benchAt o′ E′) bothWait) (started-bare tb (portsAnd tb o) E) p
     1 2 (omega arith) (omega arith) (λ q. omega arith) 0 1 1 _ _ (inl refl) (inl refl)
 
 -- what the bench does is told by the calls: where a give of 7 on port 0 meets a thread it sends 7 there, and where it meets nobody it does nothing

@@ -8,10 +8,7 @@ use mathlib.Core.Logic.{_⊎_, inl, inr, ⊎-elim}
 use mathlib.Core.Bool.{Bool, true, not}
 use mathlib.Core.List.{List, [], _∷_}
 use lib.Dec.{ltb}
-use lib.ListN.{getD}
 use borrow.Author.Tests.{lt-ltb, le-ltb, ltb-true}
-use Rattle.numbers.specs.Bytes.{joined}
-use Rattle.numbers.specs.Bytes.Laws.{encode-below}
 use Rattle.numbers.specs.Count.{bit}
 use Rattle.numbers.specs.Count.Laws.{bit-le}
 use Rattle.numbers.specs.Search.{sumTo}
@@ -26,8 +23,8 @@ use Rattle.loader.specs.declared.Verdict.the-variants as Verdict
 use Rattle.loader_laws.specs.Lowest.{number-range, fault-line}
 use Rattle.loader_laws.specs.Grounds.{branches-few}
 use Rattle.loader.specs.Load.{tableBytes}
-use Rattle.loader_laws.specs.PrintedFile.{sound-read, sound-bytes}
-use Rattle.loader_laws.specs.Yields.{file-shaped, length-bytes, bytes-hold, sound-loads, accepted-iff}
+use Rattle.loader_laws.specs.PrintedFile.{sound-read}
+use Rattle.loader_laws.specs.Yields.{file-shaped, bytes-hold, file-small, file-accepted}
 use Rattle.state.specs.State.{State, minusOne, maxThreads, maxChannels, thread, standsAt, inUse, isReady}
 use Rattle.rules.specs.Start.{started}
 use Rattle.rules.specs.Moves.{isFreeChannel, move, perform}
@@ -252,13 +249,7 @@ module _ (file : List ℕ) (e : verdict file ≡ Verdict.Sound) where
   run = courseOf tb maxSteps (started tb)
 
   grants : Granted tb
-  unfolding tableBytes
-  grants =
-      let h = file-shaped file in
-      let b : List ℕ = tableBytes tb in
-      let long = length-bytes tb h in
-      let fit : (i : ℕ) → getD b i 0 < 256 = encode-below 2 (joined tb) in
-      rw (bytes-hold tb h) at (granted b (accepted-iff b fit .1 (file, b, sound-bytes file e, sound-loads file b e long)) fit)
+  grants = rw (bytes-hold tb (file-shaped file)) at (granted (tableBytes tb) (file-accepted file e) (file-small file))
 
   few-branches : (n : ℕ) → n < nodes tb → branchCount tb n ≤ 8
   few-branches = branches-few tb (judged-passed tb (lineCount file) (sound-read file e .1) .formed)

@@ -51,6 +51,6 @@ module _ (file : List ℕ) where
   unfoldable pub fileTable : Table
   fileTable = tabulate maxRows rowAt
 
-  -- the same numbers, one after the other
+  -- the numbers of the table, one after the other
   unfoldable pub numberIn : ℕ → ℕ
   numberIn x = numberAt (x / rowNumbers) (x % rowNumbers)

@@ -227,18 +227,25 @@ accepted-iff b fit = (
       rw (eq-eqb (length b) tableLength long, yields-acceptable (tableOf b) (file, v, h)),
 )
 
--- ---- what a file that loads leaves in the table's buffer
+-- ---- the bytes of a file's table
 
+pub file-small : (file : List ℕ) (i : ℕ) → getD (tableBytes (fileTable file)) i 0 < 256
+unfolding tableBytes
+file-small file = encode-below 2 (joined (fileTable file))
+
+-- ground 9 accepts them, if the file is in order
+pub file-accepted : (file : List ℕ) → verdict file ≡ Sound → accepted (tableBytes (fileTable file)) ≡ true
+file-accepted file e =
+    let b = tableBytes (fileTable file) in
+    accepted-iff b (file-small file) .1 (file, b, sound-bytes file e, sound-loads file b e (length-bytes (fileTable file) (file-shaped file)))
+
+-- what a load that is done leaves in the table's buffer is such bytes
 module _ (file t : List ℕ) (e : loaded file t .answer ≡ Done) where
-  done : loaded file t ≡ outcome Done (loaded file t .table)
-  done = ap (λ (a : Loaded). outcome a (loaded file t .table)) e
+  left : (verdict file ≡ Sound) × (tableBytes (fileTable file) ≡ loaded file t .table)
+  left = done-sound file t (loaded file t .table) (ap (λ (a : Loaded). outcome a (loaded file t .table)) e)
 
-  -- numbers that are bytes
   pub loaded-small : (i : ℕ) → getD (loaded file t .table) i 0 < 256
-  unfolding tableBytes
-  loaded-small i = rw (← done-sound file t (loaded file t .table) done .1) (encode-below 2 (joined (fileTable file)) i)
+  loaded-small i = rw (← left .1) (file-small file i)
 
-  -- a table that ground 9 accepts
   pub loaded-accepted : accepted (loaded file t .table) ≡ true
-  loaded-accepted =
-      accepted-iff (loaded file t .table) loaded-small .1 (file, t, sound-bytes file (done-sound file t (loaded file t .table) done .0), done)
+  loaded-accepted = rw (← left .1) (file-accepted file (left .0))

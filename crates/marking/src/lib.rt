@@ -42,7 +42,7 @@ fn note_channels(
     ensures { λ _. ⌜ now (known .exit) ≡ knownIf came (tableOf (now (table .entry))) (thread (stateOf (now (state .entry))) t) (now (known .entry)) ⌝ }
 {
     if came {
-        threads::mark_held(table, index, state, t, known);
+        engine::mark_held(table, index, state, t, known);
     }
 }
 
@@ -70,10 +70,10 @@ fn joins_now(
     if mark_at(marks, t as usize) {
         return false;
     }
-    if threads::status_of(state, t) == state::READY {
+    if engine::status_of(state, t) == state::READY {
         return true;
     }
-    threads::offers_marked(table, index, state, t, known)
+    engine::offers_marked(table, index, state, t, known)
 }
 
 // Thread t is marked if it is to be, and the channels that it holds become known. Answers whether it was.
@@ -134,7 +134,7 @@ fn know_ports(table: &[u8], index: &[u32], known: &mut [bool; state::CHANNELS as
     requires { ⌜ now known ≡ replicate maxChannels false ⌝ }
     ensures { λ _. ⌜ now (known .exit) ≡ portsTo (ports (tableOf (now (table .entry)))) ⌝ }
 {
-    let n = threads::port_count(table, index);
+    let n = engine::port_count(table, index);
     for c in 0..n {
         set_mark(known, c as usize);
     }

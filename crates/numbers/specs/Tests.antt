@@ -4,7 +4,7 @@ use Prim.Native.Nat.{ℕ, _<_, _≤_}
 use native.Mathlib.Omega.{arith}
 use mathlib.Core.Path.{_≡_, refl, sym, _∙_}
 use mathlib.Core.Bool.{Bool, true, false, _&&_, cond}
-use lib.Dec.{eqb, ltb, leb}
+use lib.Dec.{eqb, ltb}
 use borrow.Author.Tests.{lt-ltb, le-ltb, le-leb, lt-leb, eq-eqb, ne-eqb, not-true, not-false}
 
 module _ {A : Type 0} (t : Bool) (r a b : A) where
@@ -45,32 +45,9 @@ module _ (r x y : ℕ) (e : r ≡ x) where
   pub ne-read : (r ≡ y → ⊥) → eqb x y ≡ false
   ne-read h = ne-eqb x y (λ q. h (e ∙ q))
 
-  pub lt-read : r < y → ltb x y ≡ true
-  lt-read h = lt-ltb x y (rw e at h)
-
-  pub ge-read : y ≤ r → ltb x y ≡ false
-  ge-read h = le-ltb x y (rw e at h)
-
-  pub le-read : r ≤ y → leb x y ≡ true
-  le-read h = le-leb x y (rw e at h)
-
-  pub gt-read : y < r → leb x y ≡ false
-  gt-read h = lt-leb x y (rw e at h)
-
 -- what a call answered is the number m, as in an arm of a `match`: it is not y
 pub key-read : (r x y m : ℕ) → r ≡ x → r ≡ m → eqb m y ≡ false → eqb x y ≡ false
 key-read r x y m e f h = let q : x ≡ m = sym e ∙ f in rw q h
-
--- a test of two answers
-module _ (a b x y : ℕ) (e : a ≡ x) (f : b ≡ y) where
-  pub eqb-cong : eqb a b ≡ eqb x y
-  eqb-cong = rw (e, f)
-
-  pub ltb-cong : ltb a b ≡ ltb x y
-  ltb-cong = rw (e, f)
-
-  pub leb-cong : leb a b ≡ leb x y
-  leb-cong = rw (e, f)
 
 -- a call's answer was itself the test
 module _ (r t : Bool) (e : r ≡ t) where
@@ -94,12 +71,6 @@ module _ (r x y : ℕ) (e : r ≡ y) where
   pub ge-via : r ≤ x → ltb x y ≡ false
   ge-via h = le-ltb x y (rw e at h)
 
-  pub le-via : x ≤ r → leb x y ≡ true
-  le-via h = le-leb x y (rw e at h)
-
-  pub gt-via : r < x → leb x y ≡ false
-  gt-via h = lt-leb x y (rw e at h)
-
 -- The sets are small, since a search tries each entry at each fact.
 
 -- a `match` or `==` on what a call answered
@@ -107,12 +78,6 @@ pub ruleset arms = (cond-yes, cond-no, eq-read, ne-read, key-read)
 
 -- tests of the function's own numbers
 pub ruleset tests = (cond-yes, cond-no, cond-self, eq-eqb, ne-eqb, lt-ltb, le-ltb, le-leb, lt-leb)
-
--- orders of what a call answered
-pub ruleset orders = (cond-yes, cond-no, lt-read, ge-read, le-read, gt-read)
-
--- tests of two answers
-pub ruleset pairs = (eqb-cong, ltb-cong, leb-cong, eq-via, ne-via)
 
 -- answers that are tests
 pub ruleset flags = (cond-yes, cond-no, flag-yes, flag-no, not-true, not-false)

@@ -153,7 +153,7 @@ fn branches_asked(
         table,
         index,
         nodes,
-        state::thread_word(state, u as usize, 1),
+        state::thread_word(state, u as usize, state::NODE),
     )
 }
 

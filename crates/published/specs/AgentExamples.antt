@@ -44,7 +44,7 @@ module _ (def : ℕ → Process) (Δ : Channels) (P Q R S : Process) (n m : ℕ)
   none-there t (inl e) k i = absurd (let z : k ∈ [] = rw e at i in z)
   none-there t (inr z) k i = absurd z
 
-  -- the left thread records its two commitments and waits ...
+  -- the left thread records its two commitments and waits
   abbrev waiting-left : Thread
   waiting-left = thread (gives 0 2 P ∷ gives 1 3 Q ∷ []) left (choice (wait (wait nothing)))
 
@@ -54,14 +54,14 @@ module _ (def : ℕ → Process) (Δ : Channels) (P Q R S : Process) (n m : ℕ)
       goes (acts (out 0 refl refl (λ t i x S k. none-there t i (takes 0 x S) k)))
       (goes (acts (out 1 refl refl (λ t i x S k. none-there t i (takes 1 x S) k))) stays)
 
-  -- ... which is a whole turn: one branch is passed over, and with the last it comes to Σ wait
+  -- that is a whole turn: one branch is passed over, and with the last it comes to Σ wait
   pub left-whole : Whole def (agent Δ (thread [] left left-choice ∷ right-thread ∷ [])) (agent Δ (waiting-left ∷ right-thread ∷ []))
   unfolding holds andWait commits firstWaits waiting someWait onlyWaits
   left-whole =
       passed (out 0 refl refl (λ t i x S k. none-there t i (takes 0 x S) k)) refl
       (rested (out 1 refl refl (λ t i x S k. none-there t i (takes 1 x S) k)) refl refl)
 
-  -- ... and the right one, whose first branch finds a partner, synchronizes on b
+  -- the right thread, whose first branch finds a partner, synchronizes on b
   pub right-meets : Reduces def Nothing (agent Δ (waiting-left ∷ right-thread ∷ [])) (agent Δ (thread [] left Q ∷ thread [] (bind right 2 (number m)) R ∷ []))
   unfolding holds
   right-meets = exchange swapped (acts (recv 1 3 (number m) refl refl (inr (inl refl)) refl)) swapped
@@ -96,12 +96,12 @@ module _ (def : ℕ → Process) (forNumbers : ℕ → ℕ → Bool) (Δ : Chann
   unfolding holds
   meets-second = send 0 2 (number n) refl refl (inr (inl refl)) refl
 
-  -- the two ends differ ...
+  -- the two ends differ
   pub ends-differ : by-first ≡ by-second → ⊥
   unfolding bind
   ends-differ q = clash (let e : none ≡ some (number n) = ap (λ (X : Agent). look (nth (X .threads) 1 .env) 2) q in cc)
 
-  -- ... in no more than the commitment that is met
+  -- they differ in no more than the commitment that is met
   pub ends-alike : Alike giving by-first by-second
   ends-alike = settled-choice def meets-first meets-second
 
@@ -125,12 +125,12 @@ module _ (def : ℕ → Process) (forNumbers : ℕ → ℕ → Bool) (Δ : Chann
   not-alike (other-input t u C Q ĉ x x′ R₁ R₂ w e i i′ q q′) = still-committed (ap commitments-second q′)
   not-alike (other-output t u C Q ĉ x v v′ R₁ R₂ w w′ e i i′ h h′ q q′) = still-committed (ap commitments-second q′)
 
-  -- ---- the same of whole turns
+  -- ---- whole turns of the first thread
 
   abbrev gives-first : Thread
   gives-first = thread [] giver (choice (branch always (output 0 1) P nothing))
 
-  -- two of them, which end differently ...
+  -- two of them, which end differently
   pub whole-first : WholeTurn def giving gives-first by-first
   unfolding commits holds
   whole-first = record {
@@ -151,7 +151,7 @@ module _ (def : ℕ → Process) (forNumbers : ℕ → ℕ → Bool) (Δ : Chann
     put-back = same-order (by-second .threads);
   }
 
-  -- ... in no more than the commitment
+  -- they end differently in no more than the commitment
   pub ends-upto : UpTo def forNumbers giving gives-first by-first by-second
   ends-upto =
       other-taker taking taking [] [] P 0 1 2 R S (number n) (same-order (giving .threads)) (same-order (giving .threads)) (inl refl) (inr (inl refl))
@@ -180,7 +180,7 @@ module _ (def : ℕ → Process) (forNumbers : ℕ → ℕ → Bool) (Δ : Chann
       ⊎-elim (λ q. clash cc) (λ y. ⊎-elim (λ q. clash cc) (λ x. x) y) z
   no-giver u ĉ v Q (inr (inr z)) i = z
 
-  -- but none in which nobody takes what is given
+  -- no end in which nobody takes what is given is like theirs
   pub not-upto : UpTo def forNumbers giving gives-first by-first alone → ⊥
   not-upto (Whole.same-end D B (e, r) (e′, r′)) = not-in-first (in-rearranged taking (turned-back r) (in-rearranged taking r′ (inr (inl refl))))
   not-upto (Whole.other-name B c Q ĉ ĉ′ p f f′ (e, r) z) = not-in-first (in-rearranged taking (turned-back r) (inr (taking-behind B p)))
@@ -193,13 +193,13 @@ module _ (def : ℕ → Process) (forNumbers : ℕ → ℕ → Bool) (Δ : Chann
 
 -- ---- a choice whose guards are all false
 
--- by the published rules it has no reduction ...
+-- by the published rules such a choice has no reduction
 pub false-stays : (def : ℕ → Process) (Δ : Channels) (Γ : List Commitment) (δ : Env) (g : Guard) (α : Prefix) (P : Process) (B : List Thread) {T : Agent}
     → holds δ g ≡ false → Acts def Nothing (agent Δ (thread Γ δ (choice (branch g α P nothing)) ∷ B)) T → ⊥
 unfolding Of ByProcess BySum
 false-stays def Δ Γ δ g α P B f r = ⊎-elim (λ (y, z). z) (λ (y, z). contra y f) (acts-of def r)
 
--- ... and by Definition 1 it is active, so that no collection ever takes it. Document 01 has it wait, and so collected (its fifth bench case); hence the rule skip
+-- by Definition 1 it is active, so that no collection ever takes it. Document 01 has it wait, and so collected (its fifth bench case); hence the rule skip
 pub false-enabled : (Γ : List Commitment) (δ : Env) (g : Guard) (α : Prefix) (P : Process) (B : List Thread)
     → Enabled (thread Γ δ (choice (branch g α P nothing)) ∷ B) 0
 unfolding waiting someWait

@@ -241,7 +241,7 @@ Forced def (last {A} {B} r) = (T : Agent) → Acts def Nothing A T → Alike A B
 Forced def (pass {Δ} {t} {t′} {B} {C} r w) =
     ((T : Agent) → Acts def Nothing (agent Δ (t ∷ B)) T → Alike (agent Δ (t ∷ B)) (agent Δ (t′ ∷ B)) T) × Forced def w
 
--- so of a turn by 002's rules alone nothing could have gone otherwise, but for names of channels and for the commitments that are met
+-- in a turn by 002's rules alone nothing could have gone otherwise, but for names of channels and for the commitments that are met
 pub turn-forced : (def : ℕ → Process) {A B : Agent} (w : Run def Nothing A B) → Forced def w
 unfolding Forced
 turn-forced def (last r) = λ T r′. settled-choice def r r′

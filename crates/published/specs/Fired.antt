@@ -118,7 +118,7 @@ module _ (def : ℕ → Process) (More : Agent → Agent → Type 0) (own : Labe
     pub turn : Turn def More A t B
     pub ends : Ends (turn .run) f
 
-  -- ... and then any number of uses of (reclaim)
+  -- a turn that ends with f, and then any number of uses of (reclaim)
   pub record SteppedBy (A : Agent) (t : Thread) (f : Fired) (B : Agent) : Type 0 where
     pub stepped : Stepped def More A t B
     pub ends : Ends (stepped .turn .run) f

@@ -92,14 +92,14 @@ pub printed-takes : gc2 case-three 8 [] (0 ∷ []) ≡ some (0 ∷ [])
 unfolding gc2 joining together quiet committedOn has waitrc waiting someWait onlyWaits knows mentions refers globalrc count bit channelOf
 printed-takes = refl
 
--- ... which is enabled by Definition 1: R is active and knows a channel on which W waits, and W one on which P does
+-- P is enabled by Definition 1: R is active and knows a channel on which W waits, and W one on which P does
 pub p-enabled : Enabled case-three 0
 unfolding waiting someWait onlyWaits knows mentions refers channelOf
 p-enabled =
     awoken {j = 0} (omega arith) refl 0 (takes 0 2 end, inl refl, refl) 1 (λ q. omega arith)
     (awoken {j = 1} (omega arith) refl 1 (takes 1 2 end, inl refl, refl) 2 (λ q. omega arith) (active {j = 2} (omega arith) refl) refl) refl
 
--- so that what it does is no use of (stuck): beside P somebody knows the channel on which P waits
+-- what the printed collector does is no use of (stuck): beside P somebody knows the channel on which P waits
 pub not-stuck : globalrc 0 (W ∷ R ∷ []) ≡ 1
 unfolding globalrc count bit knows mentions refers
 not-stuck = refl

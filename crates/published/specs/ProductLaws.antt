@@ -29,7 +29,7 @@ module _ {A : Type 0} (a : A) where
   in-either (b ∷ l) m (inl e) = inl (inl e)
   in-either (b ∷ l) m (inr i) = ⊎-elim (λ h. inl (inr h)) (λ h. inr h) (in-either l m i)
 
--- ... and its place
+-- a thread of a product has a place in it
 pub in-nth : (t : Thread) (A : List Thread) → t ∈ A → (j : ℕ) × (j < length A) × (nth A j ≡ t)
 in-nth t [] i = absurd i
 in-nth t (u ∷ A) (inl e) = (0, omega arith, rw e)

@@ -45,7 +45,7 @@ StandsIn δ end f = f .rule ≡ by-inert
 StandsIn δ (choice Q) f = InSum δ Q (f .branch) (f .rule)
 StandsIn δ (invoke D vs) f = f .rule ≡ by-call
 
--- of the first thread
+-- the rule stands in the process of the first thread
 unfoldable pub StandsFirst : List Thread → Fired → Type 0
 StandsFirst [] f = ⊥
 StandsFirst (t ∷ B) f = StandsIn (t .env) (t .process) f
@@ -280,7 +280,7 @@ module _ (def : ℕ → Process) (forNumbers : ℕ → ℕ → Bool) where
   unfolding MeetsWith
   bare-not-met i δ P k h = partner-there (fired i (by-send (thread [] δ P) k)) h (thread [] δ P) k (refl, refl) .1
 
-  -- ---- turns one after the other: the first of some is a turn as above
+  -- ---- turns one after the other: the first of them is a turn that ends with its rule
 
   first-turn : {h : Had} {l : List Had} {A B : Agent} → Turns def (Ours def forNumbers) (ours-fire def forNumbers) (h ∷ l) A B
       → (C : Agent) × SteppedBy def (Ours def forNumbers) (ours-fire def forNumbers) A (h .who) (h .does) C

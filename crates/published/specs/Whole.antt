@@ -44,7 +44,7 @@ Is T Δ A = (T .channels ≡ Δ) × Rearranged A (T .threads)
 module _ (def : ℕ → Process) (forNumbers : ℕ → ℕ → Bool) where
   -- two ends, T and T′, of a turn of thread t from the agent A
   pub data UpTo (A : Agent) (t : Thread) (T T′ : Agent) : Type 0 where
-    -- the same threads
+    -- the two ends have the same channels and the same threads
     same-end : (Δ : Channels) (B : List Thread) → Is T Δ B → Is T′ Δ B → UpTo A t T T′
     -- (new): the name of the channel, which is a new one
     other-name : (B : List Thread) (c : ℕ) (P : Process) (ĉ ĉ′ : ℕ) → Rearranged (A .threads) (t ∷ B) → A .channels ĉ ≡ false → A .channels ĉ′ ≡ false

@@ -199,7 +199,7 @@ module _ (tb : Table) (g : Granted tb) (rd : Readable tb) (s : State) (o : Order
         rw (at-call tb g rd s o t l ready b bn kind)
         (turn-by (bodyOf tb) More own (fired 0 by-call) {T = agent (channelsOf s) (Agents.thread [] (envOf tb after) (bodyOf tb d) ∷ rest)} start w end)
 
-  -- and then zeros
+  -- a call by 002's rule, and then the rule for zeros in number locals
   pub calls-reduced : TurnBy (bodyOf tb) (OurRules tb) (OurLabels tb) (agentOf tb b s) (readyThread tb (thread s t)) (fired 0 by-call)
       (agentOf tb b (written tb s t Calls))
   unfolding firing ours-fire Ends

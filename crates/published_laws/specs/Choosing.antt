@@ -46,7 +46,7 @@ module _ (tb : Table) (s : State) (t : ℕ) (d : Direction) (c : ℕ) where
       let o = pledge-offers tb (thread s v) d c x S i m in
       contra (rw (ne-eqb v t n, o)) f
 
-  -- and of its own branches none before j offers it
+  -- of the branches of thread u none before j offers it
   no-branch-before : (u j : ℕ) → partnerOf tb s t d c ≡ At u j → (i : ℕ) → i < j → offersAt tb (thread s u) d c i ≡ false
   unfolding offeringBranch
   no-branch-before u j e i l =

@@ -146,11 +146,11 @@ module _ (tb : Table) (g : Granted tb) (rd : Readable tb) (s : State) (ok : Soun
       let same : c ≡ ĉ = sym (pledge-channel d c v Q) ∙ ap channelOf (sym w) ∙ q in
       none-knows ĉ leftThreads (λ x′ i′. unknown-left t (in-range t l) y d ĉ (rw same at o) x′ i′)
 
-  -- (stuck), with the threads that are taken as its clique, ...
+  -- a collection is one use of (stuck), with the threads that are taken as its clique
   pub stuck-once : Sticks (agent (channelsOf s) (clique ++ leftThreads)) (agent (channelsOf s) leftThreads)
   stuck-once = stuck clique leftThreads clique-waits clique-unknown
 
-  -- ... and then (reclaim)
+  -- and after it any number of uses of (reclaim)
   pub reclaimed-after : Many Reclaims (agent (channelsOf s) leftThreads) (agentOf tb b (collected tb s))
   unfolding collected agentOf channelsOf
   reclaimed-after =

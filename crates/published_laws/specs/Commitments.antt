@@ -79,7 +79,7 @@ module _ (tb : Table) (row : List ℕ) where
       in-left k own (commitmentsFrom tb row (suc i) m) h)
       (λ y. in-right k own (commitmentsFrom tb row (suc i) m) (pledged-in m (suc i) j d (omega (arith, eqb-false j i y)) (omega arith) g e))
 
-  -- and no others
+  -- every commitment of a row is that of a branch whose guard is true and which meets
   pub pledged-from : (k : Commitment) (m i : ℕ) → k ∈ commitmentsFrom tb row i m
       → (j : ℕ) × (i ≤ j) × (j < i + m) × (guardHolds tb (branchAt tb (standsAt row) j) row ≡ true)
       × ((d : Direction) × (actOf tb (branchAt tb (standsAt row) j) ≡ Meeting d) × (k ≡ pledged d (branchAt tb (standsAt row) j)))

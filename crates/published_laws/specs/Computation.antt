@@ -4,14 +4,13 @@ use Prim.Native.Nat.{ℕ, suc, _<_}
 use native.Mathlib.Omega.{arith}
 use mathlib.Core.Path.{_≡_, refl}
 use mathlib.Core.Bool.{true, false}
-use mathlib.Core.Logic.{inl, inr}
 use mathlib.Core.List.{List, [], _∷_}
 use mathlib.Core.Option.{Option, none, some}
 use lib.ListN.{length, getD}
 use Rattle.table.specs.Table.{Table, tableOf, ports}
 use Rattle.loader.specs.Load.{accepted}
 use Rattle.state.specs.State.{stateLength, view, thread}
-use Rattle.rules.specs.Start.{entered, started}
+use Rattle.rules.specs.Start.{started}
 use Rattle.rules.specs.Calls.{startCall, stepCall, giveOn, giveCall, takeOn, takeCall, courseOf, runCall}
 use Rattle.rules.specs.Calls.Laws.{call-answer}
 use Rattle.rules.specs.declared.Stepped.{Stepped}
@@ -31,14 +30,14 @@ use Rattle.guarantee.specs.Claim.{Any, on, collect, afterAny, afterList, reache
 use Rattle.guarantee.specs.ClaimKept.{list-sound}
 use Rattle.published.specs.Syntax.{Process, end, choice, nothing, branch, always, output, input, assign, constant, waiting, someWait}
 use Rattle.published.specs.Agents as Agents
-use Rattle.published.specs.Agents.{_∈_, Value, refers, valueOf, Thread}
+use Rattle.published.specs.Agents.{Value, refers, valueOf, Thread}
 use Rattle.published.specs.Rules.{Reduces, acts, more, stays, goes, Reaches, assigns}
 use Rattle.published.specs.Fired.{turns-reach}
 use Rattle.published.specs.ProductLaws.{many-on, stepped-reaches}
-use Rattle.published.specs.Polarity.{OnePolarity, Bare, our-proposition-2}
-use Rattle.published_laws.specs.Standing.{bodyOf, forNumbers, envOf, threadOf, threadsOf, agentOf, OurRules, OurLabels}
+use Rattle.published.specs.Polarity.{OnePolarity, our-proposition-2}
+use Rattle.published_laws.specs.Standing.{bodyOf, forNumbers, threadOf, threadsOf, agentOf, OurRules, OurLabels}
 use Rattle.published_laws.specs.Benches.{portsAnd, bench-is, look-port, look-own, bind-own}
-use Rattle.published_laws.specs.Starting.{started-agent}
+use Rattle.published_laws.specs.Starting.{started-bare}
 use Rattle.published_laws.specs.Running.{step-call-reduced, run-done, run-call-reduced, give-call-reduced, take-call-reduced, collect-call-reduced}
 
 -- ---- what the bench does
@@ -83,7 +82,7 @@ module _ (table : List ℕ) where
   numberCall state (on (run n)) o = o
   numberCall state collect o = o
 
-  -- and in a list of calls
+  -- what the bench does in a list of calls
   unfoldable pub benchFor : List ℕ → List Any → Process → Process
   benchFor state [] E = E
   benchFor state (k ∷ ks) E = benchCall state k (benchFor (afterAny table state k) ks E)
@@ -278,15 +277,6 @@ module _ (table : List ℕ) (ok : accepted table ≡ true) (fit : (i : ℕ) → 
 
   -- ---- so what 002 proves of computations holds of the engine's states: Proposition 2, for one
 
-  start-bare : (o : Option Value) (E : Process) → Bare (agentOf tb (benchAt o E) (started tb) .threads)
-  unfolding agentOf
-  start-bare o E x (inl e) = rw e
-  start-bare o E x (inr i) = last-bare x (rw (started-agent tb) at i)
-    where
-      last-bare : (x : Thread) → x ∈ (Agents.thread [] (envOf tb (entered tb 0 (λ k. k))) (bodyOf tb 0) ∷ []) → x .commitments ≡ []
-      last-bare x (inl e) = rw e
-      last-bare x (inr z) = absurd z
-
   -- after whatever list of calls, no channel has an output commitment of one thread and an input commitment of another
   pub reached-polarity : (state : List ℕ) → length state ≡ stateLength → (ks : List Any)
       → OnePolarity (threadsOf (tableOf table) (view (reachedBy table state ks) .threads))
@@ -296,4 +286,4 @@ module _ (table : List ℕ) (ok : accepted table ≡ true) (fit : (i : ℕ) → 
       let o = numberAfter table (startCall table state .state) ks none in
       let p = rw (start-view table ok fit state long) at (computation state long ks end refl) in
       our-proposition-2 (bodyOf tb) (forNumbers tb) (agentOf tb (benchAt none E) (started tb)) (agentOf tb (benchAt o end) (view (reachedBy table state ks)))
-      (start-bare none E) p (suc j) (suc k) (omega arith) (omega arith) (λ q. n (omega arith))
+      (started-bare tb (portsAnd tb none) E) p (suc j) (suc k) (omega arith) (omega arith) (λ q. n (omega arith))

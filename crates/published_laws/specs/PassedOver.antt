@@ -68,7 +68,7 @@ module _ (tb : Table) (g : Granted tb) (rd : Readable tb) (s : State) (o : Order
         others-silent tb g rd s o t l ready b bn Out (channelBy tb s t i) (channel-in tb g rd s o t l ready b bn i m In e) f u (among u (h u (inl refl))) x R
         (rw c at k)
 
-    -- ... and its commitment is the one that the engine's thread has
+    -- the commitment of a branch that is passed over is the one that the engine's thread has
     commits-so : (i : ℕ) → i < branchCount tb (standsAt (thread s t)) → (d : Direction) → actOf tb (branchAt tb (standsAt (thread s t)) i) ≡ Meeting d
         → (Γ : List Commitment) (P : Process) (Q : Sum) (T : Agent)
         → ByCommitment (channelsOf s) Γ (envOf tb (thread s t)) B (prefixOf tb P (branchAt tb (standsAt (thread s t)) i) (Meeting d)) (nextBy i) Q T
@@ -82,7 +82,7 @@ module _ (tb : Table) (g : Granted tb) (rd : Readable tb) (s : State) (o : Order
         let c : ĉ ≡ channelBy tb s t i = same-channel δ (fieldA tb (row i)) ĉ (channelBy tb s t i) q (channel-is tb g rd s o t l ready b bn i m In e) in
         rw c at z
 
-    -- so a branch that does not go ahead is passed over: by (next), or by (out) or (in)
+    -- a branch that does not go ahead is passed over: by (next), or by (out) or (in)
     pub passes-over : (i : ℕ) → Passed tb s t i → i < branchCount tb (standsAt (thread s t)) → (k : Bool) (Γ : List Commitment) (Q : Sum) (T : Agent)
         → BySum (channelsOf s) Γ (envOf tb (thread s t)) B k (tip tb g rd s o t l ready b bn i Q) T
         → ((guardHolds tb (branchAt tb (standsAt (thread s t)) i) (thread s t) ≡ false) × BySum (channelsOf s) Γ (envOf tb (thread s t)) B k Q T)

@@ -69,7 +69,7 @@ module _ (tb : Table) where
       let h = stored-first rows t new (omega arith) u in
       caseB (inUse row) (λ y. rw y (twice (same-first h) swapped)) (λ y. rw y h)
 
-  -- so the thread of any row in use
+  -- the thread of any row in use may be brought to the front
   pub row-first : (rows : List (List ℕ)) (t : ℕ) → t < length rows → inUse (getD rows t []) ≡ true
       → Rearranged (threadsOf tb rows) (threadOf tb (getD rows t []) ∷ threadsOf tb (set rows t freeRow))
   row-first rows t l u =

@@ -58,7 +58,7 @@ module _ (tb : Table) where
       cond (eqb (at tb r Field.action) 5) (constant (widened (fieldB tb r)))
       (cond (eqb (at tb r Field.action) 6) (plus (fieldB tb r) (fieldC tb r)) (minus (fieldB tb r) (fieldC tb r)))
 
-  -- its prefix, by its act, where a child would begin with the process P
+  -- the prefix of the branch in row r, by its act, where a child would begin with the process P
   unfoldable pub prefixOf : Process → ℕ → Act → Prefix
   prefixOf P r Tau = tau
   prefixOf P r (Meeting Out) = output (fieldA tb r) (fieldB tb r)

@@ -193,8 +193,7 @@ module _ (tb : Table) (g : Granted tb) (rd : Readable tb) (s : State) (ok : Soun
       (λ k p y. waits-reduced tb g rd s (ok .orderly) t l ready b bn (OurRules tb) (OurLabels tb) (λ i m f A C x. (x, refl)) k p)
       (λ k (x, before) y. rw (x .does) (assignment-reduced tb g rd s (ok .orderly) t l ready b bn k (x .at-choice) (x .branch-in) before x)) z)
 
-  -- and it is one by 002's rules alone, if it is neither a call of a definition with number locals, nor an assignment, nor a wait with a guard that is false:
-  -- the turn ...
+  -- the turn is one by 002's rules alone, if it is neither a call of a definition with number locals, nor an assignment, nor a wait with a guard that is false
   pub turn-published : Plain tb (thread s t) (move tb s t)
       → TurnBy (bodyOf tb) Nothing nothing-fires (agentOf tb b s) (readyThread tb (thread s t)) (firedBy tb s t (move tb s t))
       (agentOf tb b (written tb s t (move tb s t)))
@@ -205,7 +204,7 @@ module _ (tb : Table) (g : Granted tb) (rd : Readable tb) (s : State) (ok : Soun
       (λ k p z. waits-reduced tb g rd s (ok .orderly) t l ready b bn Nothing nothing-fires (λ i m f A C x. contra (z i m) f) k p)
       (λ k (x, before) z. tau-assignment (actOf tb (branchAt tb (standsAt (thread s t)) k)) z (x .does))
 
-  -- ... and the step
+  -- so is the step, where it is none of these
   pub step-published : Plain tb (thread s t) (move tb s t)
       → SteppedBy (bodyOf tb) Nothing nothing-fires (agentOf tb b s) (threadOf tb (thread s t)) (firedBy tb s t (move tb s t))
       (agentOf tb b (perform tb s t (move tb s t)))

@@ -79,7 +79,7 @@ module _ (tb : Table) (rd : Readable tb) (s : State) (o : Orderly tb s) (t : ℕ
   tells-by n LacksThread x k d e = clash cc
   tells-by n LacksChannel x k d e = clash cc
 
-  -- of the move that thread t makes
+  -- the answer to the step of thread t tells the rule with which its turn ends
   pub answer-tells : (n k : ℕ) (d : Deed) → stepAnswer n (move tb s t) ≡ Stepped.Done k d
       → Tells tb s (perform tb s t (move tb s t)) t d (firedBy tb s t (move tb s t))
   answer-tells n k d e = tells-by n (move tb s t) (chosen tb s t) k d e

@@ -78,7 +78,7 @@ module _ (tb : Table) (g : Granted tb) (rd : Readable tb) (b : Thread) (bn : Ben
   end-turn s t Went = refl
   end-turn s t (Stopped r) = refl
 
-  -- so of the turn that a run takes
+  -- the turn that a run takes is a turn of the next ready thread
   took-turn : (s : State) → Sound tb s → takeTurn tb s .turn ≡ Went
       → SteppedBy (bodyOf tb) (OurRules tb) (OurLabels tb) (agentOf tb b s) (nextHad tb s .who) (nextHad tb s .does) (agentOf tb b (takeTurn tb s .state))
   unfolding takeTurn nextHad

@@ -78,7 +78,7 @@ module _ (tb : Table) (ty : ℕ → ℕ) (d : ℕ) (given : ℕ → ℕ) (g : De
       (λ t. rw t (sound k (ltb-true k (parameters tb d) t) .1))
       (λ f. rw f (blank-sound tb ty d (start tb Nodes d) k (g .first-same) (lacks k l (ltb-false k (parameters tb d) f))))
 
-  -- its words
+  -- the words of the row are those of 32 bits
   row-small : nodes tb ≤ maxNodes → (k : ℕ) → getD (1 ∷ start tb Nodes d ∷ tabulate rowSlots word) k 0 < 4294967296
   row-small h zero = omega arith
   row-small h (suc zero) = omega (arith, g .first-inside)

@@ -152,11 +152,11 @@ module _ (tb : Table) (s : State) (t : ℕ) where
   pub used-stays : (u : ℕ) → inUse (thread s u) ≡ true → elem u (movers t (move tb s t)) ≡ false → thread (perform tb s t (move tb s t)) u ≡ thread s u
   used-stays u h e = frame tb s t u (move tb s t) e (used-old u h (move tb s t) (chosen tb s t))
 
-  -- so has every other ready thread
+  -- every other ready thread has the row that it had
   pub ready-stays : (u : ℕ) → u ≢ t → isReady (thread s u) ≡ true → thread (perform tb s t (move tb s t)) u ≡ thread s u
   ready-stays u n r = used-stays u (ready-used (thread s u) r) (ready-apart u n r (move tb s t) (chosen tb s t))
 
-  -- and every waiting thread that is not met
+  -- every waiting thread that is not met has the row that it had
   pub waiting-stays : (u : ℕ) → isWaiting (thread s u) ≡ true → elem u (movers t (move tb s t)) ≡ false
       → thread (perform tb s t (move tb s t)) u ≡ thread s u
   waiting-stays u w e = used-stays u (waiting-used (thread s u) w) e

@@ -53,7 +53,7 @@ module _ (tb : Table) (row : List ℕ) (used : inUse row ≡ true) where
     unfolding resumed
     resumed-held c h = let o = holds-elim tb (resumed row n) c h in same-slot (resumed row n) same c o (resumed-slot row n (o .slot))
 
-    -- and v is stored in slot k
+    -- it goes on, and v is stored in slot k
     pub stored-held : length row ≡ threadWords → (k v : ℕ) → k < rowSlots → (c : ℕ) → holds tb (stored (resumed row n) k v) c ≡ true
         → ((v ≡ c) × (slotType tb (definitionOf tb (standsAt row)) k ≢ 0)) ⊎ (holds tb row c ≡ true)
     stored-held long k v l c h =
@@ -66,7 +66,7 @@ module _ (tb : Table) (row : List ℕ) (used : inUse row ≡ true) where
         inl (sym e ∙ o .is, λ z. o .typed (rw (d, p) z)))
         (λ q. inr (same-slot new d c o (stored-other (resumed row n) k v (o .slot) (eqb-false (o .slot) k q) ∙ resumed-slot row n (o .slot))))
 
-    -- and it has met, as the side e, somebody who gave v
+    -- it goes on and has met, as the side e, somebody who gave v
     pub met-held : length row ≡ threadWords → (e : Direction) (b v : ℕ) → b < rowSlots → (c : ℕ) → holds tb (met e row n b v) c ≡ true
         → ((v ≡ c) × (slotType tb (definitionOf tb (standsAt row)) b ≢ 0)) ⊎ (holds tb row c ≡ true)
     unfolding met

@@ -63,12 +63,12 @@ pub move-kept : (tb : Table) → Granted tb → (s : State) → Sound tb s → (
 unfolding perform
 move-kept tb g s ok t l r = settle tb g (written tb s t (move tb s t)) (written-orderly tb g s (ok .orderly) t l r (move tb s t) (chosen tb s t))
 
--- so is the state after the environment gives the number v on port p to the thread that is found to receive it
+-- the state after the environment gives the number v on port p to the thread that is found to receive it is sound
 pub give-kept : (tb : Table) → Granted tb → (s : State) → Sound tb s → (p v u j : ℕ) → p < ports tb → v < 4294967296
     → partnerOf tb s bench In p ≡ At u j → Sound tb (metByBench tb s u j v)
 give-kept tb g s ok p v u j l b e = bench-kept tb g s ok In p v u j l b (partner-answers tb s bench In p u j e)
 
--- and after the environment takes a number on port p from the thread that is found to send it
+-- the state after the environment takes a number on port p from the thread that is found to send it is sound
 pub take-kept : (tb : Table) → Granted tb → (s : State) → Sound tb s → (p u j : ℕ) → p < ports tb
     → partnerOf tb s bench Out p ≡ At u j → Sound tb (metByBench tb s u j 0)
 take-kept tb g s ok p u j l e = bench-kept tb g s ok Out p 0 u j l (omega arith) (partner-answers tb s bench Out p u j e)

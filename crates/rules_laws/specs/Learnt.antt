@@ -183,7 +183,7 @@ module _ (tb : Table) (g : Granted tb) (s : State) (ok : Orderly tb s) (t : ℕ)
 -- thread u answers the bench on port p
 module _ (tb : Table) (g : Granted tb) (s : State) (ok : Orderly tb s) (d : Direction) (p u j : ℕ) (port : p < ports tb)
     (a : Answering tb s bench d p u j) where
-  -- its slot is for numbers
+  -- the slot with which thread u meets the bench is for numbers
   pub port-number : slotType tb (definitionOf tb (standsAt (thread s u))) (fieldB tb (branchAt tb (standsAt (thread s u)) j)) ≡ 0
   port-number =
       value-type tb g (typeIn s) (thread s u) (ok .row u (a .thread-in)) (waiting-used (thread s u) (a .waits)) j (a .branch-in) d (a .does)

@@ -64,7 +64,7 @@ module _ (tb : Table) where
       }
 
 module _ (b : List ℕ) (e : accepted b ≡ true) (fit : (i : ℕ) → getD b i 0 < 256) where
-  -- so does the table of a buffer that is accepted
+  -- the table of a buffer that is accepted passes every ground
   pub accepted-passed : Passed (tableOf b)
   unfolding accepted
   accepted-passed =

@@ -52,7 +52,7 @@ module _ (tb : Table) where
     pub port : (c : ℕ) → c < ports tb → typeIn s c ≡ 1
     pub apart : Apart tb (s .threads)
 
-  -- and its channel rows are those that a count over the threads gives
+  -- a sound state is orderly, and its channel rows are those that a count over the threads gives
   pub record Sound (s : State) : Type 0 where
     pub orderly : Orderly s
     pub counts : settled tb s ≡ s

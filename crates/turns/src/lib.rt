@@ -6,7 +6,7 @@ ghost use mathlib.Core.Logic.{_≢_};
 ghost use Prim.Native.Nat.{_<_};
 ghost use Rattle.table.specs.Table.{tableOf};
 ghost use Rattle.table.specs.Index.{Indexed};
-ghost use Rattle.state.specs.State.{stateOf, thread, isReady};
+ghost use Rattle.state.specs.State.{maxThreads, maxChannels, stateOf, thread, isReady};
 ghost use Rattle.rules.specs.Holding.{settled};
 ghost use Rattle.rules.specs.Moves.{move, metByBench};
 ghost use Rattle.rules.specs.Calls.{stepAnswer, reasonFor, turnBy};
@@ -25,10 +25,9 @@ use rules::Reason;
 use rules::Refusal;
 use rules::Stepped;
 use rules::Turn;
+use table::field;
 
-const MAX_THREADS: u32 = 64;
-
-const CHANNELS: usize = 128;
+const CHANNELS: usize = state::CHANNELS as usize;
 
 // What a turn came to, the move that was decided, and a number from which on no thread row is in use after it.
 pub struct Round {
@@ -41,7 +40,7 @@ pub struct Round {
 fn make_end(table: &[u8], index: &[u32], state: &mut [u32; state::WORDS], t: u32)
     requires { ⌜ Indexed (tableOf (now table)) (now index) ⌝ }
     requires { ⌜ Counted (tableOf (now table)) (stateOf (now state)) ⌝ }
-    requires { ⌜ t < 64 ⌝ }
+    requires { ⌜ t < maxThreads ⌝ }
     ensures { λ _. ⌜ MoveMade (tableOf (now (table .entry))) (stateOf (now (state .entry))) t Ends (stateOf (now (state .exit))) ⌝ }
 {
     let mut old = [0u8; holding::LIST];
@@ -54,7 +53,7 @@ fn make_end(table: &[u8], index: &[u32], state: &mut [u32; state::WORDS], t: u32
 fn make_call(table: &[u8], index: &[u32], state: &mut [u32; state::WORDS], t: u32)
     requires { ⌜ Indexed (tableOf (now table)) (now index) ⌝ }
     requires { ⌜ Counted (tableOf (now table)) (stateOf (now state)) ⌝ }
-    requires { ⌜ t < 64 ⌝ }
+    requires { ⌜ t < maxThreads ⌝ }
     requires { ⌜ isReady (thread (stateOf (now state)) t) ≡ true ⌝ }
     ensures { λ _. ⌜ MoveMade (tableOf (now (table .entry))) (stateOf (now (state .entry))) t Calls (stateOf (now (state .exit))) ⌝ }
 {
@@ -80,8 +79,8 @@ fn make_channel(
 )
     requires { ⌜ Indexed (tableOf (now table)) (now index) ⌝ }
     requires { ⌜ Counted (tableOf (now table)) (stateOf (now state)) ⌝ }
-    requires { ⌜ t < 64 ⌝ }
-    requires { ⌜ c < 128 ⌝ }
+    requires { ⌜ t < maxThreads ⌝ }
+    requires { ⌜ c < maxChannels ⌝ }
     ensures { λ _. ⌜ MoveMade (tableOf (now (table .entry))) (stateOf (now (state .entry))) t (Creates i c) (stateOf (now (state .exit))) ⌝ }
 {
     let mut old = [0u8; holding::LIST];
@@ -94,8 +93,8 @@ fn make_channel(
 fn make_child(table: &[u8], index: &[u32], state: &mut [u32; state::WORDS], t: u32, i: u32, u: u32)
     requires { ⌜ Indexed (tableOf (now table)) (now index) ⌝ }
     requires { ⌜ Counted (tableOf (now table)) (stateOf (now state)) ⌝ }
-    requires { ⌜ t < 64 ⌝ }
-    requires { ⌜ u < 64 ⌝ }
+    requires { ⌜ t < maxThreads ⌝ }
+    requires { ⌜ u < maxThreads ⌝ }
     requires { ⌜ u ≢ t ⌝ }
     ensures { λ _. ⌜ MoveMade (tableOf (now (table .entry))) (stateOf (now (state .entry))) t (Spawns i u) (stateOf (now (state .exit))) ⌝ }
 {
@@ -124,7 +123,8 @@ fn passes_number(table: &[u8], index: &[u32], state: &[u32; state::WORDS], t: u3
 {
     let node = thread_rows::stands_at(state, t);
     let row = program::branch_at(table, index, node, i);
-    program::type_at(table, index, node, table::cell_of(table, index, row, 6)) == 0
+    let value = table::cell_of(table, index, row, field::B);
+    program::type_at(table, index, node, value) == 0
 }
 
 // Threads t and u meet by their branches i and j. Where a number is given, both hold what they held, and no count of holders changes.
@@ -167,7 +167,7 @@ fn make_meeting(
 // Thread t, which is ready, makes the move that was decided; one that lacks a row changes nothing.
 fn make_move(table: &[u8], index: &[u32], state: &mut [u32; state::WORDS], t: u32, m: Move)
     requires { ⌜ Running (tableOf (now table)) (now index) (stateOf (now state)) ⌝ }
-    requires { ⌜ t < 64 ⌝ }
+    requires { ⌜ t < maxThreads ⌝ }
     requires { ⌜ isReady (thread (stateOf (now state)) t) ≡ true ⌝ }
     requires { ⌜ m ≡ move (tableOf (now table)) (stateOf (now state)) t ⌝ }
     ensures { λ _. ⌜ MoveMade (tableOf (now (table .entry))) (stateOf (now (state .entry))) t m (stateOf (now (state .exit))) ⌝ }
@@ -195,7 +195,7 @@ pub fn make_met(
     v: u32,
 )
     requires { ⌜ Indexed (tableOf (now table)) (now index) ⌝ }
-    requires { ⌜ u < 64 ⌝ }
+    requires { ⌜ u < maxThreads ⌝ }
     requires { ⌜ Granted (tableOf (now table)) ⌝ }
     requires { ⌜ Sound (tableOf (now table)) (stateOf (now state)) ⌝ }
     requires { ⌜ AtPort (tableOf (now table)) (stateOf (now state)) u j ⌝ }
@@ -280,13 +280,13 @@ pub fn turn_of(
 ) -> Round
     requires { ⌜ Running (tableOf (now table)) (now index) (stateOf (now state)) ⌝ }
     requires { ⌜ UsedBelow (stateOf (now state)) top ⌝ }
-    requires { ⌜ t < 64 ⌝ }
+    requires { ⌜ t < maxThreads ⌝ }
     requires { ⌜ isReady (thread (stateOf (now state)) t) ≡ true ⌝ }
     ensures { λ r. ⌜ TurnTaken (tableOf (now (table .entry))) (now (index .entry)) (stateOf (now (state .entry))) t r (stateOf (now (state .exit))) ⌝ }
 {
     let m = decision::decide(table, index, state, t, top);
     make_move(table, index, state, t, m);
-    state::put_mark(state, 2, next_rows::one_up(MAX_THREADS, t));
+    state::put_mark(state, state::TURN, next_rows::one_up(state::THREADS, t));
     let turn = turn_by(t, m);
     Round {
         turn: turn,
@@ -304,10 +304,10 @@ fn word_of(n: u8) -> u32
 
 // Every channel gets its count of waiting holders from a list.
 fn put_waiting(state: &mut [u32; state::WORDS], waiting: &[u8; CHANNELS])
-    ensures { λ _. ⌜ stateOf (now (state .exit)) ≡ weighed (now (waiting .entry)) (stateOf (now (state .entry))) 128 ⌝ }
+    ensures { λ _. ⌜ stateOf (now (state .exit)) ≡ weighed (now (waiting .entry)) (stateOf (now (state .entry))) maxChannels ⌝ }
 {
     for c in 0..CHANNELS {
-        state::put_channel(state, c, 2, word_of(waiting[c]));
+        state::put_channel(state, c, state::WAITERS, word_of(waiting[c]));
     }
 }
 

@@ -11,21 +11,20 @@ use lib.ListN.{length, getD, take, drop, length-append}
 use lib.Seq.{sets}
 use borrow.Author.Tests.{eq-eqb}
 use Rattle.numbers.specs.Bytes.{joined}
-use Rattle.numbers.specs.Bytes.Laws.{bytes-fit, encode-below}
+use Rattle.numbers.specs.Bytes.Laws.{bytes-fit}
 use Rattle.numbers.specs.Search.{tabulate}
 use Rattle.numbers.specs.Search.Laws.{caseB, tabulate-none, tabulate-suc}
 use Rattle.table.specs.Table.{Table, tableOf}
 use Rattle.table.specs.Index.{Indexed}
 use Rattle.loader.specs.File.{fileTable}
 use Rattle.loader.specs.Verdict.{groundNumber, verdict}
-use Rattle.loader.specs.Load.{tableLength, tableBytes, Outcome, outcome, afterVerdict, loaded, accepted}
+use Rattle.loader.specs.Load.{tableLength, Outcome, outcome, afterVerdict, loaded, accepted}
 use Rattle.loader.specs.declared.Ground.{Ground}
 use Rattle.loader.specs.declared.Verdict.{Verdict}
 use Rattle.loader.specs.declared.Verdict.the-variants.{Sound, Fault}
 use Rattle.loader.specs.declared.Loaded.{Loaded}
 use Rattle.loader.specs.declared.Loaded.the-variants.{Done, FileRefused, WrongLength}
-use Rattle.loader_laws.specs.PrintedFile.{sound-bytes}
-use Rattle.loader_laws.specs.Yields.{file-shaped, bytes-hold, done-sound, accepted-iff}
+use Rattle.loader_laws.specs.Yields.{file-shaped, bytes-hold, done-sound, file-accepted}
 use Rattle.state.specs.State.{State, maxThreads, thread, standsAt}
 use Rattle.rules.specs.Holding.{settled}
 use Rattle.rules.specs.Start.{started}
@@ -197,10 +196,7 @@ module _ (file b : List ℕ) where
     length-never h k = long-enough h (verdict file) (answer WrongLength k)
 
     pub done-accepted : a ≡ Done → accepted b₁ ≡ true
-    unfolding tableBytes
-    done-accepted h =
-        let d = done-sound file b b₁ (rw h at (sym e)) in
-        accepted-iff b₁ (λ i. rw (← d .1) (encode-below 2 (joined (fileTable file)) i)) .1 (file, b, sound-bytes file (d .0), rw h at (sym e))
+    done-accepted h = let (v, q) = done-sound file b b₁ (rw h at (sym e)) in rw (← q) (file-accepted file v)
 
     done-lists : a ≡ Done → runLines (tableOf b₁) ≡ listing file
     unfolding listing listingBy

@@ -1,12 +1,12 @@
 -- The laws of `count`. Assumes nothing.
 use Prim.Native.Nat.{ℕ, zero, suc, _+_, _≤_, _<_}
 use native.Mathlib.Omega.{arith}
-use mathlib.Core.Path.{_≡_, refl, sym, _∙_, ap}
+use mathlib.Core.Path.{_≡_, sym, _∙_, ap}
 use mathlib.Core.Bool.{Bool, true, false, _&&_}
 use mathlib.Core.List.{List, [], _∷_}
 use lib.ListN.{length, getD, set}
 use Rattle.numbers.specs.Search.{sumTo}
-use Rattle.numbers.specs.Search.Laws.{sum-none, sum-suc, caseB, contra}
+use Rattle.numbers.specs.Search.Laws.{sum-none, sum-suc, caseB}
 use Rattle.numbers.specs.Count.{bit, count}
 
 pub bit-le : (b : Bool) → bit b ≤ 1
@@ -18,11 +18,6 @@ pub bit-and-le : (a b : Bool) → bit (a && b) ≤ bit b
 unfolding bit
 bit-and-le true b = omega arith
 bit-and-le false b = omega arith
-
-pub bit-yes : (b : Bool) → 0 < bit b → b ≡ true
-unfolding bit
-bit-yes true h = refl
-bit-yes false h = absurd (omega arith)
 
 module _ {ℓ} {A : Type ℓ} (p : A → Bool) where
   pub count-le : (xs : List A) → count p xs ≤ length xs
@@ -61,8 +56,3 @@ module _ {ℓ} {A : Type ℓ} (p : A → Bool) where
   count-pos [] d i h e = absurd (omega arith)
   count-pos (x ∷ xs) d zero h e = rw e (omega arith)
   count-pos (x ∷ xs) d (suc i) h e = omega (arith, count-pos xs d i (omega arith) e)
-
-pub count-cong {ℓ} : {A : Type ℓ} (p q : A → Bool) (xs : List A) → ((x : A) → p x ≡ q x) → count p xs ≡ count q xs
-unfolding count
-count-cong p q [] h = refl
-count-cong p q (x ∷ xs) h = rw (h x, count-cong p q xs h)

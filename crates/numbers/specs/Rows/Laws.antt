@@ -5,7 +5,7 @@ use native.Mathlib.Nat.{zero-mul, zero-add, min-eq-left, mul-le-mul-right}
 use mathlib.Core.Path.{_≡_, refl, _∙_, ap}
 use mathlib.Core.List.{List, [], _∷_, _++_}
 use mathlib.Core.Logic.{_≢_}
-use lib.ListN.{length, getD, set, take, drop, List·getD-eq-default, length-take, length-drop, length-set}
+use lib.ListN.{length, getD, set, take, drop, List·getD-eq-default, length-take, length-drop}
 use lib.Seq.{getD-take, getD-drop, drop-drop, take-at, drop-at, take-set-lt, take-set-le, drop-set-lt, drop-set-add, set-out, set-getD, getD-set-same, getD-set-other, sets, sets-eq}
 use Rattle.numbers.specs.Rows.{rows, at, put}
 
@@ -105,13 +105,6 @@ at-put-same r t k v h j =
 
 pub at-put-row : (r : List (List ℕ)) (t k v u j : ℕ) → u ≢ t → at (put r t k v) u j ≡ at r u j
 at-put-row r t k v u j n = rw (getD-set-other r t u (set (getD r t []) k v) [] n)
-
-pub at-put-other : (r : List (List ℕ)) (t k v j : ℕ) → t < length r → j ≢ k → at (put r t k v) t j ≡ at r t j
-at-put-other r t k v j h n =
-    rw (getD-set-same r t (set (getD r t []) k v) [] h) (getD-set-other (getD r t []) k j v 0 n)
-
-pub length-put : (r : List (List ℕ)) (t k v : ℕ) → length (put r t k v) ≡ length r
-length-put r t k v = length-set r t (set (getD r t []) k v)
 
 pub length-row : (n w : ℕ) (l : List ℕ) (t : ℕ) → t < n → n * w ≤ length l → length (getD (rows n w l) t []) ≡ w
 length-row n w l t h j =

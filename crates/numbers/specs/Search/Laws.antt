@@ -202,8 +202,6 @@ pub some-cong : (p q : ℕ → Bool) (n : ℕ) → ((i : ℕ) → i < n → p i 
 unfolding some
 some-cong p q n h = rw (first-cong p q n h)
 
-pub ruleset first-laws = (first-none, first-more, first-hit, first-all)
-
 -- ---- sums
 
 module _ (f : ℕ → ℕ) where

@@ -86,7 +86,7 @@ module _ (s : State) (h : Shaped s) where
       let l = length-append (joined (s .threads)) (joined (s .channels)) in
       omega (arith, length-encode 4 (s .marks ++ m), length-append (s .marks) m, l, h .three-marks, thread-words, channel-words)
 
-  -- its words are those of the buffer
+  -- the words of the bytes are those of the state, one after the other
   words-of : words (stateBytes s) ≡ s .marks ++ (joined (s .threads) ++ joined (s .channels))
   unfolding stateBytes
   words-of =

@@ -104,7 +104,7 @@ module _ (tb : Table) (s : State) (h : Sound tb s) (c : ℕ) (l : c < maxChannel
   uncounted-free : countOf tb (s .threads) c ≡ 0 → typeIn s c ≡ 0
   uncounted-free e = ap (λ (r : List ℕ). getD r 0 0) counted-row ∙ free-word (typeIn s c) (countOf tb (s .threads) c) (waiters tb (s .threads) c) e
 
-  -- and the channel is in use exactly if its count is above 0
+  -- a channel is in use exactly if its count is above 0
   pub used-exactly : (typeIn s c ≢ 0) ↔ (0 < countOf tb (s .threads) c)
   used-exactly =
       let n = countOf tb (s .threads) c in

@@ -77,7 +77,7 @@ module _ (tb : Table) (s : State) (e : sound tb s ≡ true) where
 pub sound-elim : (tb : Table) (s : State) → Shaped s → sound tb s ≡ true → Sound tb s
 sound-elim tb s h e = record { orderly = orderly-elim tb s e h; counts = true-settled tb s h (counts-tested tb s e) }
 
--- its channel rows are settled, and no two of its waiting threads could meet
+-- the channel rows of a sound state are settled, and no two of its waiting threads could meet
 module _ (tb : Table) (s : State) (h : Sound tb s) where
   pub sound-settled : settled tb s ≡ s
   sound-settled = h .counts

@@ -147,7 +147,7 @@ module _ (tb : Table) (s : State) (row : List ℕ) where
         (every-elim (λ i. typeTest tb (typeIn s) n i (v i)) rowSlots k (rw u at (t .typed)) l)
         (every-elim (λ i. fillTest tb (typeIn s) n i (v i)) rowSlots k (rw u at (t .filled-in)) l)
 
-  -- and a sound row passes them
+  -- a sound row passes each of the tests that ask one row alone
   module _ (r : RowSound tb (typeIn s) row) where
     in-range-intro : rowInRange tb row ≡ true
     unfolding rowInRange

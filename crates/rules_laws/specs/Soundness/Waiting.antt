@@ -84,7 +84,7 @@ module _ (tb : Table) (s : State) (t : ℕ) where
     stays i l =
         caseB (guardHolds tb (branchAt tb (standsAt (thread s t)) i) (thread s t)) (λ g. rw (open-stays i l g)) (λ g. rw (guarded-stays i g))
 
-  -- and a thread that is blocked where it waits passes the test
+  -- a thread that is blocked where it waits passes the test of a thread that waits
   pub blocked-rightly : (isWaiting (thread s t) ≡ true → Blocked tb s t) → waitsRightly tb s t ≡ true
   unfolding waitsRightly
   blocked-rightly h =

@@ -1,4 +1,5 @@
--- The laws of the printed form: a field that is read as a number is its text, and a text is read as its number; so too for lines and files.
+-- The laws of the printed form: a field that is read as a number is its text, and a text is read as its number; and the text of a line or a file is what is
+-- read as its numbers, field by field.
 -- Assumes nothing.
 use Prim.Native.Nat.{ℕ, zero, suc, _+_, _-_, _*_, _/_, _%_, _<_, _≤_}
 use native.Mathlib.Omega.{arith}
@@ -207,7 +208,7 @@ module _ (f : List ℕ) where
   pub reads-wrong : readNumber f ≡ Wrong → (v : ℕ) → v < 65536 → f ≡ text v → ⊥
   reads-wrong h v l e = let k = text-reads f v l e in let z : _≡_ {A = ℕ} 0 1 = cc in omega arith
 
-  -- and the text of no number is wrong
+  -- a field that is the text of no number is read as wrong
   pub wrong-reads : ((v : ℕ) → v < 65536 → f ≡ text v → ⊥) → readNumber f ≡ Wrong
   unfolding readNumber
   wrong-reads h =
@@ -237,7 +238,7 @@ module _ {A : Type 0} (f : A → List ℕ) (w : ℕ) (d : A) where
       let e : suc i * w ≡ length (f a) + i * w = omega (arith, h 0 (omega arith)) in
       rw (e, drop-append-add (f a) (joined (map f l)) (i * w)) (joined-piece l (λ j m. h (suc j) (omega arith)) i (omega arith))
 
-  -- and pieces that are found make the whole
+  -- a list whose pieces are those of the parts is the parts, joined
   pub joined-whole : (l : List A) (b : List ℕ) → length b ≡ length l * w → ((i : ℕ) → i < length l → take w (drop (i * w) b) ≡ f (getD l i d)) → b ≡ joined (map f l)
   unfolding joined
   joined-whole [] [] e h = refl
@@ -277,7 +278,7 @@ module _ (row : List ℕ) (twelve : length row ≡ 12) where
       )
       (joined-piece text 6 0 row (λ i k. length-text (getD row i 0)) j (omega arith))
 
-  -- and it ends with a newline
+  -- a line ends with a newline
   pub line-end : getD (lineText row) 72 0 ≡ 10
   unfolding lineText
   line-end = getD-at (joined (map text row)) 10 [] 0 72 length-fields
@@ -293,7 +294,7 @@ module _ (row : List ℕ) (twelve : length row ≡ 12) where
       front : (j : ℕ) → j < length row → take 6 (drop (j * 6) (take 72 b)) ≡ text (getD row j 0)
       front j k = rw (part-of-front (j * 6) 6 72 b (omega arith)) (h j (omega arith))
 
-  -- so is one whose fields are read as its numbers
+  -- a line whose fields are read as the numbers of a row is the text of the row
   pub line-reads : (b : List ℕ) → length b ≡ 73 → ((j : ℕ) → j < 12 → readNumber (take 6 (drop (j * 6) b)) ≡ Value (getD row j 0)) → getD b 72 0 ≡ 10 → b ≡ lineText row
   line-reads b e h n = line-is b e (λ j k. reads-value (take 6 (drop (j * 6) b)) (getD row j 0) (h j k) .1) n
 
@@ -328,11 +329,11 @@ module _ (rs : List (List ℕ)) (twelve : (i : ℕ) → i < length rs → length
   unfolding fileText
   file-line i h = joined-piece lineText 73 [] rs (λ k l. length-line (getD rs k []) (twelve k l)) i h
 
-  -- its fields are the texts of its numbers
+  -- the fields of a file are the texts of its numbers
   pub file-field : (i j : ℕ) → i < length rs → j < 12 → fieldOf (fileText rs) i j ≡ text (at rs i j)
   file-field i j h k = sym (field-in-line (fileText rs) i j k) ∙ rw (file-line i h) (line-field (getD rs i []) (twelve i h) j k)
 
-  -- and so are read as these
+  -- the fields of a file are read as its numbers
   pub prints-read : (i j : ℕ) → i < length rs → j < 12 → at rs i j < 65536 → readNumber (fieldOf (fileText rs) i j) ≡ Value (at rs i j)
   prints-read i j h k l = rw (file-field i j h k) (reads-text (at rs i j) l)
 

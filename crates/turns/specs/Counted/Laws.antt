@@ -124,7 +124,7 @@ module _ (tb : Table) (x : State) (chs : List (List ℕ)) (e : Alike (x .channel
   pub same-settled : settled tb x ≡ settled tb (withChannels x chs)
   unfolding settled withChannels recount
   same-settled =
-      ap {B = State} (λ (y : List (List ℕ)). record { marks = x .marks; threads = x .threads; channels = y })
+      ap (withChannels x)
       (tabulate-cong 128 (λ c. channelRow (at (x .channels) c 0) (countOf tb (x .threads) c) (waiters tb (x .threads) c)) (λ c. channelRow (at chs c 0) (countOf tb (x .threads) c) (waiters tb (x .threads) c))
       (λ c h. rw (type-alike (x .channels) chs e c h)))
 
@@ -371,7 +371,7 @@ unfolding weighed Counted Alike settled withChannels recount
 settled-last tb b long e l s₁ f g =
     let s = stateOf b in
     let row : ℕ → List ℕ = λ c. channelRow (typeIn s c) (countOf tb (s .threads) c) (waiters tb (s .threads) c) in
-    f ∙ ap {B = State} (λ (y : List (List ℕ)). record { marks = s .marks; threads = s .threads; channels = y })
+    f ∙ ap (withChannels s)
     (is-tabulate (weighedTo l (s .channels) 128) 128 row [] (length-weighed l (s .channels) 128 ∙ e .0)
     (λ c h. weighed-row l (s .channels) 128 c h (omega (arith, e .0))
     ∙ rw (g, getD-tabulate 128 c (waiters tb (s .threads)) 0 h)

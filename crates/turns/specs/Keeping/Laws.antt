@@ -9,6 +9,7 @@ use lib.Dec.{eqb}
 use lib.ListN.{length}
 use borrow.Author.Tests.{eqb-true}
 use Rattle.numbers.specs.Rows.{at}
+use Rattle.table.specs.Fields as Field
 use Rattle.table.specs.Table.{Table, ports, carried}
 use Rattle.table.specs.Layout.{branchCount, definitionOf, slotType}
 use Rattle.state.specs.State.{State, stateOf, thread, standsAt, slotOf, inUse, isReady, typeIn, withThread, withChannels}
@@ -42,7 +43,7 @@ use Rattle.turns.specs.HeldStill.{waiting-holds, resumed-holds, stored-h
 use Rattle.turns.specs.Keeping.{numberBy, CanMeet, AtPort}
 
 -- the type ty of the slot k with which branch i, in row a of the table, gives or receives, read at node n
-pub number-read : (tb : Table) (row : List ℕ) (i n a k ty : ℕ) → ty ≡ typeAt tb n k → k ≡ at tb a 6 → a ≡ branchAt tb n i → n ≡ standsAt row → eqb ty 0 ≡ numberBy tb row i
+pub number-read : (tb : Table) (row : List ℕ) (i n a k ty : ℕ) → ty ≡ typeAt tb n k → k ≡ at tb a Field.b → a ≡ branchAt tb n i → n ≡ standsAt row → eqb ty 0 ≡ numberBy tb row i
 unfolding numberBy
 number-read tb row i n a k ty e f g h = rw (e, f, g, h)
 
