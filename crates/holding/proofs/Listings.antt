@@ -15,7 +15,7 @@ use Rattle.table.specs.Fields as Field
 use Rattle.table.specs.Table.{Table, slotRow, slotCount}
 use Rattle.table.specs.Layout.{start, definitionOf}
 use Rattle.table.specs.declared.Part.the-variants.{Slots}
-use Rattle.state.specs.State.{slotOf, status, isWaiting}
+use Rattle.state.specs.State.{slotOf, status, standsAt, isWaiting}
 use Rattle.holding.specs.Own.{room, ownList, ownRoom}
 use Rattle.holding.specs.Own.Listing.{listed, ownBy, listedTo}
 use Rattle.holding.specs.Own.Listing.Laws.{listed-own}
@@ -86,6 +86,16 @@ module _ (tb : Table) (s d : ℕ) where
     pub room-many : 16 ≤ n → 16 ≡ room tb s d
     unfolding room
     room-many h = rw (ne-eqb s 0 e, ← f, le-ltb n 16 h)
+
+-- own_channels of a free row: s is the row's status
+module _ (tb : Table) (row : List ℕ) (s : ℕ) (e : s ≡ status row) (f : s ≡ 0) where
+  pub free-room-is : 0 ≡ ownRoom tb row
+  unfolding ownRoom room
+  free-room-is = rw (← e, f)
+
+  pub free-list-is : replicate 16 128 ≡ ownList tb row
+  unfolding listedTo
+  free-list-is = rw (← free-room-is) at (listed-own tb row (slotRow tb + start tb Slots (definitionOf tb (standsAt row))) refl)
 
 -- own_channels: s and x are the row's status and node
 module _ (tb : Table) (row : List ℕ) (s x d n : ℕ) (e : s ≡ status row) (g : x ≡ getD row 1 0) (h : d ≡ definitionOf tb x) (j : n ≡ room tb s d) where

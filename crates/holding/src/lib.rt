@@ -108,6 +108,9 @@ pub fn own_channels(
 {
     *list = [state::NO_CHANNEL; LIST];
     let status = state::thread_word(state, t as usize, state::STATUS);
+    if status == state::FREE {
+        return 0;
+    }
     let d = program::definition_of(
         table,
         index,
