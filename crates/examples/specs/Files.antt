@@ -12,7 +12,7 @@ use Rattle.numbers.specs.Search.Laws.{every-elim}
 use Rattle.numbers.specs.Tests.{and-left, and-right}
 use Rattle.text.specs.Text.{fileText}
 use Rattle.table.specs.Table.{Table, maxRows, rowNumbers, tableOf}
-use Rattle.loader.specs.File.{fileTable}
+use Rattle.file.specs.File.{fileTable}
 use Rattle.loader.specs.Verdict.{judged, verdict, isSound}
 use Rattle.loader.specs.Load.{tableLength, tableBytes, outcome, loaded, accepted}
 use Rattle.loader.specs.declared.Loaded.the-variants.{Done}

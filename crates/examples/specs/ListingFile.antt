@@ -13,7 +13,7 @@ use Rattle.text.specs.Text.{figuresBy, figures, numeral, rightJustified, text, 
 use Rattle.text.specs.Text.Laws.{text-reads}
 use Rattle.text.specs.declared.Reading.the-variants.{Value}
 use Rattle.table.specs.Table.{Table}
-use Rattle.loader.specs.File.{isValue, valueOf, notLines, fieldIsNumber, wellFormed, malformed, numberAt, rowAt, fileTable}
+use Rattle.file.specs.File.{isValue, valueOf, notLines, fieldIsNumber, wellFormed, malformed, numberAt, rowAt, fileTable}
 use Rattle.loader.specs.Verdict.{atFault, verdict}
 use Rattle.loader.specs.declared.Ground.{Ground}
 use Rattle.loader.specs.declared.Ground.the-variants.{Lines, Field, Header, Total, Kind, Sums, Range, Types, Unwritten, Unreachable}

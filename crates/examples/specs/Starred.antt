@@ -7,7 +7,7 @@ use mir.Syntax.{w32}
 use mir.Val.{toZ}
 use Rattle.numbers.specs.Tests.{and-left, and-right}
 use Rattle.text.specs.Text.{fileText}
-use Rattle.loader.specs.File.{fileTable}
+use Rattle.file.specs.File.{fileTable}
 use Rattle.loader.specs.Verdict.{verdict}
 use Rattle.loader.specs.declared.Verdict.the-variants.{Sound}
 use Rattle.examples.specs.Facts.{steps, gives, ready, waits, sends, receives, knows, slot, counted, runs, collects, takes, keeps, frees, Case, case, tableIn, allHold, working}

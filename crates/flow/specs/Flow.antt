@@ -67,10 +67,14 @@ module _ (tb : Table) where
   branchesFollowed n m ms (suc i) =
       branchFollowed (start tb Nodes (definitionOf tb n)) m (branchRow tb + (start tb Branches n + i)) (branchesFollowed n m ms i)
 
+  -- all branches of node n, which has the marks m
+  abbrev pub nodeFollowed : ℕ → List Bool → Marks → Marks
+  nodeFollowed n m ms = branchesFollowed n m ms (branchCount tb n)
+
   -- the nodes below n
   unfoldable pub flowTo : ℕ → Marks
   flowTo zero = beginning
-  flowTo (suc n) = branchesFollowed n (getD (flowTo n) n []) (flowTo n) (branchCount tb n)
+  flowTo (suc n) = nodeFollowed n (getD (flowTo n) n []) (flowTo n)
 
   unfoldable pub flow : Marks
   flow = flowTo (nodes tb)

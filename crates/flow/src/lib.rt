@@ -4,10 +4,10 @@ ghost use mathlib.Core.Path.{_≡_};
 ghost use Prim.Native.Nat.{_+_, _-_, _<_};
 ghost use lib.ListN.{set, replicate};
 ghost use Rattle.table.specs.Table.{maxNodes, tableOf, nodes, branchRow};
-ghost use Rattle.table.specs.Layout.{start, branchCount, definitionOf};
+ghost use Rattle.table.specs.Layout.{start, definitionOf};
 ghost use Rattle.table.specs.Index.{Indexed};
 ghost use Rattle.table.specs.declared.Part.the-variants.{Nodes, Branches};
-ghost use Rattle.flow.specs.Flow.{slotWritten, pastWrite, arrive, beginning, branchFollowed, branchesFollowed, flowTo, flow, marked};
+ghost use Rattle.flow.specs.Flow.{slotWritten, pastWrite, arrive, beginning, branchFollowed, nodeFollowed, flowTo, flow, marked};
 ghost use Rattle.flow.specs.Marks.{bits, marksOf, marksFrom, seed};
 use table::Part;
 use table::field;
@@ -138,7 +138,7 @@ fn first_branch(table: &[u8], index: &[u32], n: u32) -> usize
 // Each branch of node n, which has the marks m, leads on.
 fn follow_branches(table: &[u8], index: &[u32], n: u32, m: u32, marks: &mut [u32])
     requires { ⌜ Indexed (tableOf (now table)) (now index) ⌝ }
-    ensures { λ _. ⌜ marksOf (now (marks .exit)) ≡ branchesFollowed (tableOf (now (table .entry))) n (bits m) (marksOf (now (marks .entry))) (branchCount (tableOf (now (table .entry))) n) ⌝ }
+    ensures { λ _. ⌜ marksOf (now (marks .exit)) ≡ nodeFollowed (tableOf (now (table .entry))) n (bits m) (marksOf (now (marks .entry))) ⌝ }
 {
     let f = first_node(table, index, n);
     let row = first_branch(table, index, n);

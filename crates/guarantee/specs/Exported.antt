@@ -14,7 +14,7 @@ use mir.Val.{toZ, ofZ}
 use mir.Facts.{toZ-pos, ofZ-toZ}
 use borrow.Author.Tests.{eqb-true}
 use Rattle.numbers.specs.Search.Laws.{caseB}
-use Rattle.loader.specs.File.{fileTable}
+use Rattle.file.specs.File.{fileTable}
 use Rattle.loader.specs.Verdict.{groundNumber, verdict}
 use Rattle.loader.specs.Load as Load
 use Rattle.loader.specs.Load.{tableLength, tableBytes, loaded, afterVerdict}

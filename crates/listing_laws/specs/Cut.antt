@@ -9,7 +9,7 @@ use lib.ListN.{length, take}
 use lib.Seq.{length-take-le}
 use borrow.Author.Tests.{leb-true, ne-eqb}
 use Rattle.numbers.specs.Search.Laws.{caseB}
-use Rattle.loader.specs.File.{notLines}
+use Rattle.file.specs.File.{notLines}
 use Rattle.loader.specs.Verdict.{verdict}
 use Rattle.listing_text.specs.Listing.{listingBy, listing}
 

@@ -16,7 +16,7 @@ use Rattle.numbers.specs.Search.Laws.{caseB, sum-none, sum-suc}
 use Rattle.text.specs.Text.{figuresBy, figures, numeral, rightJustified, text}
 use Rattle.table.specs.Table.{Table, nodes}
 use Rattle.table.specs.Layout.{branchCount}
-use Rattle.loader.specs.File.{lineCount, fileTable}
+use Rattle.file.specs.File.{lineCount, fileTable}
 use Rattle.loader.specs.Verdict.{groundNumber, verdict}
 use Rattle.loader.specs.declared.Ground.{Ground}
 use Rattle.loader.specs.declared.Verdict.the-variants as Verdict

@@ -5,7 +5,7 @@ use mathlib.Core.List.{List, [], _∷_, _++_}
 use Rattle.numbers.specs.Bytes.{joined}
 use Rattle.numbers.specs.Search.{tabulate}
 use Rattle.table.specs.Table.{Table}
-use Rattle.loader.specs.File.{fileTable}
+use Rattle.file.specs.File.{fileTable}
 use Rattle.loader.specs.Verdict.{groundNumber, verdict}
 use Rattle.loader.specs.declared.Verdict.{Verdict}
 use Rattle.loader.specs.declared.Verdict.the-variants.{Sound, Fault}

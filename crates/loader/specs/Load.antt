@@ -8,7 +8,7 @@ use lib.ListN.{length}
 use Rattle.numbers.specs.Bytes.{encode, joined}
 pub use Rattle.table.specs.Table.{tableLength}
 use Rattle.table.specs.Table.{Table, tableOf}
-use Rattle.loader.specs.File.{fileTable}
+use Rattle.file.specs.File.{fileTable}
 use Rattle.loader.specs.Verdict.{groundNumber, verdict, acceptable}
 use Rattle.loader.specs.declared.Verdict.{Verdict}
 use Rattle.loader.specs.declared.Verdict.the-variants.{Sound, Fault}

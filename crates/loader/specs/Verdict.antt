@@ -11,7 +11,7 @@ use Rattle.table.specs.Form.{headerInRange, kindWrong, sumsAgree}
 use Rattle.ranges.specs.Ranges.{outOfRange, restUnused}
 use Rattle.types.specs.Types.{typesDisagree}
 use Rattle.flow.specs.Flow.{readsUnwritten, unreachable}
-use Rattle.loader.specs.File.{lineCount, notLines, malformed, fileTable}
+use Rattle.file.specs.File.{lineCount, notLines, malformed, fileTable}
 use Rattle.loader.specs.declared.Ground.{Ground}
 use Rattle.loader.specs.declared.Ground.the-variants.{Lines, Field, Header, Total, Kind, Sums, Range, Types, Unwritten, Unreachable}
 use Rattle.loader.specs.declared.Verdict.{Verdict}
@@ -35,13 +35,15 @@ unfoldable pub atFault : Ground → (ℕ → Bool) → ℕ → Verdict → Verdi
 atFault g p n v = cond (ltb (first p n) n) (Fault g (suc (first p n))) v
 
 module _ (tb : Table) (n : ℕ) where
-  -- grounds 6 and 7; grounds 4 and on; grounds 3 and on, of a table of n lines
+  -- grounds 6 and 7, of a table of n lines
   unfoldable pub judgedFlow : Verdict
   judgedFlow = atFault Unwritten (readsUnwritten tb) n (atFault Unreachable (unreachable tb) n Sound)
 
+  -- grounds 4 to 7
   unfoldable pub judgedRows : Verdict
   judgedRows = atFault Range (outOfRange tb) n (atFault Types (typesDisagree tb) n judgedFlow)
 
+  -- grounds 3 to 7
   unfoldable pub judged : Verdict
   judged =
       cond (headerInRange tb)
@@ -54,7 +56,7 @@ module _ (tb : Table) (n : ℕ) where
 unfoldable pub verdict : List ℕ → Verdict
 verdict file = cond (notLines file) (Fault Lines 0) (atFault Field (malformed file) (lineCount file) (judged (fileTable file) (lineCount file)))
 
--- ground 9: a table passes when the same verdict finds no fault in it, with the header's number of lines, and the rest is 0
+-- ground 9: a table passes when grounds 3 to 7 find no fault in it, with the header's number of lines, and the rest is 0
 unfoldable pub isSound : Verdict → Bool
 isSound Sound = true
 isSound (Fault g l) = false

@@ -1,19 +1,14 @@
 // Loading a procedure file: grounds 1 to 8, and ground 9 for a table that is handed in.
 ghost use mathlib.Core.Path.{_≡_};
 ghost use mathlib.Core.Bool.{true};
-ghost use Prim.Native.Nat.{_+_, _*_, _≤_, _<_};
+ghost use Prim.Native.Nat.{_≤_};
 ghost use lib.ListN.{length, replicate};
-ghost use Rattle.numbers.specs.Bytes.{shorts};
-ghost use Rattle.numbers.specs.Laid.{laid};
-ghost use Rattle.numbers.specs.Search.{every, first};
-ghost use Rattle.table.specs.Table.{tableOf, maxRows, rowNumbers, tableNumbers, lineTotal};
+ghost use Rattle.numbers.specs.Search.{every};
+ghost use Rattle.table.specs.Table.{tableOf, maxRows, lineTotal};
 ghost use Rattle.table.specs.Index.{indexLength, Indexed};
-ghost use Rattle.loader.specs.File.{lineLength, notLines, wellFormed, malformed, fileTable, numberIn};
+ghost use Rattle.file.specs.File.{fileTable};
 ghost use Rattle.loader.specs.Verdict.{judgedFlow, judgedRows, judged, verdict, restZero};
 ghost use Rattle.loader.specs.Load.{Outcome, loaded, accepted, tableLength};
-use text::Reading;
-
-const LINE: usize = 73;
 
 // Why a file is refused. Ground 3 has its four tests apart, in their order: header, total, kind, sums.
 pub enum Ground {
@@ -40,54 +35,6 @@ pub enum Loaded {
     Done,
     FileRefused(Ground, usize),
     WrongLength,
-}
-
-// The fields of a line, laid into the table behind those of the lines before; whether all of the line is well formed.
-fn read_line(file: &[u8], table: &mut [u8], line: usize) -> bool
-    requires { ⌜ line < maxRows ⌝ }
-    requires { ⌜ line * lineLength + lineLength ≤ length (now file) ⌝ }
-    requires { ⌜ shorts (now table) ≡ laid (numberIn (now file)) (line * rowNumbers) tableNumbers ⌝ }
-    ensures { λ r. ⌜ r ≡ wellFormed (now (file .entry)) line ⌝ }
-    ensures { λ r. ⌜ (r ≡ true → shorts (now (table .exit)) ≡ laid (numberIn (now (file .entry))) (line * rowNumbers + rowNumbers) tableNumbers) ⌝ }
-{
-    for column in 0..table::ROW_NUMBERS {
-        match text::read_field(text::field(file, line, column)) {
-            Reading::Value(v) => numbers::put_short(table, line * table::ROW_NUMBERS + column, v),
-            Reading::Wrong => return false,
-        }
-    }
-    let last = line * LINE + 72;
-    file[last] == 10
-}
-
-// The lines of a file, laid into a table of zeros; the first malformed line, n where there is none.
-fn read_lines(file: &[u8], table: &mut [u8], n: usize) -> usize
-    requires { ⌜ n ≤ maxRows ⌝ }
-    requires { ⌜ n * lineLength ≤ length (now file) ⌝ }
-    requires { ⌜ shorts (now table) ≡ laid (numberIn (now file)) 0 tableNumbers ⌝ }
-    ensures { λ r. ⌜ r ≡ first (malformed (now (file .entry))) n ⌝ }
-    ensures { λ r. ⌜ (r ≡ n → shorts (now (table .exit)) ≡ laid (numberIn (now (file .entry))) (n * rowNumbers) tableNumbers) ⌝ }
-{
-    for line in 0..n {
-        if !read_line(file, table, line) {
-            return line;
-        }
-    }
-    n
-}
-
-// Ground 1: whether the file is anything but 1 to 865 whole lines.
-fn not_lines(file: &[u8]) -> bool
-    ensures { λ r. ⌜ r ≡ notLines (now (file .entry)) ⌝ }
-{
-    let n = file.len() / LINE;
-    if n < 1 {
-        return true;
-    }
-    if n > table::MAX_ROWS {
-        return true;
-    }
-    file.len() % LINE != 0
 }
 
 // The bytes of one buffer into another of the same length.
@@ -164,11 +111,11 @@ fn judge_file(file: &[u8], table: &mut [u8]) -> Verdict
     ensures { λ r. ⌜ r ≡ verdict (now (file .entry)) ⌝ }
     ensures { λ r. ⌜ (r ≡ Verdict.Sound → tableOf (now (table .exit)) ≡ fileTable (now (file .entry))) ⌝ }
 {
-    if not_lines(file) {
+    if file::not_lines(file) {
         return Verdict::Fault(Ground::Lines, 0);
     }
-    let n = file.len() / LINE;
-    let malformed = read_lines(file, table, n);
+    let n = file.len() / file::LINE;
+    let malformed = file::read_lines(file, table, n);
     if malformed < n {
         return Verdict::Fault(Ground::Field, malformed + 1);
     }

@@ -15,7 +15,7 @@ use Rattle.table.specs.Form.{headerInRange, kindWrong, sumsAgree}
 use Rattle.ranges.specs.Ranges.{outOfRange}
 use Rattle.types.specs.Types.{typesDisagree}
 use Rattle.flow.specs.Flow.{readsUnwritten, unreachable}
-use Rattle.loader.specs.File.{lineCount, notLines, malformed, fileTable}
+use Rattle.file.specs.File.{lineCount, notLines, malformed, fileTable}
 use Rattle.loader.specs.Verdict.{groundNumber, atFault, judgedFlow, judgedRows, judged, verdict}
 use Rattle.loader.specs.declared.Ground.{Ground}
 use Rattle.loader.specs.declared.Ground.the-variants.{Lines, Field, Header, Total, Kind, Sums, Range, Types, Unwritten, Unreachable}

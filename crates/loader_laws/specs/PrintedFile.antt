@@ -18,7 +18,7 @@ use Rattle.text.specs.Text.Characters.{Characters, file-fits}
 use Rattle.text.specs.declared.Reading.{Reading}
 use Rattle.text.specs.declared.Reading.the-variants.{Value, Wrong}
 use Rattle.table.specs.Table.{Table, maxRows, rowNumbers}
-use Rattle.loader.specs.File.{isValue, valueOf, lineCount, notLines, fieldIsNumber, wellFormed, malformed, numberAt, rowAt, fileTable}
+use Rattle.file.specs.File.{isValue, valueOf, lineCount, notLines, fieldIsNumber, wellFormed, malformed, numberAt, rowAt, fileTable}
 use Rattle.loader.specs.Verdict.{atFault, judged, verdict}
 use Rattle.loader.specs.Verdict.Laws.{no-sound}
 use Rattle.loader.specs.declared.Ground.{Ground}

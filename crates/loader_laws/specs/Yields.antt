@@ -24,7 +24,7 @@ use Rattle.text.specs.Text.Laws.{reads-value, length-joined}
 use Rattle.text.specs.Text.Characters.{Characters}
 use Rattle.text.specs.declared.Reading.{Reading}
 use Rattle.text.specs.declared.Reading.the-variants.{Value, Wrong}
-use Rattle.loader.specs.File.{lineCount, valueOf, numberAt, fileTable}
+use Rattle.file.specs.File.{lineCount, valueOf, numberAt, fileTable}
 use Rattle.loader.specs.Verdict.{judged, verdict, isSound, restZero, acceptable}
 use Rattle.loader.specs.Verdict.Laws.{no-sound, judged-header}
 use Rattle.loader.specs.Load.{tableLength, tableBytes, Outcome, outcome, afterVerdict, loaded, accepted}

@@ -29,7 +29,7 @@ unfolding afterVerdict lineNumber
 line-few file t (Fault g l) e = fault-line file g l e
 line-few file t Sound e = go (eqb (length t) tableLength)
   where
-    go : (b : Bool) → lineNumber (cond b (outcome Done (tableBytes (Rattle.loader.specs.File.fileTable file))) (outcome WrongLength t) .answer) ≤ 865
+    go : (b : Bool) → lineNumber (cond b (outcome Done (tableBytes (Rattle.file.specs.File.fileTable file))) (outcome WrongLength t) .answer) ≤ 865
     go true = omega arith
     go false = omega arith
 

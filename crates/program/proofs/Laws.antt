@@ -17,8 +17,10 @@ use Rattle.table.specs.Fields as Field
 use Rattle.table.specs.Table.{Table, slotCount}
 use Rattle.table.specs.Layout.{slotType}
 use Rattle.state.specs.State.{slotOf}
-use Rattle.rules.specs.Program.{wrappedSum, wrappedDifference, channelSlot, guardHolds, assigned, opposite}
+use Rattle.rules.specs.Program.{wrappedSum, wrappedDifference, channelSlot, actOf, guardHolds, assigned, opposite}
+use Rattle.rules.specs.declared.Act.the-variants.{Meeting, New, Spawn, Tau, Assignment}
 use Rattle.rules.specs.declared.Direction.{Direction}
+use Rattle.rules.specs.declared.Direction.the-variants.{Out, In}
 
 -- the guard in row r of the table: k is its kind, a and b are its operands, l is the first slot's number
 module _ (tb : Table) (r : ℕ) (row : List ℕ) (k : ℕ) where
@@ -76,6 +78,34 @@ module _ (tb : Table) (r : ℕ) (row : List ℕ) (k a v : ℕ) where
         → k ≡ at tb r Field.action → (k ≡ 5 → ⊥) → (k ≡ 6 → ⊥) → v ≡ assigned tb r row
     unfolding assigned
     assigned-difference h p q f g e n5 n6 = rw (← e, ne-eqb k 5 n5, ne-eqb k 6 n6, h, p, q, f, g)
+
+-- what the branch in row r of the table does: k is its action
+module _ (tb : Table) (r k : ℕ) (e : k ≡ at tb r Field.action) where
+  pub act-send : k ≡ 1 → Meeting Out ≡ actOf tb r
+  unfolding actOf
+  act-send h = rw (← e, h)
+
+  pub act-receive : k ≡ 2 → Meeting In ≡ actOf tb r
+  unfolding actOf
+  act-receive h = rw (← e, h)
+
+  pub act-new : k ≡ 3 → New ≡ actOf tb r
+  unfolding actOf
+  act-new h = rw (← e, h)
+
+  pub act-spawn : k ≡ 4 → Spawn ≡ actOf tb r
+  unfolding actOf
+  act-spawn h = rw (← e, h)
+
+  pub act-tau : k ≡ 0 → Tau ≡ actOf tb r
+  unfolding actOf
+  act-tau h = rw (← e, h)
+
+  pub act-assign : (k ≡ 1 → ⊥) → (k ≡ 2 → ⊥) → (k ≡ 3 → ⊥) → (k ≡ 4 → ⊥) → (k ≡ 0 → ⊥) → Assignment ≡ actOf tb r
+  unfolding actOf
+  act-assign n1 n2 n3 n4 n0 = rw (← e, ne-eqb k 1 n1, ne-eqb k 2 n2, ne-eqb k 3 n3, ne-eqb k 4 n4, ne-eqb k 0 n0)
+
+pub ruleset acts = (act-send, act-receive, act-new, act-spawn, act-tau, act-assign)
 
 pub opposite-arm : (r d e : Direction) → d ≡ e → r ≡ opposite e → r ≡ opposite d
 opposite-arm r d e f g = rw f g

@@ -236,7 +236,7 @@ module _ (def : ℕ → Process) (forNumbers : ℕ → ℕ → Bool) where
   first-branch δ (suc i) r (inl e, x) = contra refl e
   first-branch δ (suc i) r (inr z, x) = absurd z
 
-  -- ... and no other: not by branch 1, whoever waits for what it sends, and by no other rule
+  -- nothing else fires in it: not branch 1, whoever waits for what it sends, and no other rule
   pub twofold-only : {A B : Agent} (δ : Env) (f : Fired) → SteppedBy def (Ours def forNumbers) (ours-fire def forNumbers) A (twofold δ) f B → f .rule ≢ by-zeros
       → (f .branch ≡ 0) × (f .rule ≡ by-step)
   unfolding StandsIn

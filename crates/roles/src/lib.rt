@@ -1,5 +1,7 @@
 // What the operands of a branch are: the role that each guard and each action gives to each of its fields.
 ghost use mathlib.Core.Path.{_≡_};
+ghost use mathlib.Core.Bool.{cond};
+ghost use lib.Dec.{eqb};
 ghost use Prim.Native.Nat.{_<_};
 ghost use Rattle.table.specs.Table.{tableOf};
 ghost use Rattle.table.specs.Roles.{guardRole, actionRole, operandCount, operandPlace, operand, operandRole, reads, writes};
@@ -23,48 +25,37 @@ pub fn guard_role(g: u32, k: u32) -> Role
     Role::ReadNumber
 }
 
+// The one of three roles that operand k has: the first, the second, or the third for all others.
+fn by_place(k: u32, a: Role, b: Role, c: Role) -> Role
+    ensures { λ r. ⌜ r ≡ cond (eqb k 0) a (cond (eqb k 1) b c) ⌝ }
+{
+    if k == 0 {
+        return a;
+    }
+    if k == 1 {
+        return b;
+    }
+    c
+}
+
 // The role of operand k of action a, k being 0, 1, 2 for its fields a, b, c.
 pub fn action_role(a: u32, k: u32) -> Role
     ensures { λ r. ⌜ r ≡ actionRole a k ⌝ }
 {
     if a == 1 {
-        if k == 0 {
-            return Role::ReadChannel;
-        }
-        if k == 1 {
-            return Role::ReadCarried;
-        }
-        return Role::Unused;
+        return by_place(k, Role::ReadChannel, Role::ReadCarried, Role::Unused);
     }
     if a == 2 {
-        if k == 0 {
-            return Role::ReadChannel;
-        }
-        if k == 1 {
-            return Role::WriteCarried;
-        }
-        return Role::Unused;
+        return by_place(k, Role::ReadChannel, Role::WriteCarried, Role::Unused);
     }
     if a == 3 {
-        if k == 0 {
-            return Role::WriteChannel;
-        }
-        return Role::Unused;
+        return by_place(k, Role::WriteChannel, Role::Unused, Role::Unused);
     }
     if a == 5 {
-        if k == 0 {
-            return Role::WriteNumber;
-        }
-        if k == 1 {
-            return Role::Constant;
-        }
-        return Role::Unused;
+        return by_place(k, Role::WriteNumber, Role::Constant, Role::Unused);
     }
     if 5 < a {
-        if k == 0 {
-            return Role::WriteNumber;
-        }
-        return Role::ReadNumber;
+        return by_place(k, Role::WriteNumber, Role::ReadNumber, Role::ReadNumber);
     }
     Role::Unused
 }

@@ -178,7 +178,7 @@ unfoldable pub turnFor : ℕ → Stepped → Turn
 turnFor t (Stepped.Done n d) = Went
 turnFor t (Stepped.Refused r) = Stopped (reasonFor t r)
 
--- ... by its move; from which node it is made does not matter
+-- what a turn of thread t comes to, by its move; from which node the move is made does not matter
 unfoldable pub turnBy : ℕ → Move → Turn
 turnBy t m = turnFor t (stepAnswer 0 m)
 

@@ -27,7 +27,7 @@ module _ (tb : Table) where
   unfoldable pub offersIn : List ℕ → Direction → ℕ → ℕ → Bool
   offersIn row d c r = meets? (actOf tb r) d && (eqb (slotOf row (fieldA tb r)) c && guardHolds tb r row)
 
-  -- so for branch i of the node at which the thread stands
+  -- branch i of the node at which the thread stands is a meeting of direction d on channel c, and its guard is true
   unfoldable pub offersAt : List ℕ → Direction → ℕ → ℕ → Bool
   offersAt row d c i = offersIn row d c (branchAt tb (standsAt row) i)
 

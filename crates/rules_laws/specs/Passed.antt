@@ -19,7 +19,7 @@ use Rattle.table.specs.Form.{kindWrong, sumsAgree}
 use Rattle.ranges.specs.Ranges.{outOfRange}
 use Rattle.types.specs.Types.{typesDisagree}
 use Rattle.flow.specs.Flow.{readsUnwritten, unreachable}
-use Rattle.loader.specs.File.{lineCount}
+use Rattle.file.specs.File.{lineCount}
 use Rattle.loader.specs.Verdict.{atFault, judgedFlow, judgedRows, judged}
 use Rattle.loader.specs.Verdict.Laws.{no-sound, judged-header}
 use Rattle.loader.specs.Load.{tableLength, accepted}

@@ -107,7 +107,7 @@ module _ (tb : Table) (row : List ℕ) (c : ℕ) (h : c < 128) where
       (λ u. rw (u, some-suc (hasAt tb row c) k, own-used k u) (caseB (some (hasAt tb row c) k) (λ e. rw e) (λ e. rw e)))
       (λ n. rw (n, own-free k n) (sym (no-channel c h)))
 
-  -- ... and in numbers: the entries of the list count a channel that is held once, and any other not at all
+  -- the entries of the list count a channel that is held once, and any other not at all
   pub own-counts : (k : ℕ) → bit (holdsTo tb row c (suc k)) ≡ bit (holdsTo tb row c k) + bit (eqb (ownOf tb row k) c)
   unfolding bit
   own-counts k =

@@ -16,7 +16,7 @@ use Rattle.numbers.specs.Search.{tabulate}
 use Rattle.numbers.specs.Search.Laws.{caseB, tabulate-none, tabulate-suc}
 use Rattle.table.specs.Table.{Table, tableOf}
 use Rattle.table.specs.Index.{Indexed}
-use Rattle.loader.specs.File.{fileTable}
+use Rattle.file.specs.File.{fileTable}
 use Rattle.loader.specs.Verdict.{groundNumber, verdict}
 use Rattle.loader.specs.Load.{tableLength, Outcome, outcome, afterVerdict, loaded, accepted}
 use Rattle.loader.specs.declared.Ground.{Ground}

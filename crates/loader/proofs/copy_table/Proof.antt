@@ -3,7 +3,7 @@ use Prim.Native.Nat.{_≤_, _-_}
 use mathlib.Core.Path.{_≡_, refl}
 use borrow.Author.Needs.{needs}
 use lib.ListN.{length, take, length-set}
-use Rattle.loader.specs.File.Laws.{copy-more, copy-all}
+use Rattle.loader.specs.Load.Laws.{copy-more, copy-all}
 use Rattle.loader.proofs.copy_table.Statement.{statement}
 use Rattle.loader.proofs.copy_table.Tie as tie
 

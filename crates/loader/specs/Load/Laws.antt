@@ -1,10 +1,11 @@
--- The table's buffer: zeros before reading, and the bytes of the table that it holds. Assumes nothing.
-use Prim.Native.Nat.{ℕ, _+_, _*_, _≤_}
+-- The table's buffer: zeros before reading, the bytes of the table that it holds, and its copy. Assumes nothing.
+use Prim.Native.Nat.{ℕ, _+_, _*_, _≤_, _<_}
 use native.Mathlib.Omega.{arith}
+use native.Mathlib.Numerals.{add-one}
 use mathlib.Core.Path.{_≡_, sym, _∙_}
 use mathlib.Core.List.{List}
-use lib.ListN.{length, getD, replicate, length-replicate}
-use lib.Seq.{ext-getD, take-all}
+use lib.ListN.{length, getD, set, take, replicate, length-replicate}
+use lib.Seq.{ext-getD, take-suc, take-suc-set, take-all}
 use mir.Syntax.{w8}
 use mir.Val.{Fits}
 use borrow.Author.Tests.{eq-eqb, ne-eqb}
@@ -13,7 +14,7 @@ use Rattle.numbers.specs.Bytes.Laws.{bytes-fit, length-numbers, short-is, joine
 use Rattle.numbers.specs.Laid.{laid}
 use Rattle.numbers.specs.Laid.Laws.{laid-none, zeros-at}
 use Rattle.table.specs.Table.{tableOf}
-use Rattle.loader.specs.File.{fileTable}
+use Rattle.file.specs.File.{fileTable}
 use Rattle.loader.specs.Verdict.{verdict}
 use Rattle.loader.specs.Load.{tableBytes, outcome, afterVerdict, loaded}
 use Rattle.loader.specs.declared.Ground.{Ground}
@@ -44,7 +45,16 @@ table-bytes b h f =
     rw (joined-rows 865 12 (shorts b), take-all (865 * 12) (shorts b) long)
     (encode-numbers 2 b (omega arith) (bytes-fit b f))
 
--- ---- the answers, and the buffer t′ that t has become: the same, where the load is refused
+-- ---- a copy, one element after the other
+
+module _ (from to : List ℕ) (i : ℕ) (long : length to ≡ length from) (e : take i to ≡ take i from) where
+  pub copy-more : (x : ℕ) → x ≡ getD from i 0 → i < length from → take (i + 1) (set to i x) ≡ take (i + 1) from
+  copy-more x f h = rw (f, add-one i, take-suc-set to i (getD from i 0) (omega arith), take-suc from i 0 h, e)
+
+  pub copy-all : length from ≤ i → to ≡ from
+  copy-all h = sym (take-all i to (omega arith)) ∙ e ∙ take-all i from h
+
+-- ---- the answers, and the buffer t′ that t has become, which is t itself where the load is refused
 
 module _ (file t t′ : List ℕ) (v : Verdict) (e : v ≡ verdict file) where
   pub load-refused : (g : Ground) (l : ℕ) → t′ ≡ t → v ≡ Fault g l → outcome (FileRefused g l) t′ ≡ loaded file t

@@ -18,8 +18,8 @@ use Rattle.table.specs.Form.{headerInRange, kindWrong, sumsAgree}
 use Rattle.table.specs.Form.Laws.{header-counts}
 use Rattle.table.specs.Index.{Indexed, indexOf}
 use Rattle.table.specs.Index.Laws.{long-whole}
-use Rattle.loader.specs.File.{lineCount, notLines, malformed, fileTable, numberIn}
-use Rattle.loader.specs.File.Laws.{rows-file}
+use Rattle.file.specs.File.{lineCount, notLines, malformed, fileTable, numberIn}
+use Rattle.file.specs.File.Laws.{rows-file}
 use Rattle.loader.specs.Verdict.{atFault, judgedRows, judged, verdict, isSound, restZero, acceptable}
 use Rattle.loader.specs.Load.{accepted}
 use Rattle.loader.specs.declared.Ground.{Ground}

@@ -25,7 +25,7 @@ use Rattle.table.specs.Form.{within, headerInRange, kindDue, kindWrong, sumAgre
 use Rattle.table.specs.Form.Laws.{within-least, within-most, header-counts}
 use Rattle.table.specs.declared.Part.{Part}
 use Rattle.table.specs.declared.Part.the-variants.{Slots, Nodes, Branches}
-use Rattle.loader.specs.File.{isValue, lineCount, notLines, fieldIsNumber, wellFormed, malformed, fileTable, numberAt}
+use Rattle.file.specs.File.{isValue, lineCount, notLines, fieldIsNumber, wellFormed, malformed, fileTable, numberAt}
 use Rattle.loader_laws.specs.PrintedFile.{lines-lined, field-read, row-read}
 use Rattle.loader_laws.specs.Sums.{sumZ, sum-iff}
 use Rattle.loader_laws.specs.Yields.{Shaped}

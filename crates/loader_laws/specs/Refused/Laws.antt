@@ -17,7 +17,7 @@ use Rattle.table.specs.Form.{headerInRange, kindWrong, sumsAgree}
 use Rattle.ranges.specs.Ranges.{outOfRange}
 use Rattle.types.specs.Types.{typesDisagree}
 use Rattle.flow.specs.Flow.{readsUnwritten, unreachable}
-use Rattle.loader.specs.File.{lineCount, notLines, malformed, fileTable}
+use Rattle.file.specs.File.{lineCount, notLines, malformed, fileTable}
 use Rattle.loader.specs.Verdict.{groundNumber, verdict}
 use Rattle.loader.specs.Verdict.Laws.{no-sound}
 use Rattle.loader.specs.Load.{tableLength, afterVerdict, loaded}

@@ -1,25 +1,20 @@
-use Rattle.table.specs.Roles.{actionRole}
-use borrow.Author.Tests.{eq-eqb, ne-eqb, lt-ltb, le-ltb}
-use Rattle.numbers.specs.Tests.{cond-yes, cond-no}
+use Rattle.roles.proofs.RolesRead.{send-role, receive-role, new-role, constant-role, sum-role, no-role}
+use borrow.Author.Needs.{needs}
 use Rattle.roles.proofs.action_role.Statement.{statement}
 use Rattle.roles.proofs.action_role.Tie as tie
 
 pub action-role-spec : {M : Type 1} → statement M
-unfolding actionRole
 action-role-spec =
     tie.close
     (tie.spec
-    (λ c. search (cond-yes, cond-no, eq-eqb, ne-eqb, lt-ltb, le-ltb) depth 12)
-    (λ c. search (cond-yes, cond-no, eq-eqb, ne-eqb, lt-ltb, le-ltb) depth 12)
-    (λ c. search (cond-yes, cond-no, eq-eqb, ne-eqb, lt-ltb, le-ltb) depth 12)
-    (λ c. search (cond-yes, cond-no, eq-eqb, ne-eqb, lt-ltb, le-ltb) depth 12)
-    (λ c. search (cond-yes, cond-no, eq-eqb, ne-eqb, lt-ltb, le-ltb) depth 12)
-    (λ c. search (cond-yes, cond-no, eq-eqb, ne-eqb, lt-ltb, le-ltb) depth 12)
-    (λ c. search (cond-yes, cond-no, eq-eqb, ne-eqb, lt-ltb, le-ltb) depth 12)
-    (λ c. search (cond-yes, cond-no, eq-eqb, ne-eqb, lt-ltb, le-ltb) depth 12)
-    (λ c. search (cond-yes, cond-no, eq-eqb, ne-eqb, lt-ltb, le-ltb) depth 12)
-    (λ c. search (cond-yes, cond-no, eq-eqb, ne-eqb, lt-ltb, le-ltb) depth 12)
-    (λ c. search (cond-yes, cond-no, eq-eqb, ne-eqb, lt-ltb, le-ltb) depth 12)
-    (λ c. search (cond-yes, cond-no, eq-eqb, ne-eqb, lt-ltb, le-ltb) depth 12)
-    (λ c. search (cond-yes, cond-no, eq-eqb, ne-eqb, lt-ltb, le-ltb) depth 12)
-    (λ c. search (cond-yes, cond-no, eq-eqb, ne-eqb, lt-ltb, le-ltb) depth 12))
+    (λ c κs. search needs)
+    (λ c. search send-role)
+    (λ c κs. search needs)
+    (λ c. search receive-role)
+    (λ c κs. search needs)
+    (λ c. search new-role)
+    (λ c κs. search needs)
+    (λ c. search constant-role)
+    (λ c κs. search needs)
+    (λ c. search sum-role)
+    (λ c. search no-role))

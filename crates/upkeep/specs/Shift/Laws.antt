@@ -68,7 +68,7 @@ module _ (tb : Table) (row : List ℕ) (dn dw : ℕ) (chs : List (List ℕ)) (lo
       (λ e. rw e (shift-same prev (ownOf tb row k) dn dw c len e ∙ rw same))
       (λ e. rw e (shift-other prev (ownOf tb row k) dn dw c e ∙ same)))))
 
-  -- so for the slots of the row's definition, and for the whole list
+  -- the slots of the row's definition shift the channels that the row holds and no other; the whole list does no more
   room-shifted : (c : ℕ) → c < 128 → getD (shiftTo (ownList tb row) dn dw chs (ownRoom tb row)) c [] ≡ cond (holds tb row c) (rowShifted chs c dn dw) (getD chs c [])
   room-shifted c h = rw (← holds-room tb row c h) (shift-law c (ownRoom tb row) h (room-le tb row))
 

@@ -1,14 +1,13 @@
 -- The reading of a file, line by line and field by field. Assumes nothing.
 use Prim.Native.Nat.{ℕ, suc, _+_, _*_, _/_, _%_, _≤_, _<_}
 use native.Mathlib.Omega.{arith}
-use native.Mathlib.Numerals.{add-one}
 use native.Mathlib.Nat.{min-eq-left}
 use mathlib.Core.Path.{_≡_, refl, sym, _∙_}
 use mathlib.Core.Bool.{Bool, true, false, not}
 use mathlib.Core.List.{List, []}
 use lib.Dec.{ltb, eqb}
 use lib.ListN.{length, getD, set, take, drop, length-take, length-drop, length-replicate, getD-replicate}
-use lib.Seq.{ext-getD, getD-take, getD-drop, take-suc, take-suc-set, take-all}
+use lib.Seq.{ext-getD, getD-take, getD-drop}
 use borrow.Author.Tests.{ltb-true, ltb-false, le-leb, lt-leb, not-false}
 use Rattle.numbers.specs.Rows.{rows}
 use Rattle.numbers.specs.Rows.Laws.{length-rows, row-in}
@@ -19,7 +18,7 @@ use Rattle.numbers.specs.Laid.Laws.{laid-put, getD-laid, length-laid, getD-unla
 use Rattle.text.specs.Text.{fieldOf, readNumber}
 use Rattle.text.specs.declared.Reading.{Reading}
 use Rattle.text.specs.declared.Reading.the-variants.{Value, Wrong}
-use Rattle.loader.specs.File.{isValue, valueOf, lineCount, notLines, fieldIsNumber, wellFormed, malformed, numberAt, rowAt, fileTable, numberIn}
+use Rattle.file.specs.File.{isValue, valueOf, lineCount, notLines, fieldIsNumber, wellFormed, malformed, numberAt, rowAt, fileTable, numberIn}
 
 module _ (file : List ℕ) (line : ℕ) where
   number-in : (column : ℕ) → column < 12 → numberIn file (line * 12 + column) ≡ numberAt file line column
@@ -80,15 +79,6 @@ module _ (file : List ℕ) where
 
   pub laid-lines : (l : List ℕ) (line n : ℕ) → line ≤ n → n ≤ line → l ≡ laid (numberIn file) (line * 12) 10380 → l ≡ laid (numberIn file) (n * 12) 10380
   laid-lines l line n h k e = let q : n ≡ line = omega arith in rw q e
-
--- ---- a copy, one element after the other
-
-module _ (from to : List ℕ) (i : ℕ) (long : length to ≡ length from) (e : take i to ≡ take i from) where
-  pub copy-more : (x : ℕ) → x ≡ getD from i 0 → i < length from → take (i + 1) (set to i x) ≡ take (i + 1) from
-  copy-more x f h = rw (f, add-one i, take-suc-set to i (getD from i 0) (omega arith), take-suc from i 0 h, e)
-
-  pub copy-all : length from ≤ i → to ≡ from
-  copy-all h = sym (take-all i to (omega arith)) ∙ e ∙ take-all i from h
 
 -- ---- ground 1
 

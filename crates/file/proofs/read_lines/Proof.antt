@@ -1,4 +1,4 @@
--- `loader::read_lines` meets its contract. The loop: no line passed is malformed, and their numbers are laid into the table. Assumes nothing.
+-- `file::read_lines` meets its contract. The loop: no line passed is malformed, and their numbers are laid into the table. Assumes nothing.
 use Prim.Native.Nat.{_*_, _≤_, _-_}
 use native.Mathlib.Omega.{arith}
 use mathlib.Core.Path.{_≡_}
@@ -8,10 +8,10 @@ use Rattle.numbers.specs.Bytes.{shorts}
 use Rattle.numbers.specs.Laid.{laid}
 use Rattle.numbers.specs.Search.{first}
 use Rattle.numbers.specs.Search.Laws.{first-none, first-all}
-use Rattle.loader.specs.File.{malformed, numberIn}
-use Rattle.loader.specs.File.Laws.{lines-hit, lines-more, laid-more, laid-begins, laid-lines}
-use Rattle.loader.proofs.read_lines.Statement.{statement}
-use Rattle.loader.proofs.read_lines.Tie as tie
+use Rattle.file.specs.File.{malformed, numberIn}
+use Rattle.file.specs.File.Laws.{lines-hit, lines-more, laid-more, laid-begins, laid-lines}
+use Rattle.file.proofs.read_lines.Statement.{statement}
+use Rattle.file.proofs.read_lines.Tie as tie
 
 abbrev Inv-loop : tie.InvT-loop
 Inv-loop file table₀ n line₀ table line =

@@ -1,4 +1,4 @@
--- `loader::read_line` meets its contract. The loop: the fields before the column are numbers, and they are laid into the table. Assumes nothing.
+-- `file::read_line` meets its contract. The loop: the fields before the column are numbers, and they are laid into the table. Assumes nothing.
 use Prim.Native.Nat.{_+_, _*_, _≤_, _-_}
 use mathlib.Core.Path.{_≡_}
 use mathlib.Core.Bool.{true, false≢true}
@@ -9,10 +9,10 @@ use Rattle.numbers.specs.Laid.{laid}
 use Rattle.numbers.specs.Search.{every}
 use Rattle.numbers.specs.Search.Laws.{every-none}
 use Rattle.text.specs.Text.Laws.{length-field}
-use Rattle.loader.specs.File.{fieldIsNumber, numberIn}
-use Rattle.loader.specs.File.Laws.{field-wrong, field-more, number-more, line-begins, line-ends, line-whole}
-use Rattle.loader.proofs.read_line.Statement.{statement}
-use Rattle.loader.proofs.read_line.Tie as tie
+use Rattle.file.specs.File.{fieldIsNumber, numberIn}
+use Rattle.file.specs.File.Laws.{field-wrong, field-more, number-more, line-begins, line-ends, line-whole}
+use Rattle.file.proofs.read_line.Statement.{statement}
+use Rattle.file.proofs.read_line.Tie as tie
 
 abbrev Inv-loop : tie.InvT-loop
 Inv-loop file table₀ line column₀ table column =
