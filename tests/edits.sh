@@ -28,3 +28,4 @@ all_refused() {
 
 check "the edits of ${crates[*]} are refused" all_refused
 close_checks
+"$root/tests/refusals.sh" "$scratch"
