@@ -1,7 +1,7 @@
 #!/usr/bin/env bash
-# What the documents say of files. The names that docs/RULES.md gives are there: a definition in the
-# file that is linked before it, a function in the crate before its colons (or, without colons, in
-# some crate). The procedure files that docs/PROCEDURES.md and examples/README.md show are those in
+# What the documents say of files. The names that docs/RULES.md gives are there: a definition or a wrong
+# answer in the file that is linked before it, a function in the crate before its colons (or, without
+# colons, in some crate). The procedure files that docs/PROCEDURES.md and examples/README.md show are those in
 # examples. docs/architecture.svg has the arrows of crates.txt, and docs/ARCHITECTURE.md says of each
 # crate what it is.
 set -euo pipefail
@@ -25,13 +25,24 @@ function_is_there() {
     grep -qE "fn $name\(" crates/$crate/src/lib.rt
 }
 
-# named NAME FILE: a name in the tables of docs/RULES.md is defined in the file that is linked before it in its cell; where none
-# is, it is a function, or a definition of some crate.
+wrong_answer_is_there() {
+    grep -q "^wrong: $1 at " "$2"
+}
+
+# named NAME FILE: a name in the tables of docs/RULES.md is defined in the file that is linked before it in its cell, or is a
+# wrong answer in it, if that is an edit; where no file is, it is a function, or a definition of some crate.
 named() {
     case $1 in
-    *.antt | */*) true ;;
-    *::*) function_is_there "$1" ;;
-    *) if [ -n "$2" ]; then definition_is_there "$1" "$2"; else definition_is_there "$1" || function_is_there "$1"; fi ;;
+    *.antt | */*) return 0 ;;
+    *::*)
+        function_is_there "$1"
+        return
+        ;;
+    esac
+    case $2 in
+    '') definition_is_there "$1" || function_is_there "$1" ;;
+    *.edit) wrong_answer_is_there "$1" "$2" ;;
+    *) definition_is_there "$1" "$2" ;;
     esac
 }
 
