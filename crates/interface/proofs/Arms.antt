@@ -5,7 +5,9 @@ use lib.IntN.{ℤ}
 use mir.Syntax.{w32}
 use mir.Val.{Fits, toZ, ofZ}
 use mir.Facts.{ofZ-toZ}
+use Rattle.loader.specs.Verdict.{groundNumber}
 use Rattle.loader.specs.Load.{refusalNumber, lineNumber}
+use Rattle.loader.specs.declared.Ground.{Ground}
 use Rattle.loader.specs.declared.Loaded.{Loaded}
 use Rattle.state.specs.State.{minusOne}
 use Rattle.rules.specs.declared.Refusal.{Refusal}
@@ -32,6 +34,30 @@ use Rattle.interface.specs.declared.GiveAnswer.{GiveAnswer}
 use Rattle.interface.specs.declared.TakeAnswer.{TakeAnswer}
 use Rattle.interface.specs.declared.RunAnswer.{RunAnswer}
 use Rattle.interface.specs.declared.CollectAnswer.{CollectAnswer}
+
+-- ---- the numbers of document 01
+pub ground-arm : (r : ℕ) (g h : Ground) → g ≡ h → r ≡ groundNumber h → r ≡ groundNumber g
+ground-arm r g h e f = rw e f
+
+pub refusal-number-arm : (r : ℕ) (g h : Refusal) → g ≡ h → r ≡ Numbers.refusalNumber h → r ≡ Numbers.refusalNumber g
+refusal-number-arm r g h e f = rw e f
+
+module _ (r : ℕ) (d k : Deed) (e : d ≡ k) where
+  pub act-arm : r ≡ Numbers.actNumber k → r ≡ Numbers.actNumber d
+  act-arm f = rw e f
+
+  pub branch-arm : r ≡ Numbers.branchNumber k → r ≡ Numbers.branchNumber d
+  branch-arm f = rw e f
+
+  pub partner-arm : r ≡ Numbers.partnerNumber k → r ≡ Numbers.partnerNumber d
+  partner-arm f = rw e f
+
+module _ (r : ℕ) (d k : Reason) (e : d ≡ k) where
+  pub reason-arm : r ≡ Numbers.reasonNumber k → r ≡ Numbers.reasonNumber d
+  reason-arm f = rw e f
+
+  pub held-up-arm : r ≡ Numbers.heldUpNumber k → r ≡ Numbers.heldUpNumber d
+  held-up-arm f = rw e f
 
 -- ---- the answer of a load
 module _ (r : ℕ) (a b : Loaded) (e : a ≡ b) where
