@@ -300,12 +300,7 @@ pub fn run_numbers(answer: Ran) -> RunAnswer
 {
     match answer {
         Ran::Done(steps, reason) => {
-            run_fields(
-                0,
-                steps,
-                reason_number(reason),
-                held_up_number(reason),
-            )
+            run_fields(0, steps, reason_number(reason), held_up_number(reason))
         }
         Ran::Refused(ground) => run_fields(refusal_of(ground), 0, 0, 0),
     }
