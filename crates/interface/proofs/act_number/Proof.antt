@@ -1,4 +1,4 @@
-use Rattle.interface.proofs.Arms.{act-arm}
+use Rattle.interface.proofs.Arms.{in-arm}
 use Rattle.engine.specs.Numbers.{actNumber}
 use borrow.Author.Needs.{needs}
 use Rattle.interface.proofs.act_number.Statement.{statement}
@@ -14,8 +14,8 @@ act-number-spec =
     (λ c. search needs)
     (λ c. search needs)
     (λ c. search needs)
-    (λ c. search act-arm)
-    (λ c. search act-arm)
-    (λ c. search act-arm)
-    (λ c. search act-arm)
-    (λ c. search act-arm))
+    (λ c. search (in-arm actNumber))
+    (λ c. search (in-arm actNumber))
+    (λ c. search (in-arm actNumber))
+    (λ c. search (in-arm actNumber))
+    (λ c. search (in-arm actNumber)))

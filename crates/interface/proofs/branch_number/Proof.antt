@@ -1,4 +1,4 @@
-use Rattle.interface.proofs.Arms.{branch-arm}
+use Rattle.interface.proofs.Arms.{in-arm}
 use Rattle.engine.specs.Numbers.{branchNumber}
 use borrow.Author.Needs.{needs}
 use Rattle.interface.proofs.branch_number.Statement.{statement}
@@ -14,8 +14,8 @@ branch-number-spec =
     (λ c. search needs)
     (λ c. search needs)
     (λ c. search needs)
-    (λ c. search branch-arm)
-    (λ c. search branch-arm)
-    (λ c. search branch-arm)
-    (λ c. search branch-arm)
-    (λ c. search branch-arm))
+    (λ c. search (in-arm branchNumber))
+    (λ c. search (in-arm branchNumber))
+    (λ c. search (in-arm branchNumber))
+    (λ c. search (in-arm branchNumber))
+    (λ c. search (in-arm branchNumber)))

@@ -1,4 +1,4 @@
-use Rattle.interface.proofs.Arms.{ground-arm}
+use Rattle.interface.proofs.Arms.{in-arm}
 use Rattle.loader.specs.Verdict.{groundNumber}
 use borrow.Author.Needs.{needs}
 use Rattle.interface.proofs.ground_number.Statement.{statement}
@@ -19,13 +19,13 @@ ground-number-spec =
     (λ c. search needs)
     (λ c. search needs)
     (λ c. search needs)
-    (λ c. (search ground-arm, search needs))
-    (λ c. (search ground-arm, search needs))
-    (λ c. (search ground-arm, search needs))
-    (λ c. (search ground-arm, search needs))
-    (λ c. (search ground-arm, search needs))
-    (λ c. (search ground-arm, search needs))
-    (λ c. (search ground-arm, search needs))
-    (λ c. (search ground-arm, search needs))
-    (λ c. (search ground-arm, search needs))
-    (λ c. (search ground-arm, search needs)))
+    (λ c. (search (in-arm groundNumber), search needs))
+    (λ c. (search (in-arm groundNumber), search needs))
+    (λ c. (search (in-arm groundNumber), search needs))
+    (λ c. (search (in-arm groundNumber), search needs))
+    (λ c. (search (in-arm groundNumber), search needs))
+    (λ c. (search (in-arm groundNumber), search needs))
+    (λ c. (search (in-arm groundNumber), search needs))
+    (λ c. (search (in-arm groundNumber), search needs))
+    (λ c. (search (in-arm groundNumber), search needs))
+    (λ c. (search (in-arm groundNumber), search needs)))

@@ -1,4 +1,4 @@
-use Rattle.interface.proofs.Arms.{held-up-arm}
+use Rattle.interface.proofs.Arms.{in-arm}
 use Rattle.engine.specs.Numbers.{heldUpNumber}
 use borrow.Author.Needs.{needs}
 use Rattle.interface.proofs.held_up_number.Statement.{statement}
@@ -13,7 +13,7 @@ held-up-number-spec =
     (λ c. search needs)
     (λ c. search needs)
     (λ c. search needs)
-    (λ c. search held-up-arm)
-    (λ c. search held-up-arm)
-    (λ c. search held-up-arm)
-    (λ c. search held-up-arm))
+    (λ c. search (in-arm heldUpNumber))
+    (λ c. search (in-arm heldUpNumber))
+    (λ c. search (in-arm heldUpNumber))
+    (λ c. search (in-arm heldUpNumber)))

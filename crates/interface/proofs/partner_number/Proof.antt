@@ -1,4 +1,4 @@
-use Rattle.interface.proofs.Arms.{partner-arm}
+use Rattle.interface.proofs.Arms.{in-arm}
 use Rattle.engine.specs.Numbers.{partnerNumber}
 use borrow.Author.Needs.{needs}
 use Rattle.interface.proofs.partner_number.Statement.{statement}
@@ -14,8 +14,8 @@ partner-number-spec =
     (λ c. search needs)
     (λ c. search needs)
     (λ c. search needs)
-    (λ c. search partner-arm)
-    (λ c. search partner-arm)
-    (λ c. search partner-arm)
-    (λ c. search partner-arm)
-    (λ c. search partner-arm))
+    (λ c. search (in-arm partnerNumber))
+    (λ c. search (in-arm partnerNumber))
+    (λ c. search (in-arm partnerNumber))
+    (λ c. search (in-arm partnerNumber))
+    (λ c. search (in-arm partnerNumber)))

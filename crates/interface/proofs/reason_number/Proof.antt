@@ -1,4 +1,4 @@
-use Rattle.interface.proofs.Arms.{reason-arm}
+use Rattle.interface.proofs.Arms.{in-arm}
 use Rattle.engine.specs.Numbers.{reasonNumber}
 use borrow.Author.Needs.{needs}
 use Rattle.interface.proofs.reason_number.Statement.{statement}
@@ -13,7 +13,7 @@ reason-number-spec =
     (λ c. search needs)
     (λ c. search needs)
     (λ c. search needs)
-    (λ c. search reason-arm)
-    (λ c. search reason-arm)
-    (λ c. search reason-arm)
-    (λ c. search reason-arm))
+    (λ c. search (in-arm reasonNumber))
+    (λ c. search (in-arm reasonNumber))
+    (λ c. search (in-arm reasonNumber))
+    (λ c. search (in-arm reasonNumber)))

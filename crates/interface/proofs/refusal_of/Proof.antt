@@ -1,4 +1,4 @@
-use Rattle.interface.proofs.Arms.{refusal-number-arm}
+use Rattle.interface.proofs.Arms.{in-arm}
 use Rattle.engine.specs.Numbers.{refusalNumber}
 use borrow.Author.Needs.{needs}
 use Rattle.interface.proofs.refusal_of.Statement.{statement}
@@ -16,10 +16,10 @@ refusal-of-spec =
     (λ c. search needs)
     (λ c. search needs)
     (λ c. search needs)
-    (λ c. search refusal-number-arm)
-    (λ c. search refusal-number-arm)
-    (λ c. search refusal-number-arm)
-    (λ c. search refusal-number-arm)
-    (λ c. search refusal-number-arm)
-    (λ c. search refusal-number-arm)
-    (λ c. search refusal-number-arm))
+    (λ c. search (in-arm refusalNumber))
+    (λ c. search (in-arm refusalNumber))
+    (λ c. search (in-arm refusalNumber))
+    (λ c. search (in-arm refusalNumber))
+    (λ c. search (in-arm refusalNumber))
+    (λ c. search (in-arm refusalNumber))
+    (λ c. search (in-arm refusalNumber)))
