@@ -47,7 +47,7 @@ module _ (tb : Table) (s : State) (o : Orderly tb s) (q : ℕ → Bool) where
   left-small t k =
       caseB (ltb t maxThreads)
       (λ y. left-sound t (ltb-true t maxThreads y) .small k)
-      (λ y. rw (List·getD-eq-default (tabulate 64 left) [] {n = t} (omega (arith, ltb-false t 64 y, length-tabulate 64 left))) (omega arith))
+      (λ y. rw (List·getD-eq-default (tabulate maxThreads left) [] {n = t} (omega (arith, ltb-false t maxThreads y, length-tabulate maxThreads left))) (omega arith))
 
   left-shaped : Shaped leftState
   left-shaped = let h = o .shaped in record {
@@ -87,7 +87,7 @@ pub collected-sound : (tb : Table) → Granted tb → (s : State) → Sound tb s
 unfolding collected remaining
 collected-sound tb g s ok = settle tb g _ (left-orderly tb s (ok .orderly) (taken tb s))
 
--- so the call on a state keeps soundness
+-- the call that collects leaves a sound state sound
 pub collect-on-kept : (tb : Table) → Granted tb → (s : State) → Sound tb s → Sound tb (collectOn tb s .state)
 unfolding collectOn
 collect-on-kept tb g s ok = collected-sound tb g s ok

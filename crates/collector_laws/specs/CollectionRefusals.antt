@@ -15,7 +15,7 @@ use Rattle.collector.specs.declared.Collected.{Collected}
 use Rattle.collector.specs.declared.Collected.the-variants as Collected
 
 module _ (table state : List ℕ) where
-  -- it has no grounds besides those of the admission, whose meaning is in `engine_laws/specs/Entry.antt`
+  -- a collection has no grounds besides those of the admission, whose meaning is in `engine_laws/specs/Entry.antt`
   pub collect-refused-iff : (r : Refusal) → (collectCall table state .answer ≡ Collected.Refused r) ↔ (admission table state ≡ Admission.Refused r)
   unfolding collectCall collectOn
   collect-refused-iff r = call-refusal Collected.Refused table state (collectOn (tableOf table) (view state)) (λ p q e. cc) r (λ e. clash cc)

@@ -54,7 +54,7 @@ module _ (tb : Table) (s : State) (ok : Sound tb s) where
   holder-in u c h =
       caseB (ltb u maxThreads)
       (λ y. ltb-true u maxThreads y)
-      (λ y. let e : thread s u ≡ [] = List·getD-eq-default (s .threads) [] {n = u} (omega (arith, ok .orderly .shaped .all-threads, ltb-false u 64 y)) in
+      (λ y. let e : thread s u ≡ [] = List·getD-eq-default (s .threads) [] {n = u} (omega (arith, ok .orderly .shaped .all-threads, ltb-false u maxThreads y)) in
       contra (holds-elim tb [] c (rw e at h) .used) refl)
 
   -- a thread that holds a channel and is not taken is enabled

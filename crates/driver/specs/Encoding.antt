@@ -81,7 +81,7 @@ answerTo table state (on (take p)) = taken (takeResult table state p .answer)
 answerTo table state (on (run n)) = ran (runResult table state n .answer)
 answerTo table state collect = collected (collectResult table state .answer)
 
--- its five words, and those of a list of calls in turn, each on the bytes that the ones before it leave
+-- the five words of an answer, and those of the answers to a list of calls in turn, each call on the bytes that the ones before it leave
 unfoldable pub wordsOf : Answer → List ℕ
 wordsOf a = ofZ w32 (a .refusal) ∷ ofZ w32 (a .second) ∷ ofZ w32 (a .third) ∷ ofZ w32 (a .fourth) ∷ ofZ w32 (a .fifth) ∷ []
 

@@ -20,7 +20,7 @@ use Rattle.rules_laws.specs.Codes.{clash}
 use Rattle.engine.specs.Numbers.{refusalNumber}
 use Rattle.engine_laws.specs.Entry.{atEntry}
 
--- a move is refused where it lacks a row, and on these grounds alone
+-- a move is refused on ground 13 where it lacks a thread row, on ground 14 where it lacks a channel row, and on no other ground
 pub move-refused : (n : ℕ) (m : Move) (r : Refusal) → stepAnswer n m ≡ Stepped.Refused r
     → ((r ≡ Ground.ThreadRow) × (m ≡ LacksThread)) ⊎ ((r ≡ Ground.ChannelRow) × (m ≡ LacksChannel))
 unfolding stepAnswer
@@ -57,7 +57,7 @@ module _ (tb : Table) (s : State) (t : ℕ) where
       (λ y. inr (y, sym (step-answered tb s t ∙ rw y) ∙ e))
       (λ y. inl (y, let f : _≡_ {A = Stepped} (Stepped.Refused Ground.Thread) (Stepped.Refused r) = sym (step-answered tb s t ∙ rw y) ∙ e in sym cc))
 
-  -- none of its grounds is one at entry
+  -- a step on a state is refused on no ground at entry
   pub step-own : (r : Refusal) → stepOn tb s t .answer ≡ Stepped.Refused r → atEntry r ≡ false
   unfolding atEntry refusalNumber
   step-own r e =

@@ -80,7 +80,7 @@ module _ (tb : Table) (s : State) (p v : ℕ) where
   unfolding giveOn
   give-no-port l = rw (le-ltb p (ports tb) l)
 
-  -- it is refused where there is no such port, and on no other ground
+  -- a give is refused where there is no such port, and on no other ground
   pub give-refused : (r : Refusal) → giveOn tb s p v .answer ≡ Given.Refused r → (ports tb ≤ p) × (r ≡ Ground.Port)
   give-refused r e = caseB (ltb p (ports tb))
       (λ y. absurd (given-met tb s givePartner v r (rw (give-port (ltb-true p (ports tb) y)) at e)))
@@ -91,7 +91,7 @@ module _ (tb : Table) (s : State) (p v : ℕ) where
   unfolding atEntry refusalNumber
   give-own r e = rw (give-refused r e .1)
 
-  -- it meets nobody where nobody offers
+  -- a give meets nobody where no thread offers to receive on the port
   pub give-nobody : (giveOn tb s p v .answer ≡ Given.Nobody) ↔ ((p < ports tb) × NobodyOffers tb s In p)
   give-nobody = (
     λ e. caseB (ltb p (ports tb))
@@ -101,7 +101,7 @@ module _ (tb : Table) (s : State) (p v : ℕ) where
     λ k. rw (give-port (k .0)) (given-nobody tb s givePartner v .1 (nobody-iff tb s In p .1 (k .1))),
   )
 
-  -- it meets the partner of the bench
+  -- a give meets the partner of the bench
   pub give-met : (u : ℕ) → giveOn tb s p v .answer ≡ Given.Met u
       → (p < ports tb) × (j : ℕ) × (partnerOf tb s bench In p ≡ At u j) × (giveOn tb s p v .state ≡ metByBench tb s u j v)
   give-met u e = caseB (ltb p (ports tb))
@@ -143,7 +143,7 @@ module _ (tb : Table) (s : State) (p : ℕ) where
   unfolding takeOn
   take-no-port l = rw (le-ltb p (ports tb) l)
 
-  -- it is refused where there is no such port, and on no other ground
+  -- a take is refused where there is no such port, and on no other ground
   pub take-refused : (r : Refusal) → takeOn tb s p .answer ≡ Taken.Refused r → (ports tb ≤ p) × (r ≡ Ground.Port)
   take-refused r e = caseB (ltb p (ports tb))
       (λ y. absurd (taken-met tb s takePartner r (rw (take-port (ltb-true p (ports tb) y)) at e)))
@@ -154,7 +154,7 @@ module _ (tb : Table) (s : State) (p : ℕ) where
   unfolding atEntry refusalNumber
   take-own r e = rw (take-refused r e .1)
 
-  -- it meets nobody where nobody offers
+  -- a take meets nobody where no thread offers to send on the port
   pub take-nobody : (takeOn tb s p .answer ≡ Taken.Nobody) ↔ ((p < ports tb) × NobodyOffers tb s Out p)
   take-nobody = (
     λ e. caseB (ltb p (ports tb))
@@ -164,7 +164,7 @@ module _ (tb : Table) (s : State) (p : ℕ) where
     λ k. rw (take-port (k .0)) (taken-nobody tb s takePartner .1 (nobody-iff tb s Out p .1 (k .1))),
   )
 
-  -- it meets the partner of the bench, and brings the partner's number
+  -- a take meets the partner of the bench, and brings the partner's number
   pub take-met : (u v : ℕ) → takeOn tb s p .answer ≡ Taken.Met u v
       → (p < ports tb) × (j : ℕ) × (partnerOf tb s bench Out p ≡ At u j) × (valueBy tb (thread s u) j ≡ v) × (takeOn tb s p .state ≡ metByBench tb s u j 0)
   take-met u v e = caseB (ltb p (ports tb))

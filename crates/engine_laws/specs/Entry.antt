@@ -123,24 +123,24 @@ module _ (table state : List ℕ) where
 
   -- ---- the theorems
 
-  -- ground 8: a buffer of another length
+  -- an admission is refused on ground 8 exactly when a buffer has another length
   pub length-iff : (admission table state ≡ Admission.Refused Ground.Length) ↔ (¬ RightLengths table state)
   length-iff = length-entry entry
 
-  -- ground 9: the lengths are right, and the table is not accepted
+  -- an admission is refused on ground 9 exactly when the lengths are right and the table is not accepted
   pub table-iff : (admission table state ≡ Admission.Refused Ground.Table) ↔ (RightLengths table state × (accepted table ≡ false))
   table-iff = table-entry entry
 
-  -- ground 10: the table is accepted, and the state is not sound for it
+  -- an admission is refused on ground 10 exactly when the lengths are right, the table is accepted and the state is not sound for it
   pub state-iff : (admission table state ≡ Admission.Refused Ground.State)
       ↔ (RightLengths table state × (accepted table ≡ true) × (sound (tableOf table) (view state) ≡ false))
   state-iff = state-entry entry
 
-  -- else the call goes on
+  -- buffers are admitted exactly when their lengths are right, the table is accepted and the state is sound for it
   pub admitted-iff : Admitted table state ↔ (RightLengths table state × (accepted table ≡ true) × (sound (tableOf table) (view state) ≡ true))
   admitted-iff = passes-entry entry
 
-  -- and there is no other ground
+  -- an admission is refused on no ground but 8, 9 and 10
   pub refused-entry : (r : Refusal) → admission table state ≡ Admission.Refused r → atEntry r ≡ true
   refused-entry r e = ground-entry entry r e
 
@@ -165,7 +165,7 @@ module _ {A : Type 0} (refused : Refusal → A) (tell : (q r : Refusal) → refu
       → (onBuffers refused table state k .answer ≡ refused r) ↔ (Admitted table state × (k .answer ≡ refused r))
   own-ground r f = call-answer refused table state k (refused r) (λ q e g. contra (refused-entry table state q e) (rw (tell q r g) f))
 
-  -- and a ground at entry exactly when the admission does, where all grounds of the call on the state are its own
+  -- a ground at entry refuses a call exactly when it refuses the admission, where no ground of the call on the state is one at entry
   pub entry-ground : ((r : Refusal) → k .answer ≡ refused r → atEntry r ≡ false) → (r : Refusal) → atEntry r ≡ true
       → (onBuffers refused table state k .answer ≡ refused r) ↔ (admission table state ≡ Admission.Refused r)
   entry-ground own r f = call-refusal refused table state k tell r (λ e. contra f (own r e))

@@ -28,11 +28,11 @@ module _ (tb : Table) (s : State) (t : ℕ) where
     pub goes : ahead tb s t i ≡ true
     pub before : (j : ℕ) → j < i → ahead tb s t j ≡ false
 
-  -- the first of its branches that goes ahead does this act
+  -- the first branch of thread t's choice that goes ahead does this act
   abbrev pub Takes : Act → Type 0
   Takes a = (i : ℕ) × FirstAhead i × (actOf tb (branchAt tb (standsAt (thread s t)) i) ≡ a)
 
--- no thread row is free; no channel row is free
+-- every thread row is in use, and every channel row
 abbrev pub NoThreadRow : State → Type 0
 NoThreadRow s = (u : ℕ) → u < maxThreads → inUse (thread s u) ≡ true
 
@@ -95,7 +95,7 @@ module _ (tb : Table) (s : State) (t : ℕ) where
       let e : first (ahead tb s t) branches ≡ i = first-is (ahead tb s t) branches i (f .branch-in) (f .goes) (f .before) in
       rw (eq-eqb kind 1 (f .at-choice), e, lt-ltb i branches (f .branch-in))
 
-  -- and a move that a branch makes is that of the first one
+  -- where the move is one that a branch makes, thread t stands at a choice, and one of its branches is the first that goes ahead
   first-move : byBranch (move tb s t) ≡ true → (i : ℕ) × FirstAhead tb s t i
   unfolding move choice byBranch
   first-move g = caseB (eqb kind 1)
@@ -146,7 +146,7 @@ module _ (tb : Table) (s : State) (t : ℕ) where
   unfolding ahead branchMove goesAhead
   ahead-move i g = caseB (guardHolds tb (branchAt tb (standsAt (thread s t)) i) (thread s t)) (λ y. rw y) (λ y. contra g (rw y))
 
-  -- ---- the two
+  -- ---- when a step lacks a row
 
   -- a step lacks a thread row just when it takes a spawn and every row is a thread's
   pub lacks-thread-iff : (move tb s t ≡ LacksThread) ↔ (Takes tb s t Spawn × NoThreadRow s)
@@ -160,7 +160,7 @@ module _ (tb : Table) (s : State) (t : ℕ) where
         move-first i f ∙ ahead-move i (f .goes) ∙ rw (a, le-ltb (freeThread s) maxThreads (none-thread s n)),
   )
 
-  -- a channel row, just when it takes a new and every row is a channel's
+  -- a step lacks a channel row just when it takes a new and every row is a channel's
   pub lacks-channel-iff : (move tb s t ≡ LacksChannel) ↔ (Takes tb s t New × NoChannelRow s)
   unfolding byBranch Lacks actMove creation
   lacks-channel-iff = (

@@ -79,7 +79,7 @@ module _ (table : List ℕ) (ok : accepted table ≡ true) where
     after-sound state b (take p) = take-sound table ok fit state b p
     after-sound state b (run n) = run-sound table ok fit state b n
 
-    -- so does a list of calls
+    -- a list of calls leaves a sound buffer sound
     pub all-sound : (state : List ℕ) → SoundBuffer table state → (ks : List Call) → SoundBuffer table (afterAll table state ks)
     unfolding afterAll
     all-sound state b [] = b
@@ -89,7 +89,7 @@ module _ (table : List ℕ) (ok : accepted table ≡ true) where
 
 module _ (table : List ℕ) (ok : accepted table ≡ true) (fit : (i : ℕ) → getD table i 0 < 256) (state : List ℕ) (long : length state ≡ stateLength)
     (ks : List Call) where
-  -- all that document 01 asks of a sound state (`rules/specs/Sound.antt` has one test for each part of it)
+  -- the buffer holds all that document 01 asks of a sound state (`rules/specs/Sound.antt` has one test for each part of it)
   pub always-sound : SoundBuffer table (reached table state ks)
   always-sound = all-sound table ok fit (startCall table state .state) (start-sound table ok fit state (start-done table ok state long)) ks
 
@@ -98,7 +98,7 @@ module _ (table : List ℕ) (ok : accepted table ≡ true) (fit : (i : ℕ) → 
   unfolding atEntry refusalNumber
   never-ten k = none-at-entry table ok (reached table state ks) always-sound k Ground.State refl
 
-  -- nor with 8 or 9: the buffers keep their lengths, and the table is accepted throughout
+  -- no call of a list is refused with 8 or 9: the buffers keep their lengths, and the table is accepted throughout
   pub never-eight : (k : Call) → ¬ RefusedWith table (reached table state ks) k Ground.Length
   unfolding atEntry refusalNumber
   never-eight k = none-at-entry table ok (reached table state ks) always-sound k Ground.Length refl

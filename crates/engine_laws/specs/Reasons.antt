@@ -63,11 +63,11 @@ module _ (table : List ℕ) where
   abbrev pub dueAnswer : List ℕ → Stepped
   dueAnswer state = stepCall table state (due state) .answer
 
-  -- the bytes that its step leaves, with the turn moved past it
+  -- the bytes that the step of the thread that is due leaves, with the turn one past that thread
   unfoldable pub afterTurn : List ℕ → List ℕ
   afterTurn state = turnPast (stepCall table state (due state) .state) (due state)
 
-  -- the bytes after k such turns
+  -- the bytes after k turns
   unfoldable pub afterTurns : ℕ → List ℕ → List ℕ
   afterTurns zero state = state
   afterTurns (suc k) state = afterTurns k (afterTurn state)
@@ -82,13 +82,13 @@ leftBy (LackedChannel t) state = turnPast state t
 -- a run of at most n steps made k of them, ended for reason r and left the bytes `left`
 pub record RunEnds (table state : List ℕ) (n k : ℕ) (r : Reason) (left : List ℕ) : Type 0 where
   pub at-most : k ≤ n
-  -- each of them is a step that the step call makes
+  -- each of the k steps is one that the step call makes
   pub steps : (i : ℕ) → i < k → (a : ℕ) × (d : Deed) × (dueAnswer table (afterTurns table i state) ≡ Done a d)
-  -- reason 0: all steps that were asked for
+  -- the reason is 0 exactly if all steps that were asked for were made
   pub all-done : (r ≡ AllDone) ↔ (k ≡ n)
-  -- reason 1: fewer, and no thread is ready after them
+  -- the reason is 1 exactly if fewer were made and no thread is ready after them
   pub none-ready : (r ≡ NoneReady) ↔ ((k < n) × Idle (afterTurns table k state))
-  -- reasons 2 and 3: fewer, and the step call would refuse the thread that is due then, with 13 and with 14
+  -- the reason is 2 or 3 exactly if fewer were made and the step call refuses the thread that is due after them, with 13 or with 14
   pub lacked-thread : (t : ℕ) → (r ≡ LackedThread t)
       ↔ ((k < n) × (t ≡ due (afterTurns table k state)) × (dueAnswer table (afterTurns table k state) ≡ Refused Ground.ThreadRow))
   pub lacked-channel : (t : ℕ) → (r ≡ LackedChannel t)
@@ -198,7 +198,7 @@ module _ (table : List ℕ) (ok : accepted table ≡ true) (fit : (i : ℕ) → 
   held : Sound tb s
   held = view-sound table state b
 
-  -- what a turn is
+  -- the four ways in which a turn goes: a step is made, no thread is ready, a thread row is lacked, a channel row is lacked
   data Turns : Type 0 where
     went : (a : ℕ) (d : Deed) → dueAnswer table state ≡ Done a d → takeTurn tb s ≡ turned Went (view (afterTurn table state)) → SoundBuffer table (afterTurn table state) → Turns
     idle : Idle state → dueAnswer table state ≡ Refused Ground.Thread → takeTurn tb s ≡ turned (Stopped NoneReady) s → Turns
@@ -210,7 +210,7 @@ module _ (table : List ℕ) (ok : accepted table ≡ true) (fit : (i : ℕ) → 
   unfolding stepCall
   step-is = call-made table ok Refused state b (stepOn tb s t)
 
-  -- nobody is ready
+  -- where no thread is ready, the turn is idle
   module _ (e : ltb t maxThreads ≡ false) where
     all-idle : Idle state
     unfolding nextReady isReadyThread
@@ -224,7 +224,7 @@ module _ (table : List ℕ) (ok : accepted table ≡ true) (fit : (i : ℕ) → 
     unfolding takeTurn
     idle-turn = idle all-idle none-stepped (rw e)
 
-  -- thread t is ready
+  -- where thread t is ready, the turn is its step
   module _ (e : ltb t maxThreads ≡ true) where
     below : t < maxThreads
     below = ltb-true t maxThreads e
@@ -247,7 +247,7 @@ module _ (table : List ℕ) (ok : accepted table ≡ true) (fit : (i : ℕ) → 
     unfolding takeTurn
     turn-is = rw (e, turn-answered (standsAt (thread s t)) t m)
 
-    -- the state after the step, and with the turn moved
+    -- the state after the step is sound, and so it is with the turn moved
     moved : Sound tb (perform tb s t m)
     moved = move-kept tb (granted table ok fit) s held t below (next-ready-in s below)
 
@@ -305,7 +305,7 @@ module _ (table : List ℕ) (ok : accepted table ≡ true) (fit : (i : ℕ) → 
   pub turn-told : takeTurn tb s .turn ≡ turnFor t (dueAnswer table state)
   turn-told = turn-is-by turns
 
-  -- and it leaves what the step call leaves, with the turn one past the thread
+  -- a turn leaves what the step call leaves, with the turn one past the thread
   pub turn-leaves : t < maxThreads → stateBytes (takeTurn tb s .state) ≡ afterTurn table state
   turn-leaves = left-by turns
 
@@ -333,7 +333,7 @@ module _ (table : List ℕ) (ok : accepted table ≡ true) (fit : (i : ℕ) → 
 -- ---- the theorems, of any table and any state in buffers of bytes
 
 module _ (table state : List ℕ) (fit : (i : ℕ) → getD table i 0 < 256) (small : (i : ℕ) → getD state i 0 < 256) where
-  -- what is not refused is an accepted table and a sound state
+  -- buffers that are admitted hold an accepted table and a sound state
   sound-if : Admitted table state → (accepted table ≡ true) × SoundBuffer table state
   sound-if a = let (l, ok, e) = admitted-iff table state .0 a in (ok, record { long = l .1; small = small; tested = e })
 
@@ -358,7 +358,7 @@ module _ (table state : List ℕ) (fit : (i : ℕ) → getD table i 0 < 256) (sm
       rw (call-admitted Ran.Refused table state (runOn (tableOf table) (view state) 1) a)
       (ap stateBytes (last-turn (tableOf table) (takeTurn (tableOf table) (view state) .turn) (takeTurn (tableOf table) (view state) .state)) ∙ turn-leaves table ok fit state b l)
 
-  -- with the turn moved past thread t it stands there, and nothing else is changed
+  -- with the turn moved past thread t, the turn is the thread after t, and nothing else is changed
   pub turn-stands : Admitted table state → (t : ℕ) → t < maxThreads → view (turnPast state t) ≡ withMark (view state) 2 (oneUp maxThreads t)
   unfolding turnPast pastTurn
   turn-stands a t l =

@@ -54,12 +54,12 @@ module _ (table state : List ℕ) where
   unfolding takeCall
   take-entry-iff p = entry-ground Taken.Refused (λ q r e. cc) table state (takeOn tb s p) (take-own tb s p)
 
-  -- a run is refused on no other ground
+  -- a run is refused exactly when its admission is, and on the same ground
   pub run-refused-iff : (n : ℕ) (r : Refusal) → (runCall table state n .answer ≡ Ran.Refused r) ↔ (admission table state ≡ Admission.Refused r)
   unfolding runCall runOn
   run-refused-iff n r = call-refusal Ran.Refused table state (runOn tb s n) (λ p q e. cc) r (λ e. clash cc)
 
-  -- nor is a start, which is never refused on ground 10
+  -- a start is refused exactly when its admission is, and on the same ground, which is never ground 10
   pub start-refused-iff : (r : Refusal) → (startCall table state .answer ≡ Started.Refused r) ↔ (startAdmission table state ≡ Admission.Refused r)
   unfolding startCall startOn
   start-refused-iff r = by-refusal Started.Refused state (startOn tb) (λ p q e. cc) (startAdmission table state) r (λ e. clash cc)
@@ -78,7 +78,7 @@ module _ (table state : List ℕ) where
   unfolding runCall
   run-refused-keeps n r e = ap (λ (o : Outcome Ran). o .state) (call-refused Ran.Refused table state (runOn tb s n) r (run-refused-iff n r .0 e))
 
-  -- so do the calls that have grounds of their own, and so does a give and a take that meets nobody
+  -- a step, a give or a take that is refused leaves the bytes of the state as they were, and so does a give or a take that meets nobody
   module _ (small : (i : ℕ) → getD state i 0 < 256) where
     pub step-refused-keeps : (t : ℕ) (r : Refusal) → stepCall table state t .answer ≡ Stepped.Refused r → stepCall table state t .state ≡ state
     unfolding stepCall
@@ -102,14 +102,14 @@ module _ (table state : List ℕ) where
     unfolding takeCall
     take-nobody-keeps p = call-unchanged Taken.Refused table state (takeOn tb s p) small Taken.Nobody (λ e. take-unchanged tb s p (λ u v f. clash cc))
 
-  -- ---- the grounds of step's own
+  -- ---- the grounds that a step has of its own: 11, 13 and 14
 
   step-by : (t : ℕ) (r : Refusal) → atEntry r ≡ false
       → (stepCall table state t .answer ≡ Stepped.Refused r) ↔ (Admitted table state × (stepOn tb s t .answer ≡ Stepped.Refused r))
   unfolding stepCall
   step-by t = own-ground Stepped.Refused (λ q r e. cc) table state (stepOn tb s t)
 
-  -- ground 11: the thread is none, or is not ready
+  -- a step is refused on ground 11 exactly when the thread is none, or is not ready
   pub step-thread-iff : (t : ℕ) → (stepCall table state t .answer ≡ Stepped.Refused Ground.Thread) ↔ (Admitted table state × (canStep s t ≡ false))
   unfolding atEntry refusalNumber
   step-thread-iff t =
@@ -117,7 +117,7 @@ module _ (table state : List ℕ) where
       let w = own-thread tb s t in
       (λ e. let (h, f) = o .0 e in (h, w .0 f), λ k. o .1 (k .0, w .1 (k .1)))
 
-  -- ground 13: the first branch of the thread that goes ahead is a spawn, and no thread row is free
+  -- a step is refused on ground 13 exactly when the first branch of its thread that goes ahead is a spawn, and no thread row is free
   pub step-thread-row-iff : (t : ℕ) → (stepCall table state t .answer ≡ Stepped.Refused Ground.ThreadRow)
       ↔ (Admitted table state × (canStep s t ≡ true) × Takes tb s t Spawn × NoThreadRow s)
   unfolding atEntry refusalNumber
@@ -129,7 +129,7 @@ module _ (table state : List ℕ) where
         λ q. let (h, c, k, n) = q in o .1 (h, w .1 (c, l .1 (k, n))),
       )
 
-  -- ground 14: it is a new, and no channel row is free
+  -- a step is refused on ground 14 exactly when the first branch of its thread that goes ahead is a new, and no channel row is free
   pub step-channel-row-iff : (t : ℕ) → (stepCall table state t .answer ≡ Stepped.Refused Ground.ChannelRow)
       ↔ (Admitted table state × (canStep s t ≡ true) × Takes tb s t New × NoChannelRow s)
   unfolding atEntry refusalNumber
@@ -141,12 +141,12 @@ module _ (table state : List ℕ) where
         λ q. let (h, c, k, n) = q in o .1 (h, w .1 (c, l .1 (k, n))),
       )
 
-  -- and there are none besides: a step is not refused on ground 12
+  -- a step is not refused on ground 12
   pub step-grounds : (t : ℕ) (r : Refusal) → stepCall table state t .answer ≡ Stepped.Refused r → r ≢ Ground.Port
   unfolding atEntry refusalNumber
   step-grounds t r e q = own-no-port tb s t (step-by t Ground.Port refl .0 (rw q at e) .1)
 
-  -- ---- give and take: ground 12 is the one of their own
+  -- ---- the one ground that a give and a take have of their own: 12
 
   give-by : (p v : ℕ) (r : Refusal) → atEntry r ≡ false
       → (giveCall table state p v .answer ≡ Given.Refused r) ↔ (Admitted table state × (giveOn tb s p v .answer ≡ Given.Refused r))
@@ -158,7 +158,7 @@ module _ (table state : List ℕ) where
   unfolding takeCall
   take-by p = own-ground Taken.Refused (λ q r e. cc) table state (takeOn tb s p)
 
-  -- ground 12: there is no such port
+  -- a give or a take is refused on ground 12 exactly when there is no such port
   pub give-port-iff : (p v : ℕ) → (giveCall table state p v .answer ≡ Given.Refused Ground.Port) ↔ (Admitted table state × (ports tb ≤ p))
   unfolding atEntry refusalNumber
   give-port-iff p v =
@@ -171,7 +171,7 @@ module _ (table state : List ℕ) where
       let o = take-by p Ground.Port refl in
       (λ e. let (h, f) = o .0 e in (h, take-refused tb s p Ground.Port f .0), λ k. o .1 (k .0, rw (take-no-port tb s p (k .1))))
 
-  -- and there are none besides
+  -- a give or a take is refused on no ground but those at entry and 12
   pub give-grounds : (p v : ℕ) (r : Refusal) → giveCall table state p v .answer ≡ Given.Refused r → (atEntry r ≡ true) ⊎ (r ≡ Ground.Port)
   give-grounds p v r e = caseB (atEntry r) (λ y. inl y) (λ y. inr (give-refused tb s p v r (give-by p v r y .0 e .1) .1))
 

@@ -78,7 +78,7 @@ module _ (table : List ℕ) (ok : accepted table ≡ true) (fit : (i : ℕ) → 
     no-thread : (t : ℕ) → ltb t maxThreads ≡ false → thread (view state) t ≡ []
     no-thread t e =
         let s = view state in
-        List·getD-eq-default (s .threads) [] {n = t} (omega (arith, view-sound table state b .orderly .shaped .all-threads, ltb-false t 64 e))
+        List·getD-eq-default (s .threads) [] {n = t} (omega (arith, view-sound table state b .orderly .shaped .all-threads, ltb-false t maxThreads e))
 
     -- the threads that a collection takes, by their rows, are those that are not enabled
     pub taken-is : (t : ℕ) → takenBy table state t ≡ takenThread (tableOf table) (view state) t

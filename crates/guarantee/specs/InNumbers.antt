@@ -45,7 +45,7 @@ unfoldable pub isZero : ℤ → Bool
 isZero (pos n) = eqb n 0
 isZero (negsuc n) = false
 
--- then these threads move, and else nobody
+-- these threads move where the call is done, and else nobody
 unfoldable pub ifDone : ℤ → List ℕ → List ℕ
 ifDone z who = cond (isZero z) who []
 

@@ -77,7 +77,7 @@ not-by-itself (inr (w, k, h)) =
 -- ---- grounds 13 and 14: with 63 threads a spawn goes ahead, with 64 it lacks a row; with 127 channels a new goes ahead, with 128 it lacks a row, even where
 -- the slot that it writes is the last to hold one of them
 
--- so many threads at node 0, and no channel
+-- n threads at node 0, and no channel
 abbrev pub crowd : ℕ → State
 crowd n = stateWith (0 ∷ 0 ∷ 0 ∷ []) (replicate n (readyAt 0 [])) []
 

@@ -117,7 +117,7 @@ module _ (rs : Table) (e : inOrder rs ≡ true) (s : State) (ok : Sound (filledU
 
 -- ---- reason 2: every thread row is in use
 
--- so many threads at a spawn
+-- n threads that stand at a spawn
 unfoldable pub spawners : ℕ → State
 spawners n = settled (filledUp spawner) (gathered (filledUp spawner) 0 n (λ t k. 0) 0)
 
@@ -139,7 +139,7 @@ pub no-thread-row : runCall (tableFor spawner) (spawning 64) 5 .answer ≡ Ran.D
 unfolding running spawners
 no-thread-row = spawner-run 64 5
 
--- as the step call says, by ground 13
+-- the step call refuses the step that lacks a thread row on ground 13
 pub step-no-thread-row : dueAnswer (tableFor spawner) (spawning 64) ≡ Stepped.Refused Ground.ThreadRow
 unfolding afterTurns
 step-no-thread-row =
@@ -187,12 +187,12 @@ makers-sound =
         let v : t * 8 + k < 128 = omega arith in
         filled (rw e i) (rw (e, f) (λ z. absurd (omega arith))) v (rw (e, f, getD-tabulate maxChannels (t * 8 + k) (channelOf (filledUp maker) 1 16 (λ t k. t * 8 + k) 128) [] v, lt-ltb (t * 8 + k) 128 v))
 
--- they know all 128 channels: the new lacks a row, though the thread is the last holder of the channel in the slot
+-- the makers know all 128 channels: the new lacks a row, though the thread is the last holder of the channel in the slot
 pub no-channel-row : runCall (tableFor maker) (stateBytes makers) 5 .answer ≡ Ran.Done 0 (LackedChannel 0)
 unfolding running makers
 no-channel-row = run-answer maker maker-in-order makers makers-sound 5
 
--- as the step call says, by ground 14
+-- the step call refuses the step that lacks a channel row on ground 14
 pub step-no-channel-row : dueAnswer (tableFor maker) (stateBytes makers) ≡ Stepped.Refused Ground.ChannelRow
 unfolding afterTurns
 step-no-channel-row =

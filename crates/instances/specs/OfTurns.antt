@@ -59,18 +59,18 @@ five-steps = (refl, refl)
 pub run-five : runCall table begun 5 .answer ≡ Ran.Done 5 AllDone
 run-five = run-done table accepts small begun begun-sound 5 ∙ rw (held-table, begun-view, five-steps .0, five-steps .1)
 
--- it is five turns
+-- the run of five steps is five turns
 pub five-turns : Turns (bodyOf (tableOf table)) (OurRules (tableOf table)) (OurLabels (tableOf table))
     (tabulate 5 (λ i. nextHad (tableOf table) (view (runCall table begun i .state))))
     (agentOf (tableOf table) idle (view begun)) (agentOf (tableOf table) idle (view (runCall table begun 5 .state)))
 five-turns = run-call-reduced table accepts small begun begun-sound idle idle-bench 5 5 AllDone run-five
 
--- of these threads
+-- the five turns are of these threads
 pub whose-turns : tabulate 5 (λ i. nextReady (stateAfter i)) ≡ 0 ∷ 0 ∷ 1 ∷ 0 ∷ 0 ∷ []
 unfolding running stateAfter
 whose-turns = refl
 
--- the first ends with (new) by branch 0, which makes channel 1; the third, of thread 1, passes over its one branch
+-- the first turn ends with (new) by branch 0, which makes channel 1; the third, of thread 1, passes over its one branch
 pub first-makes : nextHad (filledUp parting) (started (filledUp parting)) .does ≡ fired 0 (by-new 1)
 unfolding running nextHad firedBy
 first-makes = refl

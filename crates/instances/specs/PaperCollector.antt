@@ -58,7 +58,7 @@ module _ (tb : Table) (s : State) where
       tabulate maxThreads (λ u. getD (candidates first k) u false
       || (isWaiting (thread s u) && some (λ t. getD (candidates first k) t false && offersWith t u) maxThreads))
 
-  -- it gives up at none of them
+  -- the printed collector gives up at none of the candidates
   unfoldable pub takesAll : List Bool → Bool
   takesAll m = every (λ t. not (getD m t false) || allWait t) maxThreads
 

@@ -1,16 +1,120 @@
-// The answers of the exported calls, in the numbers that C sees: a record for each, and the functions that fill it.
+// The answers of the exported calls, in the numbers that C sees: the numbers of document 01 for what is answered, a record for each call, and the functions that fill it.
+// An unsigned number stands for the signed one of which it is the 32-bit pattern.
 ghost use mathlib.Core.Path.{_≡_};
 ghost use Prim.Native.Nat.{_≤_};
+ghost use Rattle.loader.specs.Verdict.{groundNumber};
 ghost use Rattle.loader.specs.Load.{refusalNumber, lineNumber};
+ghost use Rattle.engine.specs.Numbers as Numbers;
 ghost use Rattle.interface.specs.Interface.{startFields, startNumbers, stepFields, stepNumbers, giveFields, giveNumbers};
 ghost use Rattle.interface.specs.Interface.{takeFields, takeNumbers, runFields, runNumbers, collectFields, collectNumbers};
 use collector::Collected;
+use loader::Ground;
 use loader::Loaded;
+use rules::Deed;
 use rules::Given;
 use rules::Ran;
+use rules::Reason;
+use rules::Refusal;
 use rules::Started;
 use rules::Stepped;
 use rules::Taken;
+
+// The number of a ground on which a file is refused: 1 to 7.
+pub fn ground_number(ground: Ground) -> u32
+    ensures { λ r. ⌜ r ≡ groundNumber ground ⌝ }
+    ensures { λ r. ⌜ r ≤ 8 ⌝ }
+{
+    match ground {
+        Ground::Lines => 1,
+        Ground::Field => 2,
+        Ground::Header => 3,
+        Ground::Total => 3,
+        Ground::Kind => 3,
+        Ground::Sums => 3,
+        Ground::Range => 4,
+        Ground::Types => 5,
+        Ground::Unwritten => 6,
+        Ground::Unreachable => 7,
+    }
+}
+
+// The number of a ground on which a call is refused: 8 to 14.
+pub fn refusal_of(refusal: Refusal) -> u32
+    ensures { λ r. ⌜ r ≡ Numbers.refusalNumber refusal ⌝ }
+{
+    match refusal {
+        Refusal::Length => 8,
+        Refusal::Table => 9,
+        Refusal::State => 10,
+        Refusal::Thread => 11,
+        Refusal::Port => 12,
+        Refusal::ThreadRow => 13,
+        Refusal::ChannelRow => 14,
+    }
+}
+
+// The number of what a step did: 0 ended, 1 called, 2 waited, 3 took a branch.
+pub fn act_number(deed: Deed) -> u32
+    ensures { λ r. ⌜ r ≡ Numbers.actNumber deed ⌝ }
+{
+    match deed {
+        Deed::Ended => 0,
+        Deed::Called => 1,
+        Deed::Waited => 2,
+        Deed::Took(_) => 3,
+        Deed::TookWith(_, _) => 3,
+    }
+}
+
+// The branch that a step took, and 0 where it took none.
+pub fn branch_number(deed: Deed) -> u32
+    ensures { λ r. ⌜ r ≡ Numbers.branchNumber deed ⌝ }
+{
+    match deed {
+        Deed::Ended => 0,
+        Deed::Called => 0,
+        Deed::Waited => 0,
+        Deed::Took(i) => i,
+        Deed::TookWith(i, _) => i,
+    }
+}
+
+// The partner or child of a step, and -1 where it has none.
+pub fn partner_number(deed: Deed) -> u32
+    ensures { λ r. ⌜ r ≡ Numbers.partnerNumber deed ⌝ }
+{
+    match deed {
+        Deed::Ended => state::MINUS_ONE,
+        Deed::Called => state::MINUS_ONE,
+        Deed::Waited => state::MINUS_ONE,
+        Deed::Took(_) => state::MINUS_ONE,
+        Deed::TookWith(_, u) => u,
+    }
+}
+
+// The number of the reason for which a run ended.
+pub fn reason_number(reason: Reason) -> u32
+    ensures { λ r. ⌜ r ≡ Numbers.reasonNumber reason ⌝ }
+{
+    match reason {
+        Reason::AllDone => 0,
+        Reason::NoneReady => 1,
+        Reason::LackedThread(_) => 2,
+        Reason::LackedChannel(_) => 3,
+    }
+}
+
+// The thread that lacked a row when a run ended, and -1 where none did.
+pub fn held_up_number(reason: Reason) -> u32
+    ensures { λ r. ⌜ r ≡ Numbers.heldUpNumber reason ⌝ }
+{
+    match reason {
+        Reason::AllDone => state::MINUS_ONE,
+        Reason::NoneReady => state::MINUS_ONE,
+        Reason::LackedThread(t) => t,
+        Reason::LackedChannel(t) => t,
+    }
+}
 
 // The answer of a load: the refusal, 0 for none, and the line at fault, 0 for none.
 #[repr(C)]
@@ -26,7 +130,7 @@ pub fn refusal_number(answer: Loaded) -> u32
 {
     match answer {
         Loaded::Done => 0,
-        Loaded::FileRefused(ground, _) => answers::ground_number(ground),
+        Loaded::FileRefused(ground, _) => ground_number(ground),
         Loaded::WrongLength => 8,
     }
 }
@@ -150,7 +254,7 @@ pub fn start_numbers(answer: Started) -> StartAnswer
 {
     match answer {
         Started::Done => start_fields(0),
-        Started::Refused(ground) => start_fields(answers::refusal_of(ground)),
+        Started::Refused(ground) => start_fields(refusal_of(ground)),
     }
 }
 
@@ -162,12 +266,12 @@ pub fn step_numbers(answer: Stepped) -> StepAnswer
             step_fields(
                 0,
                 node,
-                answers::act_number(deed),
-                answers::branch_number(deed),
-                answers::partner_number(deed),
+                act_number(deed),
+                branch_number(deed),
+                partner_number(deed),
             )
         }
-        Stepped::Refused(ground) => step_fields(answers::refusal_of(ground), 0, 0, 0, 0),
+        Stepped::Refused(ground) => step_fields(refusal_of(ground), 0, 0, 0, 0),
     }
 }
 
@@ -177,7 +281,7 @@ pub fn give_numbers(answer: Given) -> GiveAnswer
     match answer {
         Given::Met(thread) => give_fields(0, thread),
         Given::Nobody => give_fields(0, state::MINUS_ONE),
-        Given::Refused(ground) => give_fields(answers::refusal_of(ground), 0),
+        Given::Refused(ground) => give_fields(refusal_of(ground), 0),
     }
 }
 
@@ -187,7 +291,7 @@ pub fn take_numbers(answer: Taken) -> TakeAnswer
     match answer {
         Taken::Met(thread, number) => take_fields(0, thread, number),
         Taken::Nobody => take_fields(0, state::MINUS_ONE, 0),
-        Taken::Refused(ground) => take_fields(answers::refusal_of(ground), 0, 0),
+        Taken::Refused(ground) => take_fields(refusal_of(ground), 0, 0),
     }
 }
 
@@ -196,14 +300,9 @@ pub fn run_numbers(answer: Ran) -> RunAnswer
 {
     match answer {
         Ran::Done(steps, reason) => {
-            run_fields(
-                0,
-                steps,
-                answers::reason_number(reason),
-                answers::held_up_number(reason),
-            )
+            run_fields(0, steps, reason_number(reason), held_up_number(reason))
         }
-        Ran::Refused(ground) => run_fields(answers::refusal_of(ground), 0, 0, 0),
+        Ran::Refused(ground) => run_fields(refusal_of(ground), 0, 0, 0),
     }
 }
 
@@ -212,6 +311,6 @@ pub fn collect_numbers(answer: Collected) -> CollectAnswer
 {
     match answer {
         Collected::Done(threads) => collect_fields(0, threads),
-        Collected::Refused(ground) => collect_fields(answers::refusal_of(ground), 0),
+        Collected::Refused(ground) => collect_fields(refusal_of(ground), 0),
     }
 }

@@ -9,17 +9,18 @@ use lib.ListN.{length, take}
 use lib.Seq.{length-take-le}
 use borrow.Author.Tests.{leb-true, ne-eqb}
 use Rattle.numbers.specs.Search.Laws.{caseB}
-use Rattle.file.specs.File.{notLines}
+use Rattle.table.specs.Table.{maxRows}
+use Rattle.file.specs.File.{lineLength, notLines}
 use Rattle.loader.specs.Verdict.{verdict}
 use Rattle.listing_text.specs.Listing.{listingBy, listing}
 
 too-long : (file : List ℕ) → 63145 < length file → notLines file ≡ true
 unfolding notLines
 too-long file h =
-    caseB (leb (length file / 73) 865)
-    (λ y. let n : length file / 73 ≤ 865 = leb-true (length file / 73) 865 y in
-    caseB (leb 1 (length file / 73)) (λ z. rw (z, y, ne-eqb (length file % 73) 0 (λ e. omega arith))) (λ z. rw z))
-    (λ y. caseB (leb 1 (length file / 73)) (λ z. rw (z, y)) (λ z. rw z))
+    caseB (leb (length file / lineLength) maxRows)
+    (λ y. let n : length file / lineLength ≤ maxRows = leb-true (length file / lineLength) maxRows y in
+    caseB (leb 1 (length file / lineLength)) (λ z. rw (z, y, ne-eqb (length file % lineLength) 0 (λ e. omega arith))) (λ z. rw z))
+    (λ y. caseB (leb 1 (length file / lineLength)) (λ z. rw (z, y)) (λ z. rw z))
 
 pub listing-cut : (file : List ℕ) → 63145 < length file → listing (take 63146 file) ≡ listing file
 unfolding listing listingBy verdict

@@ -56,7 +56,7 @@ pub fn list_refusal(out: &mut [u8], ground: Ground, fault: usize) -> usize
     ensures { λ r. ⌜ r ≡ length (line (groundNumber ground ∷ fault ∷ [])) ⌝ }
     ensures { λ _. ⌜ now (out .exit) ≡ sets (now (out .entry)) 0 (line (groundNumber ground ∷ fault ∷ [])) ⌝ }
 {
-    let row = [answers::ground_number(ground), (fault % 65536) as u32];
+    let row = [interface::ground_number(ground), (fault % 65536) as u32];
     put_line(out, 0, &row)
 }
 
@@ -67,9 +67,9 @@ pub fn put_step(out: &mut [u8], at: usize, k: u32, t: u32, answer: Stepped)
 {
     match answer {
         Stepped::Done(node, deed) => {
-            let act = answers::act_number(deed);
-            let branch = answers::branch_number(deed);
-            let partner = answers::partner_number(deed);
+            let act = interface::act_number(deed);
+            let branch = interface::branch_number(deed);
+            let partner = interface::partner_number(deed);
             put_line(out, at, &[k, t, node, act, branch, partner]);
         }
         Stepped::Refused(_) => {}

@@ -115,8 +115,8 @@ fn list_end(
     let before = *state;
     let count = collector::collect_in(table, index, state);
     let why = run.reason;
-    let reason = answers::reason_number(why);
-    let held_up = answers::held_up_number(why);
+    let reason = interface::reason_number(why);
+    let held_up = interface::held_up_number(why);
     let used = listing_lines::channels_in_use(state);
     let row = [run.steps, reason, held_up, count, used];
     let end = listing_lines::put_line(out, STEP + run.steps as usize * STEP, &row);

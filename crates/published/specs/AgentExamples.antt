@@ -101,7 +101,7 @@ module _ (def : ℕ → Process) (forNumbers : ℕ → ℕ → Bool) (Δ : Chann
   unfolding bind
   ends-differ q = clash (let e : none ≡ some (number n) = ap (λ (X : Agent). look (nth (X .threads) 1 .env) 2) q in cc)
 
-  -- they differ in no more than the commitment that is met
+  -- the two ends differ in no more than the commitment that is met
   pub ends-alike : Alike giving by-first by-second
   ends-alike = settled-choice def meets-first meets-second
 
@@ -151,7 +151,7 @@ module _ (def : ℕ → Process) (forNumbers : ℕ → ℕ → Bool) (Δ : Chann
     put-back = same-order (by-second .threads);
   }
 
-  -- they end differently in no more than the commitment
+  -- the two whole turns end differently in no more than the commitment that is met
   pub ends-upto : UpTo def forNumbers giving gives-first by-first by-second
   ends-upto =
       other-taker taking taking [] [] P 0 1 2 R S (number n) (same-order (giving .threads)) (same-order (giving .threads)) (inl refl) (inr (inl refl))

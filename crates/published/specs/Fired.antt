@@ -130,7 +130,7 @@ module _ (def : ℕ → Process) (More : Agent → Agent → Type 0) (own : Labe
     none-had : {A : Agent} → Turns [] A A
     had : {A B C : Agent} {h : Had} {l : List Had} → SteppedBy A (h .who) (h .does) B → Turns l B C → Turns (h ∷ l) A C
 
-  -- they are a series of reductions
+  -- the turns in a list are a series of reductions
   pub turns-reach : {l : List Had} {A B : Agent} → Turns l A B → Reaches def More A B
   turns-reach none-had = stays
   turns-reach (had {A} {B} {h = h} x w) = many-on (Reduces def More) (stepped-reaches def More A (h .who) B (x .stepped)) (turns-reach w)

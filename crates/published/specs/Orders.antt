@@ -23,7 +23,7 @@ module _ (t : Thread) where
   more-first (here {A}) = same-order (t ∷ A)
   more-first (behind m) = twice (same-first (more-first m)) swapped
 
-  -- it stands at some place in every order, and the rest is in another order
+  -- a thread stands at some place in every order, and the rest is in another order
   found : {A B A′ : List Thread} → Rearranged A B → More t A A′ → (B′ : List Thread) × More t B B′ × Rearranged A′ B′
   found (same-first {t = u} {A = A} {B = B} r) here = (B, here, r)
   found (same-first {t = u} r) (behind m) = let (B′, n, h) = found r m in (u ∷ B′, behind n, same-first h)

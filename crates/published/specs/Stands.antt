@@ -210,7 +210,7 @@ module _ (def : ℕ → Process) (forNumbers : ℕ → ℕ → Bool) where
   abbrev twofold : Env → Thread
   twofold δ = thread [] δ (choice (branch always tau end (branch always (output 0 1) end nothing)))
 
-  -- it has a turn by (step) of branch 0 ...
+  -- the thread of the example has a turn by (step) of branch 0
   pub twofold-steps : (Δ : Channels) (δ : Env)
       → SteppedBy def (Ours def forNumbers) (ours-fire def forNumbers) (agent Δ (twofold δ ∷ [])) (twofold δ) (fired 0 by-step) (agent Δ (thread [] δ end ∷ []))
   unfolding holds firing Ends
@@ -236,7 +236,7 @@ module _ (def : ℕ → Process) (forNumbers : ℕ → ℕ → Bool) where
   first-branch δ (suc i) r (inl e, x) = contra refl e
   first-branch δ (suc i) r (inr z, x) = absurd z
 
-  -- nothing else fires in it: not branch 1, whoever waits for what it sends, and no other rule
+  -- nothing else fires in the thread of the example: not branch 1, whoever waits for what it sends, and no other rule
   pub twofold-only : {A B : Agent} (δ : Env) (f : Fired) → SteppedBy def (Ours def forNumbers) (ours-fire def forNumbers) A (twofold δ) f B → f .rule ≢ by-zeros
       → (f .branch ≡ 0) × (f .rule ≡ by-step)
   unfolding StandsIn

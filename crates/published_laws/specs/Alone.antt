@@ -169,7 +169,7 @@ module _ (tb : Table) (g : Granted tb) (rd : Readable tb) (s : State) (o : Order
         let start = rw (at-choice kind) at own-first in
         rw (at-choice kind) (turn-by (bodyOf tb) More own (fired k r) (twice start (same-first p)) w q)
 
-    -- it writes the row of the thread alone
+    -- the reduction of a branch that writes the row of the thread alone
     single : (r : Rule) (row : List ℕ) → inUse row ≡ true → (D : Channels)
         → ((Γ : List Commitment) (q : Sum) → ActsBy (bodyOf tb) More own (fired 0 r)
         (agent (channelsOf s) (midway tb g rd s o t l ready b bn Γ (tip tb g rd s o t l ready b bn k q) ∷ rest))

@@ -150,7 +150,7 @@ module _ (tb : Table) (g : Granted tb) (rd : Readable tb) (s : State) (ok : Soun
   pub stuck-once : Sticks (agent (channelsOf s) (clique ++ leftThreads)) (agent (channelsOf s) leftThreads)
   stuck-once = stuck clique leftThreads clique-waits clique-unknown
 
-  -- and after it any number of uses of (reclaim)
+  -- after the use of (stuck) come any number of uses of (reclaim)
   pub reclaimed-after : Many Reclaims (agent (channelsOf s) leftThreads) (agentOf tb b (collected tb s))
   unfolding collected agentOf channelsOf
   reclaimed-after =

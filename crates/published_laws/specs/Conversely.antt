@@ -141,7 +141,7 @@ module _ (tb : Table) (g : Granted tb) (rd : Readable tb) (s : State) (o : Order
   abbrev EndsLike : Move → Type 0
   EndsLike m = UpTo (bodyOf tb) (forNumbers tb) (agentOf tb b s) (readyThread tb (thread s t)) T (agentOf tb b (written tb s t m))
 
-  -- it is that agent itself, the threads in some order
+  -- the end is the agent of what the move writes, the threads in some order
   abbrev EndsSo : Move → Type 0
   EndsSo m = Is T (agentOf tb b (written tb s t m) .channels) (agentOf tb b (written tb s t m) .threads)
 

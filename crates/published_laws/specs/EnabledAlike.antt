@@ -150,7 +150,7 @@ module _ (tb : Table) (g : Granted tb) (rd : Readable tb) (s : State) (ok : Soun
   holder-in : (u c : ℕ) → holds tb (thread s u) c ≡ true → u < maxThreads
   holder-in u c h =
       caseB (ltb u maxThreads) (λ y. ltb-true u maxThreads y)
-      (λ y. let e : thread s u ≡ [] = List·getD-eq-default (s .threads) [] {n = u} (omega (arith, ok .orderly .shaped .all-threads, ltb-false u 64 y)) in
+      (λ y. let e : thread s u ≡ [] = List·getD-eq-default (s .threads) [] {n = u} (omega (arith, ok .orderly .shaped .all-threads, ltb-false u maxThreads y)) in
       contra (holds-elim tb [] c (rw e at h) .used) refl)
 
   from-ours : {t : ℕ} → Collector.Enabled tb s nobody t → Enabled A (placeOf t)

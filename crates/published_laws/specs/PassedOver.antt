@@ -98,7 +98,7 @@ module _ (tb : Table) (g : Granted tb) (rd : Readable tb) (s : State) (o : Order
 
     -- ---- a whole turn from the midst of a choice
 
-    -- its first reduction is an action, or else one that commits, and the rest of the turn
+    -- the first reduction of a whole turn is an action, or else one that commits, before the rest of the turn
     abbrev Ahead : List Commitment → Sum → Agent → Type 0
     Ahead Γ Q T =
         BySum (channelsOf s) Γ (envOf tb (thread s t)) B false Q T

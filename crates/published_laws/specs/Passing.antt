@@ -50,7 +50,7 @@ module _ (tb : Table) (s : State) (t : ℕ) where
   abbrev pub Unanswered : Direction → ℕ → Type 0
   Unanswered d c = (u : ℕ) → u < maxThreads → u ≢ t → offers tb (thread s u) d c ≡ false
 
-  -- its guard is false, or it is a meeting that nobody answers
+  -- branch i is passed over: its guard is false, or it is a meeting that nobody answers
   pub data Passed (i : ℕ) : Type 0 where
     closed : guardHolds tb (branchAt tb (standsAt (thread s t)) i) (thread s t) ≡ false → Passed i
     unmet : (d : Direction) → guardHolds tb (branchAt tb (standsAt (thread s t)) i) (thread s t) ≡ true

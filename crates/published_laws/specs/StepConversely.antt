@@ -44,7 +44,7 @@ module _ (table : List ℕ) (ok : accepted table ≡ true) (fit : (i : ℕ) → 
   sound : Sound tb (view state)
   sound = view-sound table state sb
 
-  -- it ends, up to what 002 leaves open, in an agent that uses of (reclaim) take to that of the bytes after the call
+  -- the whole turn of a step that is done ends, up to what 002 leaves open, in an agent that uses of (reclaim) take to that of the bytes after the call
   pub step-call-conversely : (b : Thread) → Bench (tableOf table) b → (t k : ℕ) (d : Deed) → stepCall table state t .answer ≡ Stepped.Done k d → (T : Agent)
       → WholeTurn (bodyOf (tableOf table)) (agentOf (tableOf table) b (view state)) (threadOf (tableOf table) (thread (view state) t)) T
       → (E : Agent) × UpTo (bodyOf (tableOf table)) (forNumbers (tableOf table)) (agentOf (tableOf table) b (view state))

@@ -204,7 +204,7 @@ module _ (tb : Table) (g : Granted tb) (rd : Readable tb) (s : State) (ok : Soun
       (λ k p z. waits-reduced tb g rd s (ok .orderly) t l ready b bn Nothing nothing-fires (λ i m f A C x. contra (z i m) f) k p)
       (λ k (x, before) z. tau-assignment (actOf tb (branchAt tb (standsAt (thread s t)) k)) z (x .does))
 
-  -- so is the step, where it is none of these
+  -- the step is one by 002's rules alone, if its turn is
   pub step-published : Plain tb (thread s t) (move tb s t)
       → SteppedBy (bodyOf tb) Nothing nothing-fires (agentOf tb b s) (threadOf tb (thread s t)) (firedBy tb s t (move tb s t))
       (agentOf tb b (perform tb s t (move tb s t)))

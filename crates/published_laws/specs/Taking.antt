@@ -57,7 +57,7 @@ module _ (table : List ℕ) (ok : accepted table ≡ true) (fit : (i : ℕ) → 
   in-range t u =
       caseB (ltb t maxThreads) (λ y. ltb-true t maxThreads y)
       (λ y. let e : thread (view state) t ≡ [] =
-      List·getD-eq-default (view state .threads) [] {n = t} (omega (arith, sound .orderly .shaped .all-threads, ltb-false t 64 y)) in
+      List·getD-eq-default (view state .threads) [] {n = t} (omega (arith, sound .orderly .shaped .all-threads, ltb-false t maxThreads y)) in
       contra (rw e at u) refl)
 
   taken-row : (t : ℕ) → inUse (thread (view state) t) ≡ true → takenBy table state t ≡ taken tb (view state) t

@@ -196,7 +196,7 @@ bits-few p (suc n) = omega (arith, sum-suc (λ t. bit (p t)) n, bits-few p n, bi
 
 few-taken : (tb : Table) (s : State) → takenCount tb s < 2147483648
 unfolding takenCount
-few-taken tb s = omega (arith, bits-few (taken tb s) 64)
+few-taken tb s = omega (arith, bits-few (taken tb s) maxThreads)
 
 module _ (table : List ℕ) (ok : accepted table ≡ true) (fit : (i : ℕ) → getD table i 0 < 256) (state : List ℕ) (b : SoundBuffer table state) where
   zero-so : collectResult table state .answer .refusal ≡ pos 0
@@ -226,7 +226,7 @@ start-zero Started.Done e = refl
 start-zero (Started.Refused r) e = contra (ap isZero e) (not-zero r)
 
 module _ (table : List ℕ) (ok : accepted table ≡ true) (state : List ℕ) where
-  -- its buffer has the state's length, and no other asks for more
+  -- a start with an accepted table is done exactly if its buffer has the state's length
   pub started-iff : (startResult table state .answer .refusal ≡ pos 0) ↔ (length state ≡ stateLength)
   unfolding startResult inNumbers startCall startNumbers startFields
   started-iff = (

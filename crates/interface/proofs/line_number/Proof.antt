@@ -1,4 +1,4 @@
-use Rattle.interface.proofs.Arms.{line-arm}
+use Rattle.interface.proofs.Arms.{in-arm}
 use Rattle.loader.specs.Load.{lineNumber}
 use borrow.Author.Needs.{needs}
 use Rattle.interface.proofs.line_number.Statement.{statement}
@@ -12,6 +12,6 @@ line-number-spec =
     (λ c. search needs)
     (λ c. search needs)
     (λ c. search needs)
-    (λ c. search line-arm)
-    (λ c. search line-arm)
-    (λ c. search line-arm))
+    (λ c. search (in-arm lineNumber))
+    (λ c. search (in-arm lineNumber))
+    (λ c. search (in-arm lineNumber)))

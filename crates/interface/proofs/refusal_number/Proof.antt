@@ -1,4 +1,4 @@
-use Rattle.interface.proofs.Arms.{refusal-arm}
+use Rattle.interface.proofs.Arms.{in-arm}
 use Rattle.loader.specs.Load.{refusalNumber}
 use borrow.Author.Needs.{needs}
 use Rattle.interface.proofs.refusal_number.Statement.{statement}
@@ -13,6 +13,6 @@ refusal-number-spec =
     (λ c. search needs)
     (λ c κs. search needs)
     (λ c. search needs)
-    (λ c. (search refusal-arm, search needs))
-    (λ c. (search refusal-arm, search needs))
-    (λ c. (search refusal-arm, search needs)))
+    (λ c. (search (in-arm refusalNumber), search needs))
+    (λ c. (search (in-arm refusalNumber), search needs))
+    (λ c. (search (in-arm refusalNumber), search needs)))

@@ -1,9 +1,13 @@
-use Rattle.interface.proofs.Arms.{start-done, start-refused}
+use mathlib.Core.Path.{refl}
+use Rattle.rules.specs.declared.Started.the-variants as Started
+use Rattle.interface.proofs.Arms.{in-arm, refused-arm}
+use Rattle.interface.specs.Interface.{startFields, startNumbers}
 use borrow.Author.Needs.{needs}
 use Rattle.interface.proofs.start_numbers.Statement.{statement}
 use Rattle.interface.proofs.start_numbers.Tie as tie
 
 pub start-numbers-spec : {M : Type 1} → statement M
+unfolding startNumbers
 start-numbers-spec =
     tie.close
     (tie.spec
@@ -12,5 +16,5 @@ start-numbers-spec =
     (λ c. search needs)
     (λ c κs. search needs)
     (λ c κs. search needs)
-    (λ c. search (start-done, start-refused))
-    (λ c. search (start-done, start-refused)))
+    (λ c. search (in-arm startNumbers))
+    (λ c. search (refused-arm startNumbers startFields Started.Refused (λ g. refl))))

@@ -21,7 +21,7 @@ use Rattle.text.specs.Text.{text}
 use Rattle.text.specs.Text.Laws.{length-text, length-joined}
 use Rattle.loader.specs.Verdict.{groundNumber}
 use Rattle.loader.specs.declared.Ground.{Ground}
-use Rattle.state.specs.State.{State, typeIn, thread, standsAt, status, inUse}
+use Rattle.state.specs.State.{State, maxThreads, maxChannels, typeIn, thread, standsAt, status, inUse}
 use Rattle.rules.specs.Moves.{isFreeChannel}
 use Rattle.rules.specs.declared.Deed.{Deed}
 use Rattle.rules.specs.declared.Refusal.{Refusal}
@@ -143,12 +143,12 @@ module _ (s : State) where
   count-le zero = omega (arith, sum-none (λ x. bit (not (isFreeChannel s x))))
   count-le (suc c) = omega (arith, sum-suc (λ x. bit (not (isFreeChannel s x))) c, bit-le (not (isFreeChannel s c)), count-le c)
 
-  pub count-fits : (c n v : ℕ) → n ≡ inUseTo s c → v ≡ bit (not (isFreeChannel s c)) → c < 128 → Fits w32 (n + v)
+  pub count-fits : (c n v : ℕ) → n ≡ inUseTo s c → v ≡ bit (not (isFreeChannel s c)) → c < maxChannels → Fits w32 (n + v)
   count-fits c n v e f h = record { fits = omega (arith, e, f, count-le c, bit-le (not (isFreeChannel s c))) }
 
-  pub count-all : (c n : ℕ) → n ≡ inUseTo s c → c ≤ 128 → 128 ≤ c → n ≡ channelsInUse s
+  pub count-all : (c n : ℕ) → n ≡ inUseTo s c → c ≤ maxChannels → maxChannels ≤ c → n ≡ channelsInUse s
   unfolding inUseTo channelsInUse
-  count-all c n e h k = let q : c ≡ 128 = omega arith in e ∙ rw q
+  count-all c n e h k = let q : c ≡ maxChannels = omega arith in e ∙ rw q
 
 -- ---- a step
 
@@ -240,7 +240,7 @@ module _ (s s₁ : State) where
     goes-at = rw goes-start (omega arith)
 
     module _ (t q : ℕ) (e : q ≡ p + length (goneLines s s₁ t)) where
-      pub goes-fits : (b₁ : List ℕ) → length b₁ ≡ length b → p + 832 ≤ length b → t < 64 → q + 13 ≤ length b₁
+      pub goes-fits : (b₁ : List ℕ) → length b₁ ≡ length b → p + 832 ≤ length b → t < maxThreads → q + 13 ≤ length b₁
       goes-fits b₁ f g h = omega (arith, few t)
 
       pub goes-long : (r : ℕ) → r ≡ q + length (goneLine s s₁ t) → r ≡ p + length (goneLines s s₁ (t + 1))
@@ -249,8 +249,8 @@ module _ (s s₁ : State) where
       pub goes-more : (b₁ b₂ : List ℕ) → b₁ ≡ sets b p (goneLines s s₁ t) → b₂ ≡ sets b₁ q (goneLine s s₁ t) → b₂ ≡ sets b p (goneLines s s₁ (t + 1))
       goes-more b₁ b₂ f g = g ∙ rw (f, add-one t, goes-suc t, sets-append b p (goneLines s s₁ t) (goneLine s s₁ t), e)
 
-      pub goes-ends : t ≤ 64 → 64 ≤ t → q ≡ p + length (goneLines s s₁ 64)
-      goes-ends h k = let x : t ≡ 64 = omega arith in e ∙ rw x
+      pub goes-ends : t ≤ maxThreads → maxThreads ≤ t → q ≡ p + length (goneLines s s₁ maxThreads)
+      goes-ends h k = let x : t ≡ maxThreads = omega arith in e ∙ rw x
 
-    pub goes-all : (t : ℕ) (b₁ : List ℕ) → b₁ ≡ sets b p (goneLines s s₁ t) → t ≤ 64 → 64 ≤ t → b₁ ≡ sets b p (goneLines s s₁ 64)
-    goes-all t b₁ f h k = let x : t ≡ 64 = omega arith in f ∙ rw x
+    pub goes-all : (t : ℕ) (b₁ : List ℕ) → b₁ ≡ sets b p (goneLines s s₁ t) → t ≤ maxThreads → maxThreads ≤ t → b₁ ≡ sets b p (goneLines s s₁ maxThreads)
+    goes-all t b₁ f h k = let x : t ≡ maxThreads = omega arith in f ∙ rw x

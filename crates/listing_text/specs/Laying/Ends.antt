@@ -24,9 +24,9 @@ module _ (tb : Table) (s : State) where
   unfolding goneLine takenLine
   gone-taken t l = rw (taken-shows tb s t l)
 
-  goes-taken : goneLines s (collected tb s) 64 ≡ takenLines tb s
+  goes-taken : goneLines s (collected tb s) maxThreads ≡ takenLines tb s
   unfolding goneLines takenLines
-  goes-taken = rw (tabulate-cong 64 (goneLine s (collected tb s)) (takenLine tb s) gone-taken)
+  goes-taken = rw (tabulate-cong maxThreads (goneLine s (collected tb s)) (takenLine tb s) gone-taken)
 
   -- n: the steps, r: the reason, x: its number, y: the thread held up, z: how many threads were taken, c: the channels in use; s₁: the state afterwards
   module _ (n x y z c : ℕ) (r : Reason) (s₁ : State) (e : s₁ ≡ collected tb s) (f : x ≡ reasonNumber r) (g : y ≡ heldUpNumber r) (h : z ≡ takenCount tb s) (i : c ≡ channelsInUse s₁) where
@@ -34,16 +34,17 @@ module _ (tb : Table) (s : State) where
     unfolding closingLine
     closing-is = rw (f, g, h, i, e)
 
-    ends-are : endLines tb (course n r s) ≡ line (n ∷ x ∷ y ∷ z ∷ c ∷ []) ++ goneLines s s₁ 64
+    ends-are : endLines tb (course n r s) ≡ line (n ∷ x ∷ y ∷ z ∷ c ∷ []) ++ goneLines s s₁ maxThreads
     unfolding endLines
     ends-are = rw (closing-is, e, goes-taken)
 
     module _ (p q : ℕ) (j : q ≡ p + 5 * 6 + 1) where
-      pub end-long : (v : ℕ) → v ≡ q + length (goneLines s s₁ 64) → v ≡ p + length (endLines tb (course n r s))
+      pub end-long : (v : ℕ) → v ≡ q + length (goneLines s s₁ maxThreads) → v ≡ p + length (endLines tb (course n r s))
       end-long v k =
-          rw ends-are (omega (arith, length-append (line (n ∷ x ∷ y ∷ z ∷ c ∷ [])) (goneLines s s₁ 64), length-line (n ∷ x ∷ y ∷ z ∷ c ∷ [])))
+          rw ends-are (omega (arith, length-append (line (n ∷ x ∷ y ∷ z ∷ c ∷ [])) (goneLines s s₁ maxThreads), length-line (n ∷ x ∷ y ∷ z ∷ c ∷ [])))
 
-      pub end-laid : (b b₁ b₂ : List ℕ) → b₁ ≡ sets b p (line (n ∷ x ∷ y ∷ z ∷ c ∷ [])) → b₂ ≡ sets b₁ q (goneLines s s₁ 64) → b₂ ≡ sets b p (endLines tb (course n r s))
+      pub end-laid : (b b₁ b₂ : List ℕ) → b₁ ≡ sets b p (line (n ∷ x ∷ y ∷ z ∷ c ∷ [])) → b₂ ≡ sets b₁ q (goneLines s s₁ maxThreads)
+          → b₂ ≡ sets b p (endLines tb (course n r s))
       end-laid b b₁ b₂ k m =
           let o : q ≡ p + length (line (n ∷ x ∷ y ∷ z ∷ c ∷ [])) = omega (arith, length-line (n ∷ x ∷ y ∷ z ∷ c ∷ [])) in
-          m ∙ rw (k, o, ends-are, sets-append b p (line (n ∷ x ∷ y ∷ z ∷ c ∷ [])) (goneLines s s₁ 64))
+          m ∙ rw (k, o, ends-are, sets-append b p (line (n ∷ x ∷ y ∷ z ∷ c ∷ [])) (goneLines s s₁ maxThreads))

@@ -70,7 +70,7 @@ module _ (tb : Table) (s : State) where
       says : w ≡ turnBy t (move tb s t)
       says = ap (λ (k : Turned). k .turn) taken ∙ end-turn t (turnBy t (move tb s t))
 
-      pub turn-taken : (s₂ : State) → s₂ ≡ settled tb x → t ≡ nextReady s → t < 64 → turned w s₂ ≡ takeTurn tb s
+      pub turn-taken : (s₂ : State) → s₂ ≡ settled tb x → t ≡ nextReady s → t < maxThreads → turned w s₂ ≡ takeTurn tb s
       turn-taken s₂ f i l = rw f (next-turn tb s t i (turned w (settled tb x)) taken l)
 
       pub turn-laid : (l l₁ : List ℕ) (p i n : ℕ) (m : Move) (y : Stepped) → l₁ ≡ sets l p (stepLine (i + 1) t y) → y ≡ stepAnswer n m → m ≡ move tb (settled tb s) t

@@ -48,7 +48,7 @@ use Rattle.listing_text.specs.Laying.{longest, endLines}
 
 -- ---- an accepted table
 
--- its index, and what it grants
+-- an accepted table is indexed, grants what the rules ask of a table, and starts with a sound state
 module _ (table : List ℕ) (ok : accepted table ≡ true) where
   pub accepted-indexed : (x : List ℕ) (r : Bool) → r ≡ accepted table → (r ≡ true → Indexed (tableOf table) x) → Indexed (tableOf table) x
   accepted-indexed x r e f = f (e ∙ ok)
