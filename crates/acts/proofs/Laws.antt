@@ -6,13 +6,13 @@ use lib.ListN.{set}
 use Rattle.numbers.specs.Rows.{at}
 use Rattle.table.specs.Fields as Field
 use Rattle.table.specs.Table.{Table}
-use Rattle.state.specs.State.{State, stateOf, thread, channel, standsAt, slotsOf, withMark, withThread, withChannel}
-use Rattle.rules.specs.Program.{branchAt, nextOf, childOf}
-use Rattle.rules.specs.Moves.{oneUp, resumed, stored, gone, typed, createdBy, typeBy, spawnedBy, written}
+use Rattle.state.specs.State.{State, stateOf, thread, channel, standsAt, slotsOf, withMark, withThread, withChannel, maxChannels, maxThreads}
+use Rattle.rules.specs.Program.{typeAt, branchAt, nextOf, childOf, actOf, assigned}
+use Rattle.rules.specs.Moves.{oneUp, resumed, stored, gone, goneBy, typed, createdBy, typeBy, spawnedBy, written}
 use Rattle.rules.specs.declared.Direction.{Direction}
 use Rattle.rules.specs.declared.Act.{Act}
 use Rattle.rules.specs.declared.Act.the-variants.{Tau, Meeting, New, Spawn, Assignment}
-use Rattle.rules.specs.declared.Move.the-variants.{Creates, Spawns}
+use Rattle.rules.specs.declared.Move.the-variants.{Goes, Creates, Spawns}
 use Rattle.thread_rows.specs.WrittenRows.Laws.{stored-after}
 
 -- ---- thread t goes on at node n: s₁ after the head of its row is written, and s₂ with v in slot k besides
@@ -36,31 +36,36 @@ module _ (b : List ℕ) (t n k v : ℕ) (s₁ : State) (e : s₁ ≡ withThread 
     unfolding gone
     spawn-passes f = rw f e
 
-  module _ (s₂ : State) (g : s₂ ≡ withThread s₁ t (stored (thread s₁ t) k v)) (h : t < 64) where
+  module _ (s₂ : State) (g : s₂ ≡ withThread s₁ t (stored (thread s₁ t) k v)) (h : t < maxThreads) where
     pub assignment-stores : (a : Act) → a ≡ Assignment → s₂ ≡ withThread (stateOf b) t (gone a (thread (stateOf b) t) n k v)
     unfolding gone
     assignment-stores a f = rw f (stored-after b t (resumed (thread (stateOf b) t) n) s₁ s₂ k v g e h)
 
-    -- a new channel v in slot k
-    pub holder-goes : (tb : Table) (i m r : ℕ) → k ≡ at tb r Field.a → n ≡ nextOf tb m r → r ≡ branchAt tb m i → m ≡ standsAt (thread (stateOf b) t)
-        → s₂ ≡ withThread (stateOf b) t (createdBy tb (thread (stateOf b) t) i v)
-    unfolding createdBy
-    holder-goes tb i m r p q x y =
-        stored-after b t (resumed (thread (stateOf b) t) n) s₁ s₂ k v g e h ∙ rw (p, q, x, y)
+-- by its branch i, in row r of the table: m is the node before
+pub gone-written : (tb : Table) (s s₁ : State) (t i n k v m r : ℕ) (a : Act) → s₁ ≡ withThread s t (gone a (thread s t) n k v) → a ≡ actOf tb r
+    → n ≡ nextOf tb m r → k ≡ at tb r Field.a → v ≡ assigned tb r (thread s t) → r ≡ branchAt tb m i → m ≡ standsAt (thread s t)
+    → s₁ ≡ written tb s t (Goes i)
+unfolding written goneBy
+gone-written tb s s₁ t i n k v m r a e f g h j p q = e ∙ rw (f, g, h, j, p, q)
 
 pub ruleset lone-goings = (tau-passes, meeting-passes, new-passes, spawn-passes, assignment-stores)
 
--- ---- a mark k gets m: the channels' past a new channel, the threads' past a child
+-- ---- a mark j gets x: the channels' past a new channel, the threads' past a child
 
-module _ (tb : Table) (s s₁ s₂ : State) (t i k m : ℕ) where
-  pub creation-written : (s₃ : State) (c ty : ℕ) → s₃ ≡ withMark s₂ k m → k ≡ 1 → m ≡ oneUp 128 c → s₂ ≡ withChannel s₁ c (set (channel s₁ c) 0 ty)
-      → ty ≡ typeBy tb (thread s t) i → s₁ ≡ withThread s t (createdBy tb (thread s t) i c) → s₃ ≡ written tb s t (Creates i c)
-  unfolding written typed
-  creation-written s₃ c ty e f g h p q = e ∙ rw (f, g, h, p, q)
+-- thread t goes on at n, s₁; the new channel c stands in its slot k, s₂; the channel has its type, s₃; m is the node before, and r the row of the branch
+module _ (tb : Table) (b : List ℕ) (t i c n k m r ty j x : ℕ) (s₁ s₂ s₃ s₄ : State) where
+  pub creation-written : s₄ ≡ withMark s₃ j x → j ≡ 1 → x ≡ oneUp maxChannels c → s₃ ≡ withChannel s₂ c (set (channel s₂ c) 0 ty)
+      → s₂ ≡ withThread s₁ t (stored (thread s₁ t) k c) → s₁ ≡ withThread (stateOf b) t (resumed (thread (stateOf b) t) n) → ty ≡ typeAt tb m k
+      → k ≡ at tb r Field.a → n ≡ nextOf tb m r → r ≡ branchAt tb m i → m ≡ standsAt (thread (stateOf b) t) → t < maxThreads
+      → s₄ ≡ written tb (stateOf b) t (Creates i c)
+  unfolding written typed typeBy createdBy
+  creation-written e f g h p q u v w y z l =
+      e ∙ rw (f, g, h, u, stored-after b t (resumed (thread (stateOf b) t) n) s₁ s₂ k c p q l, v, w, y, z)
 
-  pub spawn-written : (u : ℕ) → s₂ ≡ withMark s₁ k m → k ≡ 0 → m ≡ oneUp 64 u → s₁ ≡ spawnedBy tb s t i u → s₂ ≡ written tb s t (Spawns i u)
-  unfolding written
-  spawn-written u e f g h = e ∙ rw (f, g, h)
+pub spawn-written : (tb : Table) (s s₁ s₂ : State) (t i j x u : ℕ) → s₂ ≡ withMark s₁ j x → j ≡ 0 → x ≡ oneUp maxThreads u → s₁ ≡ spawnedBy tb s t i u
+    → s₂ ≡ written tb s t (Spawns i u)
+unfolding written
+spawn-written tb s s₁ s₂ t i j x u e f g h = e ∙ rw (f, g, h)
 
 -- the child stands at n, and its parent goes on at m; d is the node of both before, and r the row of the branch
 pub child-written : (tb : Table) (s s₁ s₂ : State) (t i u n m r d : ℕ) (l : List ℕ) → s₂ ≡ withThread s₁ u (1 ∷ n ∷ l) → l ≡ slotsOf (thread s t)

@@ -3,8 +3,8 @@ ghost use mathlib.Core.Path.{_≡_};
 ghost use Prim.Native.Nat.{_<_};
 ghost use Rattle.table.specs.Table.{tableOf};
 ghost use Rattle.table.specs.Index.{Indexed};
-ghost use Rattle.state.specs.State.{maxThreads, maxChannels, stateOf, thread};
-ghost use Rattle.rules.specs.Moves.{gone, createdBy, typeBy, spawnedBy, written};
+ghost use Rattle.state.specs.State.{maxThreads, maxChannels, stateOf};
+ghost use Rattle.rules.specs.Moves.{gone, written};
 ghost use Rattle.rules.specs.declared.Move.the-variants.{Goes, Creates, Spawns};
 ghost use Rattle.thread_rows.specs.WrittenRows.{rewritten};
 use rules::Act;
@@ -39,46 +39,6 @@ pub fn write_gone(table: &[u8], index: &[u32], state: &mut [u32; state::WORDS], 
     go_alone(state, t, program::act_of(table, index, row), next, slot, v);
 }
 
-// The row of thread t, which makes channel c by its branch i.
-fn write_holder(
-    table: &[u8],
-    index: &[u32],
-    state: &mut [u32; state::WORDS],
-    t: u32,
-    i: u32,
-    c: u32,
-)
-    requires { ⌜ Indexed (tableOf (now table)) (now index) ⌝ }
-    requires { ⌜ t < maxThreads ⌝ }
-    ensures { λ _. ⌜ stateOf (now (state .exit)) ≡ rewritten (stateOf (now (state .entry))) t (λ row. createdBy (tableOf (now (table .entry))) row i c) ⌝ }
-{
-    let node = thread_rows::stands_at(state, t);
-    let row = program::branch_at(table, index, node, i);
-    let next = program::next_of(table, index, node, row);
-    let slot = table::cell_of(table, index, row, field::A);
-    thread_rows::resume(state, t, next);
-    thread_rows::store(state, t, slot, c);
-}
-
-// The type of the channel that thread t's branch i makes.
-fn type_by(table: &[u8], index: &[u32], state: &[u32; state::WORDS], t: u32, i: u32) -> u32
-    requires { ⌜ Indexed (tableOf (now table)) (now index) ⌝ }
-    ensures { λ r. ⌜ r ≡ typeBy (tableOf (now (table .entry))) (thread (stateOf (now (state .entry))) t) i ⌝ }
-{
-    let node = thread_rows::stands_at(state, t);
-    program::type_at(
-        table,
-        index,
-        node,
-        table::cell_of(
-            table,
-            index,
-            program::branch_at(table, index, node, i),
-            field::A,
-        ),
-    )
-}
-
 // Thread t makes channel c by its branch i, and the channels' mark moves one past it.
 pub fn write_creation(
     table: &[u8],
@@ -93,8 +53,13 @@ pub fn write_creation(
     requires { ⌜ c < maxChannels ⌝ }
     ensures { λ _. ⌜ stateOf (now (state .exit)) ≡ written (tableOf (now (table .entry))) (stateOf (now (state .entry))) t (Creates i c) ⌝ }
 {
-    let kind = type_by(table, index, state, t, i);
-    write_holder(table, index, state, t, i, c);
+    let node = thread_rows::stands_at(state, t);
+    let row = program::branch_at(table, index, node, i);
+    let next = program::next_of(table, index, node, row);
+    let slot = table::cell_of(table, index, row, field::A);
+    let kind = program::type_at(table, index, node, slot);
+    thread_rows::resume(state, t, next);
+    thread_rows::store(state, t, slot, c);
     state::put_channel(state, c as usize, state::TYPE, kind);
     state::put_mark(
         state,
@@ -103,28 +68,7 @@ pub fn write_creation(
     );
 }
 
-// The rows of thread t, which makes the child u by its branch i, and of the child: both go on with the slots of t.
-fn write_child(table: &[u8], index: &[u32], state: &mut [u32; state::WORDS], t: u32, i: u32, u: u32)
-    requires { ⌜ Indexed (tableOf (now table)) (now index) ⌝ }
-    requires { ⌜ t < maxThreads ⌝ }
-    requires { ⌜ u < maxThreads ⌝ }
-    ensures { λ _. ⌜ stateOf (now (state .exit)) ≡ spawnedBy (tableOf (now (table .entry))) (stateOf (now (state .entry))) t i u ⌝ }
-{
-    let mut slots = [0u32; thread_rows::SLOTS];
-    thread_rows::copy_slots(state, t, &mut slots);
-    let node = thread_rows::stands_at(state, t);
-    let row = program::branch_at(table, index, node, i);
-    thread_rows::resume(state, t, program::next_of(table, index, node, row));
-    thread_rows::put_row(
-        state,
-        u,
-        1,
-        program::child_of(table, index, node, row),
-        &slots,
-    );
-}
-
-// Thread t makes the child u by its branch i, and the threads' mark moves one past the child.
+// Thread t makes the child u by its branch i: both go on with the slots of t, and the threads' mark moves one past the child.
 pub fn write_spawn(
     table: &[u8],
     index: &[u32],
@@ -138,7 +82,14 @@ pub fn write_spawn(
     requires { ⌜ u < maxThreads ⌝ }
     ensures { λ _. ⌜ stateOf (now (state .exit)) ≡ written (tableOf (now (table .entry))) (stateOf (now (state .entry))) t (Spawns i u) ⌝ }
 {
-    write_child(table, index, state, t, i, u);
+    let mut slots = [0u32; thread_rows::SLOTS];
+    thread_rows::copy_slots(state, t, &mut slots);
+    let node = thread_rows::stands_at(state, t);
+    let row = program::branch_at(table, index, node, i);
+    let next = program::next_of(table, index, node, row);
+    let child = program::child_of(table, index, node, row);
+    thread_rows::resume(state, t, next);
+    thread_rows::put_row(state, u, 1, child, &slots);
     state::put_mark(
         state,
         state::THREAD_MARK,

@@ -11,7 +11,7 @@ use Rattle.table.specs.Fields as Field
 use Rattle.table.specs.Table.{Table, nodeRow, branchRow}
 use Rattle.table.specs.Layout.{branchCount, start}
 use Rattle.table.specs.declared.Part.the-variants.{Branches}
-use Rattle.state.specs.State.{State, thread, slotOf}
+use Rattle.state.specs.State.{State, thread, slotOf, maxChannels, maxThreads}
 use Rattle.rules.specs.Program.{branchAt, actOf, guardHolds, opposite}
 use Rattle.rules.specs.Offers.{partnerOf}
 use Rattle.rules.specs.Moves.{freeThread, freeChannel, meeting, creation, spawning, goesAhead, actMove, branchMove, ahead, choice, move}
@@ -35,49 +35,23 @@ module _ (tb : Table) (s : State) (t i c : ℕ) (d o : Direction) (p : Partner) 
   meeting-with u j q = rw (← f, ← e, q)
 
 module _ (i c x : ℕ) (e : c ≡ x) where
-  pub creation-in : c < 128 → Creates i c ≡ creation i x
+  pub creation-in : c < maxChannels → Creates i c ≡ creation i x
   unfolding creation
   creation-in h = rw (← e, lt-ltb c 128 h)
 
-  pub creation-lacks : 128 ≤ c → LacksChannel ≡ creation i x
+  pub creation-lacks : maxChannels ≤ c → LacksChannel ≡ creation i x
   unfolding creation
   creation-lacks h = rw (← e, le-ltb c 128 h)
 
-  pub spawning-in : c < 64 → Spawns i c ≡ spawning i x
+  pub spawning-in : c < maxThreads → Spawns i c ≡ spawning i x
   unfolding spawning
   spawning-in h = rw (← e, lt-ltb c 64 h)
 
-  pub spawning-lacks : 64 ≤ c → LacksThread ≡ spawning i x
+  pub spawning-lacks : maxThreads ≤ c → LacksThread ≡ spawning i x
   unfolding spawning
   spawning-lacks h = rw (← e, le-ltb c 64 h)
 
--- ---- by the act of a branch
-
-module _ (tb : Table) (s : State) (t i r : ℕ) (a : Act) (e : a ≡ actOf tb r) where
-  pub tau-goes : a ≡ Tau → Goes i ≡ actMove tb s t i (actOf tb r)
-  unfolding actMove
-  tau-goes f = rw (← e, f)
-
-  pub assignment-goes : a ≡ Assignment → Goes i ≡ actMove tb s t i (actOf tb r)
-  unfolding actMove
-  assignment-goes f = rw (← e, f)
-
-  pub new-creates : (m : Move) → a ≡ New → m ≡ creation i (freeChannel s) → m ≡ actMove tb s t i (actOf tb r)
-  unfolding actMove
-  new-creates m f g = rw (← e, f) g
-
-  pub spawn-spawns : (m : Move) → a ≡ Spawn → m ≡ spawning i (freeThread s) → m ≡ actMove tb s t i (actOf tb r)
-  unfolding actMove
-  spawn-spawns m f g = rw (← e, f) g
-
-  pub meeting-meets : (m : Move) (d : Direction) (c k : ℕ) → a ≡ Meeting d → r ≡ branchAt tb (at (s .threads) t 1) i
-      → m ≡ meeting i (partnerOf tb s t (opposite d) c) → c ≡ slotOf (thread s t) k → k ≡ at tb r Field.a → m ≡ actMove tb s t i (actOf tb r)
-  unfolding actMove
-  meeting-meets m d c k f h g j l = rw (← e, f, ← h, ← l, ← j) g
-
-pub ruleset acts = (tau-goes, assignment-goes, new-creates, spawn-spawns, meeting-meets)
-
--- ---- by a branch
+-- ---- by branch i, in row r of the table: g is its guard and a its act
 
 module _ (tb : Table) (s : State) (t i : ℕ) where
   pub branch-row : (r : ℕ) → r ≡ branchRow tb + start tb Branches (at (s .threads) t 1) → r + i ≡ branchAt tb (at (s .threads) t 1) i
@@ -85,13 +59,32 @@ module _ (tb : Table) (s : State) (t i : ℕ) where
   branch-row r e = omega arith
 
   module _ (r : ℕ) (e : r ≡ branchAt tb (at (s .threads) t 1) i) (g : Bool) (h : g ≡ guardHolds tb r (thread s t)) where
-    pub branch-true : (m : Move) → g ≡ true → m ≡ actMove tb s t i (actOf tb r) → m ≡ branchMove tb s t i
+    pub guard-waits : g ≡ false → Waits ≡ branchMove tb s t i
     unfolding branchMove
-    branch-true m k j = rw (← e, ← h, k) j
+    guard-waits k = rw (← e, ← h, k)
 
-    pub branch-false : g ≡ false → Waits ≡ branchMove tb s t i
-    unfolding branchMove
-    branch-false k = rw (← e, ← h, k)
+    module _ (k : g ≡ true) (a : Act) (f : a ≡ actOf tb r) where
+      pub tau-goes : a ≡ Tau → Goes i ≡ branchMove tb s t i
+      unfolding branchMove actMove
+      tau-goes q = rw (← e, ← h, k, ← f, q)
+
+      pub assignment-goes : a ≡ Assignment → Goes i ≡ branchMove tb s t i
+      unfolding branchMove actMove
+      assignment-goes q = rw (← e, ← h, k, ← f, q)
+
+      module _ (m : Move) where
+        pub new-creates : a ≡ New → m ≡ creation i (freeChannel s) → m ≡ branchMove tb s t i
+        unfolding branchMove actMove
+        new-creates q j = rw (← e, ← h, k, ← f, q) j
+
+        pub spawn-spawns : a ≡ Spawn → m ≡ spawning i (freeThread s) → m ≡ branchMove tb s t i
+        unfolding branchMove actMove
+        spawn-spawns q j = rw (← e, ← h, k, ← f, q) j
+
+        pub meeting-meets : (d : Direction) (c n : ℕ) → a ≡ Meeting d → m ≡ meeting i (partnerOf tb s t (opposite d) c)
+            → c ≡ slotOf (thread s t) n → n ≡ at tb r Field.a → m ≡ branchMove tb s t i
+        unfolding branchMove actMove
+        meeting-meets d c n q j l o = rw (← e, ← h, k, ← f, q, ← e, ← o, ← l) j
 
 pub ahead-arm : (r : Bool) (m n : Move) → m ≡ n → r ≡ goesAhead n → r ≡ goesAhead m
 ahead-arm r m n e f = rw e f
@@ -122,7 +115,8 @@ module _ (tb : Table) (s : State) (t i : ℕ) where
 
 -- ---- at any node
 
-pub from-read : (tb : Table) (s : State) (t r n : ℕ) → r ≡ branchRow tb + start tb Branches n → n ≡ at (s .threads) t 1 → r ≡ branchRow tb + start tb Branches (at (s .threads) t 1)
+pub from-read : (tb : Table) (s : State) (t r n : ℕ) → r ≡ branchRow tb + start tb Branches n → n ≡ at (s .threads) t 1
+    → r ≡ branchRow tb + start tb Branches (at (s .threads) t 1)
 from-read tb s t r n e f = rw (← f) e
 
 module _ (tb : Table) (s : State) (t k n b : ℕ) (e : k ≡ at tb (b + n) Field.nodeKind) (f : b ≡ nodeRow tb) (g : n ≡ at (s .threads) t 1) where

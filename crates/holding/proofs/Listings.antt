@@ -15,7 +15,7 @@ use Rattle.table.specs.Fields as Field
 use Rattle.table.specs.Table.{Table, slotRow, slotCount}
 use Rattle.table.specs.Layout.{start, definitionOf}
 use Rattle.table.specs.declared.Part.the-variants.{Slots}
-use Rattle.state.specs.State.{slotOf, status, standsAt, isWaiting}
+use Rattle.state.specs.State.{slotOf, status, standsAt, isWaiting, maxChannels, rowSlots}
 use Rattle.holding.specs.Own.{room, ownList, ownRoom}
 use Rattle.holding.specs.Own.Listing.{listed, ownBy, listedTo}
 use Rattle.holding.specs.Own.Listing.Laws.{listed-own}
@@ -41,17 +41,17 @@ pub ruleset listings = (listed-none, listed-more, listed-hit, listed-past)
 
 -- own_at: v is what slot k has, and x its type
 module _ (tb : Table) (from : ℕ) (row l : List ℕ) (k v : ℕ) (e : v ≡ slotOf row k) where
-  pub own-high : 128 ≤ v → 128 ≡ ownBy tb from row l k
+  pub own-high : maxChannels ≤ v → maxChannels ≡ ownBy tb from row l k
   unfolding ownBy
   own-high h = rw (← e, le-ltb v 128 h)
 
-  module _ (x : ℕ) (f : x ≡ at tb (from + k) Field.type) (h : v < 128) where
-    pub own-number : x ≡ 0 → 128 ≡ ownBy tb from row l k
+  module _ (x : ℕ) (f : x ≡ at tb (from + k) Field.type) (h : v < maxChannels) where
+    pub own-number : x ≡ 0 → maxChannels ≡ ownBy tb from row l k
     unfolding ownBy
     own-number g = rw (← e, lt-ltb v 128 h, ← f, g)
 
     module _ (g : x ≡ 0 → ⊥) (r : Bool) (i : r ≡ listed l k v) where
-      pub own-listed : r ≡ true → 128 ≡ ownBy tb from row l k
+      pub own-listed : r ≡ true → maxChannels ≡ ownBy tb from row l k
       unfolding ownBy
       own-listed j = rw (← e, lt-ltb v 128 h, ← f, ne-eqb x 0 g, ← i, j)
 
@@ -79,11 +79,11 @@ module _ (tb : Table) (s d : ℕ) where
   room-free e = rw e
 
   module _ (n : ℕ) (f : n ≡ slotCount tb d) (e : s ≡ 0 → ⊥) where
-    pub room-few : n < 16 → n ≡ room tb s d
+    pub room-few : n < rowSlots → n ≡ room tb s d
     unfolding room
     room-few h = rw (ne-eqb s 0 e, ← f, lt-ltb n 16 h)
 
-    pub room-many : 16 ≤ n → 16 ≡ room tb s d
+    pub room-many : rowSlots ≤ n → rowSlots ≡ room tb s d
     unfolding room
     room-many h = rw (ne-eqb s 0 e, ← f, le-ltb n 16 h)
 
@@ -93,7 +93,7 @@ module _ (tb : Table) (row : List ℕ) (s : ℕ) (e : s ≡ status row) (f : s �
   unfolding ownRoom room
   free-room-is = rw (← e, f)
 
-  pub free-list-is : replicate 16 128 ≡ ownList tb row
+  pub free-list-is : replicate rowSlots maxChannels ≡ ownList tb row
   unfolding listedTo
   free-list-is = rw (← free-room-is) at (listed-own tb row (slotRow tb + start tb Slots (definitionOf tb (standsAt row))) refl)
 
@@ -103,7 +103,8 @@ module _ (tb : Table) (row : List ℕ) (s x d n : ℕ) (e : s ≡ status row) (g
   unfolding ownRoom
   own-room-is = j ∙ rw (h, g, e)
 
-  pub own-list-is : (m : List ℕ) (from : ℕ) → m ≡ listedTo tb from row (replicate 16 128) n → from ≡ slotRow tb + start tb Slots d → m ≡ ownList tb row
+  pub own-list-is : (m : List ℕ) (from : ℕ) → m ≡ listedTo tb from row (replicate rowSlots maxChannels) n → from ≡ slotRow tb + start tb Slots d
+      → m ≡ ownList tb row
   own-list-is m from f i = f ∙ rw own-room-is (listed-own tb row from (i ∙ rw (h, g)))
 
 -- weight

@@ -1,7 +1,6 @@
 // The channels that a thread's row holds, each once, and what the row adds to their counts of waiting holders.
 ghost use mathlib.Core.Path.{_≡_};
 ghost use Prim.Native.Nat.{_+_, _≤_, _<_};
-ghost use lib.ListN.{replicate};
 ghost use Rattle.numbers.specs.Count.{bit};
 ghost use Rattle.table.specs.Table.{tableOf};
 ghost use Rattle.table.specs.Index.{Indexed};

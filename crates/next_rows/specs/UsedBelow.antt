@@ -17,7 +17,7 @@ unfoldable pub UsedBelow : State → ℕ → Type 0
 UsedBelow s top = (top ≤ maxThreads) × ((u : ℕ) → top ≤ u → status (thread s u) ≡ 0)
 
 module _ (s : State) (top : ℕ) (used : UsedBelow s top) where
-  pub top-le : top ≤ 64
+  pub top-le : top ≤ maxThreads
   unfolding UsedBelow
   top-le = used .0
 
@@ -38,13 +38,14 @@ module _ (s : State) (top : ℕ) (used : UsedBelow s top) where
 
   -- the searches that stop there
   module _ (i : ℕ) (h : i < top) where
-    pub below-le : i ≤ 64
+    pub below-le : i ≤ maxThreads
     below-le = omega (arith, top-le)
 
-    pub from-found : (m : ℕ) (r : Bool) → firstFrom i m (isReadyThread s) ≡ i → r ≡ isReadyThread s i → m ≤ i → r ≡ true → i ≡ firstFrom 64 m (isReadyThread s)
+    pub from-found : (m : ℕ) (r : Bool) → firstFrom i m (isReadyThread s) ≡ i → r ≡ isReadyThread s i → m ≤ i → r ≡ true
+        → i ≡ firstFrom maxThreads m (isReadyThread s)
     from-found m r e f l g = from-hit (isReadyThread s) m i e r f l 64 g (omega (arith, top-le))
 
-  pub from-rest : (m i : ℕ) → firstFrom i m (isReadyThread s) ≡ i → top ≤ i → 64 ≡ firstFrom 64 m (isReadyThread s)
+  pub from-rest : (m i : ℕ) → firstFrom i m (isReadyThread s) ≡ i → top ≤ i → maxThreads ≡ firstFrom maxThreads m (isReadyThread s)
   unfolding firstFrom isReadyThread
   from-rest m i e l =
       sym (first-rest (λ k. leb m k && isReady (thread s k)) i 64 e
@@ -67,6 +68,6 @@ module _ (s : State) (top : ℕ) (used : UsedBelow s top) where
   used-none l = let q : top ≡ 0 = omega arith in rw q at used
 
 -- there are no more rows
-pub used-all : (b : List ℕ) → UsedBelow (stateOf b) 64
+pub used-all : (b : List ℕ) → UsedBelow (stateOf b) maxThreads
 unfolding UsedBelow
 used-all b = (omega arith, λ u l. sym (thread-row-out b u 0 l))

@@ -11,7 +11,7 @@ use Rattle.numbers.specs.Search.{first}
 use Rattle.numbers.specs.Search.Laws.{caseB, contra, first-more, first-below, first-void, first-rest, some-intro}
 use Rattle.numbers.specs.Tests.{and-right}
 use Rattle.table.specs.Table.{Table}
-use Rattle.state.specs.State.{State, maxThreads, thread, isWaiting}
+use Rattle.state.specs.State.{State, maxThreads, thread, isWaiting, maxChannels}
 use Rattle.rules.specs.Program.{opposite, same}
 use Rattle.rules.specs.Offers.{offersIn, offersAt, offers, answers, partnerOf}
 use Rattle.rules.specs.Moves.{firstFrom}
@@ -83,7 +83,7 @@ module _ (tb : Table) (s : State) (d : Direction) (c u r i n : ℕ) (f : r ≡ f
   competing-passed o g = passed g (rw o)
 
   -- the thread offers the asker's own direction
-  pub other-offered : v ≡ Competes → (t : ℕ) → n ≡ tried tb s t u → c < 128 → offers tb (thread s u) (opposite d) c ≡ true
+  pub other-offered : v ≡ Competes → (t : ℕ) → n ≡ tried tb s t u → c < maxChannels → offers tb (thread s u) (opposite d) c ≡ true
   unfolding answers offersAt
   other-offered o t b l =
       let w : offersAt tb (thread s u) (opposite d) c i ≡ true = rw (← row-tried tb s u n i r f h) (competes-is tb (thread s u) d c (r + i) v e o) in
@@ -106,23 +106,24 @@ module _ (tb : Table) (s : State) (t : ℕ) (d : Direction) (c : ℕ) where
   answers-rest i top e l used =
       first-rest (answers tb s t d c) i maxThreads e (λ k j. only-waiting tb s t d c k (rw (free-from s top used k (omega arith))))
 
-  pub nobody-is : (f : Partner) (u top : ℕ) → f ≡ Nobody → first (answers tb s t d c) u ≡ u → top ≤ u → UsedBelow s top → f ≡ partnerOf tb s t d c
-  nobody-is f u top e past h k = e ∙ none-answers tb s t d c (answers-rest u top past h k)
+  pub nobody-is : (u top : ℕ) → first (answers tb s t d c) u ≡ u → top ≤ u → UsedBelow s top → Nobody ≡ partnerOf tb s t d c
+  nobody-is u top past h k = none-answers tb s t d c (answers-rest u top past h k)
 
   -- all threads were tried
-  pub none-is : (f : Partner) (u : ℕ) → f ≡ Nobody → first (answers tb s t d c) u ≡ u → 64 ≤ u → u ≤ 64 → f ≡ partnerOf tb s t d c
+  pub none-is : (f : Partner) (u : ℕ) → f ≡ Nobody → first (answers tb s t d c) u ≡ u → maxThreads ≤ u → u ≤ maxThreads → f ≡ partnerOf tb s t d c
   none-is f u e past h l = let q : u ≡ 64 = omega arith in e ∙ none-answers tb s t d c (rw q at past)
 
   module _ (u : ℕ) where
     -- it answers, and none before it does
-    pub found-is : (r i n : ℕ) → r ≡ firstRow tb s u n → (v : Seen) → v ≡ seenIn tb (thread s u) d c (r + i) → i < n → first (answers tb s t d c) u ≡ u → c < 128 → n ≡ tried tb s t u
+    pub found-is : (r i n : ℕ) → r ≡ firstRow tb s u n → (v : Seen) → v ≡ seenIn tb (thread s u) d c (r + i) → i < n
+        → first (answers tb s t d c) u ≡ u → c < maxChannels → n ≡ tried tb s t u
         → first (offersAt tb (thread s u) d c) i ≡ i → v ≡ Answers → (top : ℕ) → u < top → UsedBelow s top → At u i ≡ partnerOf tb s t d c
     unfolding answers?
     found-is r i n f v e h past l b g o top m k =
         found-at tb s t d c u n i b g (answers? v) (offer-is tb s d c u r i n f v e h) (rw o) h l past (omega (arith, top-le s top k))
 
     -- no branch of thread u that is tried offers
-    module _ (n i : ℕ) (b : n ≡ tried tb s t u) (g : first (offersAt tb (thread s u) d c) i ≡ i) (h : n ≤ i) (j : i ≤ n) (l : c < 128) where
+    module _ (n i : ℕ) (b : n ≡ tried tb s t u) (g : first (offersAt tb (thread s u) d c) i ≡ i) (h : n ≤ i) (j : i ≤ n) (l : c < maxChannels) where
       -- it offers the asker's own direction, so that no other thread offers what is looked for
       pub competing-ends : (o : Bool) → (o ≡ true → offers tb (thread s u) (opposite d) c ≡ true) → o ≡ true
           → Apart tb (s .threads) → (top : ℕ) → UsedBelow s top → u < top → Nobody ≡ partnerOf tb s t d c

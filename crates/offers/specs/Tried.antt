@@ -83,7 +83,7 @@ module _ (tb : Table) (s : State) (t u : ℕ) where
 
 module _ (tb : Table) (s : State) (t : ℕ) (d : Direction) (c : ℕ) where
   -- what is no channel has no partner
-  pub no-channel : 128 ≤ c → Nobody ≡ partnerOf tb s t d c
+  pub no-channel : maxChannels ≤ c → Nobody ≡ partnerOf tb s t d c
   unfolding answers offers
   no-channel h =
       none-answers tb s t d c (first-void (answers tb s t d c) maxThreads (λ u l. rw (le-ltb c 128 h) (caseB (eqb u t) (λ e. rw e) (λ e. rw e))))
@@ -91,7 +91,7 @@ module _ (tb : Table) (s : State) (t : ℕ) (d : Direction) (c : ℕ) where
   -- n branches of thread u are tried, and none below i offers
   module _ (u n i : ℕ) (b : n ≡ tried tb s t u) (g : first (offersAt tb (thread s u) d c) i ≡ i) where
     -- all were tried
-    module _ (h : n ≤ i) (j : i ≤ n) (l : c < 128) where
+    module _ (h : n ≤ i) (j : i ≤ n) (l : c < maxChannels) where
       pub silent : answers tb s t d c u ≡ false
       unfolding some
       silent =
@@ -103,7 +103,7 @@ module _ (tb : Table) (s : State) (t : ℕ) (d : Direction) (c : ℕ) where
       thread-passed past = first-more (answers tb s t d c) u (answers tb s t d c u) past refl silent
 
     -- branch i offers
-    module _ (x : Bool) (o : x ≡ offersAt tb (thread s u) d c i) (y : x ≡ true) (h : i < n) (l : c < 128) where
+    module _ (x : Bool) (o : x ≡ offersAt tb (thread s u) d c i) (y : x ≡ true) (h : i < n) (l : c < maxChannels) where
       answered : answers tb s t d c u ≡ true
       answered = rw (answers-tried tb s t d c u l, ← b) (some-intro (offersAt tb (thread s u) d c) n i h (sym o ∙ y))
 

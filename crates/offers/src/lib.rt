@@ -3,7 +3,7 @@ ghost use mathlib.Core.Path.{_≡_};
 ghost use mathlib.Core.Bool.{true};
 ghost use Prim.Native.Nat.{_+_, _≤_, _<_};
 ghost use Rattle.table.specs.Table.{tableOf, nodeRow, branchRow};
-ghost use Rattle.table.specs.Layout.{branchCount, start};
+ghost use Rattle.table.specs.Layout.{start};
 ghost use Rattle.table.specs.declared.Part.the-variants.{Branches};
 ghost use Rattle.table.specs.Index.{Indexed};
 ghost use Rattle.state.specs.State.{maxThreads, stateOf, thread, isWaiting};
@@ -116,22 +116,7 @@ fn seen_in(
     }
 }
 
-// The number of branches of a node, where the rows of the nodes begin at a row.
-fn branches_of(table: &[u8], index: &[u32], nodes: usize, node: u32) -> u32
-    requires { ⌜ Indexed (tableOf (now table)) (now index) ⌝ }
-    requires { ⌜ nodes ≡ nodeRow (tableOf (now table)) ⌝ }
-    requires { ⌜ nodes ≤ 196608 ⌝ }
-    ensures { λ r. ⌜ r ≡ branchCount (tableOf (now (table .entry))) node ⌝ }
-    ensures { λ r. ⌜ r < 65536 ⌝ }
-{
-    let row = nodes + node as usize;
-    if table::cell_of(table, index, row, field::NODE_KIND) == 1 {
-        return table::cell_of(table, index, row, field::OWN_BRANCHES);
-    }
-    0
-}
-
-// How many branches of thread u, which waits, are tried for thread t: none of its own.
+// How many branches of thread u, which waits, are tried for thread t: none of its own. The rows of the nodes begin at the row `nodes`.
 fn branches_asked(
     table: &[u8],
     index: &[u32],
@@ -149,12 +134,11 @@ fn branches_asked(
     if u == t {
         return 0;
     }
-    branches_of(
-        table,
-        index,
-        nodes,
-        state::thread_word(state, u as usize, state::NODE),
-    )
+    let row = nodes + state::thread_word(state, u as usize, state::NODE) as usize;
+    if table::cell_of(table, index, row, field::NODE_KIND) == 1 {
+        return table::cell_of(table, index, row, field::OWN_BRANCHES);
+    }
+    0
 }
 
 // How many branches of thread u are tried for thread t: none of its own, and none of a thread that does not wait.
@@ -261,28 +245,24 @@ pub fn find_partner(
     }
     let limit = at_most_all(state, top);
     let nodes = table::node_row_of(table, index);
-    let mut found = Partner::Nobody;
     let mut u = next_waiting(state, 0, limit);
-    'threads: while u < limit {
+    while u < limit {
         let n = branches_asked(table, index, nodes, state, t, u);
         let from = first_row(table, index, nodes, state, u, n);
         let mut competes = false;
         for i in 0..n {
             match seen_in(table, index, from + i as usize, state, u, d, c) {
-                Seen::Answers => {
-                    found = Partner::At(u, i);
-                    break 'threads;
-                }
+                Seen::Answers => return Partner::At(u, i),
                 Seen::Competes => competes = true,
                 Seen::Neither => {}
             }
         }
         if competes {
-            break 'threads;
+            return Partner::Nobody;
         }
         u = next_waiting(state, u + 1, limit);
     }
-    found
+    Partner::Nobody
 }
 
 // Whether thread u offers d on channel c by its branch i.

@@ -1,7 +1,7 @@
 -- One law for each way out of the functions that read a table with a thread's slots. Assumes nothing.
-use Prim.Native.Nat.{ℕ, _<_, _≤_}
+use Prim.Native.Nat.{ℕ, _+_, _<_, _≤_}
 use native.Mathlib.Omega.{arith}
-use mathlib.Core.Path.{_≡_}
+use mathlib.Core.Path.{_≡_, _∙_}
 use mathlib.Core.Bool.{Bool, true, false, not}
 use mathlib.Core.List.{List}
 use lib.Dec.{eqb}
@@ -14,10 +14,11 @@ use Rattle.numbers.specs.Rows.{at}
 use Rattle.numbers.specs.Signed.{residue, wrap, lower, widened}
 use Rattle.numbers.specs.Signed.Laws.{residue-below}
 use Rattle.table.specs.Fields as Field
-use Rattle.table.specs.Table.{Table, slotCount}
-use Rattle.table.specs.Layout.{slotType}
+use Rattle.table.specs.Table.{Table, slotRow, branchRow, slotCount}
+use Rattle.table.specs.Layout.{start, definitionOf, slotType}
+use Rattle.table.specs.declared.Part.the-variants.{Slots, Nodes, Branches}
 use Rattle.state.specs.State.{slotOf}
-use Rattle.rules.specs.Program.{wrappedSum, wrappedDifference, channelSlot, actOf, guardHolds, assigned, opposite}
+use Rattle.rules.specs.Program.{wrappedSum, wrappedDifference, typeAt, channelSlot, branchAt, nextOf, childOf, actOf, guardHolds, assigned, opposite}
 use Rattle.rules.specs.declared.Act.the-variants.{Meeting, New, Spawn, Tau, Assignment}
 use Rattle.rules.specs.declared.Direction.{Direction}
 use Rattle.rules.specs.declared.Direction.the-variants.{Out, In}
@@ -29,16 +30,19 @@ module _ (tb : Table) (r : ℕ) (row : List ℕ) (k : ℕ) where
   guard-always e i = rw (← e, i)
 
   module _ (a b l : ℕ) where
-    pub guard-equals-constant : (w : ℕ) → w ≡ widened b → l ≡ slotOf row a → a ≡ at tb r Field.first → b ≡ at tb r Field.second → k ≡ at tb r Field.guard → k ≡ 1 → eqb l w ≡ guardHolds tb r row
+    pub guard-equals-constant : (w : ℕ) → w ≡ widened b → l ≡ slotOf row a → a ≡ at tb r Field.first → b ≡ at tb r Field.second
+        → k ≡ at tb r Field.guard → k ≡ 1 → eqb l w ≡ guardHolds tb r row
     unfolding guardHolds
     guard-equals-constant w j h f g e i = rw (← e, i, h, j, f, g)
 
-    pub guard-equals-slot : (m : ℕ) → m ≡ slotOf row b → l ≡ slotOf row a → a ≡ at tb r Field.first → b ≡ at tb r Field.second → k ≡ at tb r Field.guard → k ≡ 3 → eqb l m ≡ guardHolds tb r row
+    pub guard-equals-slot : (m : ℕ) → m ≡ slotOf row b → l ≡ slotOf row a → a ≡ at tb r Field.first → b ≡ at tb r Field.second
+        → k ≡ at tb r Field.guard → k ≡ 3 → eqb l m ≡ guardHolds tb r row
     unfolding guardHolds
     guard-equals-slot m j h f g e i = rw (← e, i, h, j, f, g)
 
     module _ (m : ℕ) (x : Bool) (q : x ≡ lower l m) where
-      pub guard-below-constant : m ≡ widened b → l ≡ slotOf row a → a ≡ at tb r Field.first → b ≡ at tb r Field.second → k ≡ at tb r Field.guard → k ≡ 2 → x ≡ guardHolds tb r row
+      pub guard-below-constant : m ≡ widened b → l ≡ slotOf row a → a ≡ at tb r Field.first → b ≡ at tb r Field.second → k ≡ at tb r Field.guard
+          → k ≡ 2 → x ≡ guardHolds tb r row
       unfolding guardHolds
       guard-below-constant j h f g e i = rw (← e, i, q, h, j, f, g)
 
@@ -118,3 +122,26 @@ module _ (tb : Table) (d k n : ℕ) (e : n ≡ slotCount tb d) where
   pub slot-past : n ≤ k → false ≡ channelSlot tb d k
   unfolding channelSlot
   slot-past h = rw (le-ltb k (slotCount tb d) (omega arith))
+
+-- ---- places in the table: d is the definition of node n, and the first rows and starts were read
+
+module _ (tb : Table) (n : ℕ) where
+  pub type-is : (k d a b r : ℕ) → d ≡ definitionOf tb n → b ≡ start tb Slots d → a ≡ slotRow tb → r ≡ at tb (a + (b + k)) Field.type → r ≡ typeAt tb n k
+  unfolding typeAt
+  type-is k d a b r e f g h = h ∙ rw (g, f, e)
+
+  pub branch-is : (i a b : ℕ) → a ≡ branchRow tb → b ≡ start tb Branches n → a + (b + i) ≡ branchAt tb n i
+  unfolding branchAt
+  branch-is i a b e f = rw (e, f)
+
+  pub node-is : (x d b : ℕ) → d ≡ definitionOf tb n → b ≡ start tb Nodes d → b + x ≡ start tb Nodes (definitionOf tb n) + x
+  node-is x d b e f = rw (f, e)
+
+  module _ (r x v : ℕ) (e : v ≡ start tb Nodes (definitionOf tb n) + x) where
+    pub next-is : x ≡ at tb r Field.next → v ≡ nextOf tb n r
+    unfolding nextOf
+    next-is f = e ∙ rw f
+
+    pub child-is : x ≡ at tb r Field.child → v ≡ childOf tb n r
+    unfolding childOf
+    child-is f = e ∙ rw f

@@ -10,7 +10,7 @@ use lib.Seq.{set-out}
 use Rattle.numbers.specs.Count.{bit}
 use Rattle.numbers.specs.Search.{tabulate}
 use Rattle.table.specs.Table.{Table}
-use Rattle.state.specs.State.{stateOf, maxChannels, isWaiting}
+use Rattle.state.specs.State.{stateOf, maxChannels, isWaiting, maxThreads}
 use Rattle.state.specs.State.Laws.{length-threads}
 use Rattle.rules.specs.Holding.{holders, waiters}
 use Rattle.holding.specs.Own.{ownList, ownRoom}
@@ -45,39 +45,26 @@ module _ (own : List ℕ) (w : ℕ) (l : List ℕ) where
     pub listed-all : (n : ℕ) → k ≤ n → n ≤ k → l₁ ≡ addedTo own w l n
     listed-all n h i = let q : k ≡ n = omega arith in rw q at e
 
--- ---- add_row
-
-module _ (tb : Table) (row own l m : List ℕ) (n : ℕ) (e : own ≡ ownList tb row) (f : n ≡ ownRoom tb row) where
-  pub row-held : m ≡ addedTo own 1 l n → m ≡ rowAdded tb row 1 l
-  unfolding rowAdded
-  row-held g = g ∙ rw (e, f)
-
-  pub row-waiting : (w : ℕ) → m ≡ addedTo own w l n → w ≡ bit (isWaiting row) → m ≡ rowAdded tb row (bit (isWaiting row)) l
-  unfolding rowAdded
-  row-waiting w g h = g ∙ rw (e, f, h)
-
--- ---- tally
+-- ---- tally: the list and the number of its entries were read of thread t's row
 
 module _ (tb : Table) (ths : List (List ℕ)) (l : List ℕ) where
   pub rows-none : (p : List ℕ → Bool) → l ≡ addedBelow tb p ths l 0
   unfolding addedBelow
   rows-none p = refl
 
-  module _ (l₁ l₂ : List ℕ) (t : ℕ) where
-    pub rows-held : l₁ ≡ addedBelow tb (λ row. true) ths l t → l₂ ≡ rowAdded tb (getD ths t []) 1 l₁ → l₂ ≡ addedBelow tb (λ row. true) ths l (t + 1)
-    unfolding addedBelow bit
-    rows-held e f = rw (f, e, add-one t)
+  module _ (l₁ l₂ own : List ℕ) (t n : ℕ) (e : own ≡ ownList tb (getD ths t [])) (f : n ≡ ownRoom tb (getD ths t [])) where
+    pub rows-held : l₁ ≡ addedBelow tb (λ row. true) ths l t → l₂ ≡ addedTo own 1 l₁ n → l₂ ≡ addedBelow tb (λ row. true) ths l (t + 1)
+    unfolding addedBelow rowAdded bit
+    rows-held g h = rw (h, g, e, f, add-one t)
 
-    pub rows-waiting : l₁ ≡ addedBelow tb (λ row. isWaiting row) ths l t → l₂ ≡ rowAdded tb (getD ths t []) (bit (isWaiting (getD ths t []))) l₁
+    pub rows-waiting : (w : ℕ) → l₁ ≡ addedBelow tb (λ row. isWaiting row) ths l t → l₂ ≡ addedTo own w l₁ n → w ≡ bit (isWaiting (getD ths t []))
         → l₂ ≡ addedBelow tb (λ row. isWaiting row) ths l (t + 1)
-    unfolding addedBelow
-    rows-waiting e f = rw (f, e, add-one t)
+    unfolding addedBelow rowAdded
+    rows-waiting w g h i = rw (h, g, e, f, i, add-one t)
 
-module _ (tb : Table) (b l z : List ℕ) (t : ℕ) (h : t ≤ 64) (i : 64 ≤ t) (e : z ≡ replicate maxChannels 0) where
+module _ (tb : Table) (b l z : List ℕ) (t : ℕ) (h : t ≤ maxThreads) (i : maxThreads ≤ t) (e : z ≡ replicate maxChannels 0) where
   pub all-held : l ≡ addedBelow tb (λ row. true) (stateOf b .threads) z t → l ≡ tabulate maxChannels (holders tb (stateOf b .threads))
   all-held f = let q : t ≡ 64 = omega arith in f ∙ rw (e, q) (holders-counted tb (stateOf b .threads) (length-threads b))
 
   pub all-waiting : l ≡ addedBelow tb (λ row. isWaiting row) (stateOf b .threads) z t → l ≡ tabulate maxChannels (waiters tb (stateOf b .threads))
   all-waiting f = let q : t ≡ 64 = omega arith in f ∙ rw (e, q) (waiters-counted tb (stateOf b .threads) (length-threads b))
-
-pub ruleset tallies = (rows-none, rows-held, rows-waiting, all-held, all-waiting)

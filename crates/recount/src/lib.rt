@@ -2,13 +2,12 @@
 ghost use mathlib.Core.Path.{_≡_};
 ghost use Prim.Native.Nat.{_≤_};
 ghost use lib.ListN.{getD, replicate};
-ghost use Rattle.numbers.specs.Count.{bit};
 ghost use Rattle.numbers.specs.Search.{tabulate};
 ghost use Rattle.table.specs.Table.{tableOf};
 ghost use Rattle.table.specs.Index.{Indexed};
-ghost use Rattle.state.specs.State.{rowSlots, stateOf, thread, isWaiting, maxChannels};
+ghost use Rattle.state.specs.State.{rowSlots, stateOf, maxChannels};
 ghost use Rattle.rules.specs.Holding.{holders, waiters};
-ghost use Rattle.recount.specs.Tally.{added, addedTo, rowAdded};
+ghost use Rattle.recount.specs.Tally.{added, addedTo};
 
 // Entry i of a list of bytes; 0 outside.
 pub fn byte_at(list: &[u8], i: u32) -> u8
@@ -44,27 +43,6 @@ fn add_listed(list: &[u8; holding::LIST], n: u32, w: u8, held: &mut [u8], waitin
     }
 }
 
-// The channels that thread t holds are counted.
-fn add_row(
-    table: &[u8],
-    index: &[u32],
-    state: &[u32; state::WORDS],
-    t: u32,
-    held: &mut [u8],
-    waiting: &mut [u8],
-)
-    requires { ⌜ Indexed (tableOf (now table)) (now index) ⌝ }
-    ensures { λ _. ⌜ now (held .exit) ≡ rowAdded (tableOf (now (table .entry))) (thread (stateOf (now (state .entry))) t) 1 (now (held .entry)) ⌝ }
-    ensures { λ _. ⌜ now (waiting .exit)
-        ≡ rowAdded (tableOf (now (table .entry))) (thread (stateOf (now (state .entry))) t)
-        (bit (isWaiting (thread (stateOf (now (state .entry))) t))) (now (waiting .entry)) ⌝ }
-{
-    let mut list = [0u8; holding::LIST];
-    let n = holding::own_channels(table, index, state, t, &mut list);
-    let w = holding::weight(state, t);
-    add_listed(&list, n, w, held, waiting);
-}
-
 // How many threads hold each of the 128 channels, and how many waiting ones do, into two lists of zeros.
 pub fn tally(
     table: &[u8],
@@ -79,7 +57,10 @@ pub fn tally(
     ensures { λ _. ⌜ now (held .exit) ≡ tabulate maxChannels (holders (tableOf (now (table .entry))) (stateOf (now (state .entry)) .threads)) ⌝ }
     ensures { λ _. ⌜ now (waiting .exit) ≡ tabulate maxChannels (waiters (tableOf (now (table .entry))) (stateOf (now (state .entry)) .threads)) ⌝ }
 {
-    for t in 0..64 {
-        add_row(table, index, state, t, held, waiting);
+    for t in 0..state::THREADS {
+        let mut list = [0u8; holding::LIST];
+        let n = holding::own_channels(table, index, state, t, &mut list);
+        let w = holding::weight(state, t);
+        add_listed(&list, n, w, held, waiting);
     }
 }

@@ -32,16 +32,16 @@ or-true false = refl
 -- ---- marks_in_range
 
 module _ (s : State) (a : ℕ) (e : a ≡ threadMark s) where
-  pub thread-mark-past : 64 ≤ a → false ≡ marksInRange s
+  pub thread-mark-past : maxThreads ≤ a → false ≡ marksInRange s
   unfolding marksInRange
   thread-mark-past h = rw (← e, le-ltb a 64 h)
 
-  module _ (h : a < 64) (b : ℕ) (f : b ≡ channelMark s) where
-    pub channel-mark-past : 128 ≤ b → false ≡ marksInRange s
+  module _ (h : a < maxThreads) (b : ℕ) (f : b ≡ channelMark s) where
+    pub channel-mark-past : maxChannels ≤ b → false ≡ marksInRange s
     unfolding marksInRange
     channel-mark-past i = rw (← e, lt-ltb a 64 h, ← f, le-ltb b 128 i)
 
-    pub turn-tested : (c : ℕ) → b < 128 → c ≡ turn s → ltb c 64 ≡ marksInRange s
+    pub turn-tested : (c : ℕ) → b < maxChannels → c ≡ turn s → ltb c maxThreads ≡ marksInRange s
     unfolding marksInRange
     turn-tested c i g = rw (← e, lt-ltb a 64 h, ← f, lt-ltb b 128 i, g)
 
@@ -80,11 +80,11 @@ module _ (tb : Table) (s : State) (row : List ℕ) (k n d m v : ℕ)
           or-false true = refl
           or-false false = refl
 
-      pub slot-channel : (x : ℕ) → (v ≡ 4294967295 → ⊥) → v < 128 → x ≡ typeIn s v → eqb x ty ≡ slotSound tb s row k
+      pub slot-channel : (x : ℕ) → (v ≡ 4294967295 → ⊥) → v < maxChannels → x ≡ typeIn s v → eqb x ty ≡ slotSound tb s row k
       unfolding slotSound spareAt slotTyped slotFilled channelSlot
       slot-channel x p q w = rw (← e, ← f, ← g, ← h, lt-ltb k m i, ← j, ne-eqb ty 0 o, ne-eqb v 4294967295 p, lt-ltb v 128 q, ← w, or-true (mayLack tb n k)) (and-true (eqb x ty))
 
-      pub slot-no-channel : (v ≡ 4294967295 → ⊥) → 128 ≤ v → false ≡ slotSound tb s row k
+      pub slot-no-channel : (v ≡ 4294967295 → ⊥) → maxChannels ≤ v → false ≡ slotSound tb s row k
       unfolding slotSound spareAt slotTyped slotFilled channelSlot
       slot-no-channel p q = rw (← e, ← f, ← g, ← h, lt-ltb k m i, ← j, ne-eqb ty 0 o, ne-eqb v 4294967295 p, le-ltb v 128 q)
 

@@ -133,20 +133,6 @@ fn row_sound(
     false
 }
 
-// Whether every thread row passes all its tests, by the marks of the flow.
-fn rows_sound(table: &[u8], index: &[u32], marks: &[u32], state: &[u32; state::WORDS]) -> bool
-    requires { ⌜ Indexed (tableOf (now table)) (now index) ⌝ }
-    requires { ⌜ marksOf (now marks) ≡ flow (tableOf (now table)) ⌝ }
-    ensures { λ r. ⌜ r ≡ rowsSound (tableOf (now (table .entry))) (stateOf (now (state .entry))) ⌝ }
-{
-    for t in 0..state::THREADS {
-        if !row_sound(table, index, marks, state, t) {
-            return false;
-        }
-    }
-    true
-}
-
 // Whether every thread row passes all its tests.
 fn threads_sound(table: &[u8], index: &[u32], state: &[u32; state::WORDS]) -> bool
     requires { ⌜ Indexed (tableOf (now table)) (now index) ⌝ }
@@ -154,7 +140,12 @@ fn threads_sound(table: &[u8], index: &[u32], state: &[u32; state::WORDS]) -> bo
 {
     let mut marks = [0u32; table::MAX_NODES as usize];
     flow::mark_flow(table, index, &mut marks);
-    rows_sound(table, index, &marks, state)
+    for t in 0..state::THREADS {
+        if !row_sound(table, index, &marks, state, t) {
+            return false;
+        }
+    }
+    true
 }
 
 // The count that channel c ought to have: its holders, and the bench if it is a port.
@@ -198,20 +189,6 @@ fn channel_sound(
     0 < count
 }
 
-// Whether the counts of all channels are those that were counted.
-fn channels_sound(table: &[u8], state: &[u32; state::WORDS], held: &[u8], waiting: &[u8]) -> bool
-    requires { ⌜ now held ≡ tabulate maxChannels (holders (tableOf (now table)) (stateOf (now state) .threads)) ⌝ }
-    requires { ⌜ now waiting ≡ tabulate maxChannels (waiters (tableOf (now table)) (stateOf (now state) .threads)) ⌝ }
-    ensures { λ r. ⌜ r ≡ every (countTrue (tableOf (now (table .entry))) (stateOf (now (state .entry)))) maxChannels ⌝ }
-{
-    for c in 0..state::CHANNELS {
-        if !channel_sound(table, state, held, waiting, c) {
-            return false;
-        }
-    }
-    true
-}
-
 // Whether the counts of all channels are true.
 fn counts_sound(table: &[u8], index: &[u32], state: &[u32; state::WORDS]) -> bool
     requires { ⌜ Indexed (tableOf (now table)) (now index) ⌝ }
@@ -220,7 +197,12 @@ fn counts_sound(table: &[u8], index: &[u32], state: &[u32; state::WORDS]) -> boo
     let mut held = [0u8; state::CHANNELS as usize];
     let mut waiting = [0u8; state::CHANNELS as usize];
     recount::tally(table, index, state, &mut held, &mut waiting);
-    channels_sound(table, state, &held, &waiting)
+    for c in 0..state::CHANNELS {
+        if !channel_sound(table, state, &held, &waiting, c) {
+            return false;
+        }
+    }
+    true
 }
 
 // Whether the ports are in use, of type 1.

@@ -58,7 +58,7 @@ fn put_slots(state: &mut [u32; state::WORDS], t: u32, slots: &[u32; SLOTS])
     requires { ⌜ t < maxThreads ⌝ }
     ensures { λ _. ⌜ stateOf (now (state .exit)) ≡ rewritten (stateOf (now (state .entry))) t (λ row. reslotted row (now (slots .entry))) ⌝ }
 {
-    // As a slice the state tells its length, as in `put_head`.
+    // As a slice the state tells the proof its length, which it does not as an array.
     let words: &[u32] = state;
     let given: &[u32] = slots;
     for k in 0..state::SLOTS {
@@ -97,7 +97,7 @@ pub fn copy_slots(state: &[u32; state::WORDS], t: u32, slots: &mut [u32; SLOTS])
     requires { ⌜ now slots ≡ replicate rowSlots 0 ⌝ }
     ensures { λ _. ⌜ now (slots .exit) ≡ slotsOf (thread (stateOf (now (state .entry))) t) ⌝ }
 {
-    // As a slice the state tells its length, as in `put_head`.
+    // As a slice the state tells the proof its length, which it does not as an array.
     let words: &[u32] = state;
     for k in 0..state::SLOTS {
         numbers::put_cell(slots, k as usize, program::slot(state, t, k));

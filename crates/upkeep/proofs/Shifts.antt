@@ -10,7 +10,7 @@ use Rattle.numbers.specs.Count.{bit}
 use Rattle.numbers.specs.Rows.{at}
 use Rattle.numbers.specs.Signed.{sum, difference}
 use Rattle.table.specs.Table.{Table}
-use Rattle.state.specs.State.{State, stateOf, stateWords, minusOne, thread, channel, isWaiting, withChannel, withChannels}
+use Rattle.state.specs.State.{State, stateOf, stateWords, minusOne, thread, channel, isWaiting, withChannel, withChannels, maxChannels, rowSlots}
 use Rattle.state.specs.State.Laws.{length-channels, length-channel, three-stored}
 use Rattle.rules.specs.Holding.{channelRow}
 use Rattle.holding.specs.Own.{ownList, ownRoom}
@@ -30,14 +30,16 @@ held-row ty (suc n) w h = refl
 put-put : (chs : List (List ℕ)) (c k v : ℕ) (r : List ℕ) → c < length chs → set (set chs c r) c (set (getD (set chs c r) c []) k v) ≡ set chs c (set r k v)
 put-put chs c k v r h = rw (getD-set-same chs c r [] h, set-set chs c r (set r k v))
 
-module _ (b : List ℕ) (c n w : ℕ) (s₁ s₂ : State) (e : length b ≡ stateWords) (h : c < 128) where
-  pub counts-put : (n ≡ 0 → ⊥) → s₁ ≡ withChannel (stateOf b) c (set (channel (stateOf b) c) 1 n) → s₂ ≡ withChannel s₁ c (set (channel s₁ c) 2 w) → s₂ ≡ rowCounted (stateOf b) c n w
+module _ (b : List ℕ) (c n w : ℕ) (s₁ s₂ : State) (e : length b ≡ stateWords) (h : c < maxChannels) where
+  pub counts-put : (n ≡ 0 → ⊥) → s₁ ≡ withChannel (stateOf b) c (set (channel (stateOf b) c) 1 n) → s₂ ≡ withChannel s₁ c (set (channel s₁ c) 2 w)
+      → s₂ ≡ rowCounted (stateOf b) c n w
   unfolding withChannel rowCounted withChannels
   counts-put z f g =
       let i : c < length (stateOf b .channels) = omega (arith, length-channels b) in
       rw (g, f, put-put (stateOf b .channels) c 2 w (set (channel (stateOf b) c) 1 n) i, two (channel (stateOf b) c) n w (length-channel b e c h), held-row (at (stateOf b .channels) c 0) n w z)
 
-  pub counts-free : (s₃ : State) → n ≡ 0 → s₁ ≡ withChannel (stateOf b) c (set (channel (stateOf b) c) 0 0) → s₂ ≡ withChannel s₁ c (set (channel s₁ c) 1 0) → s₃ ≡ withChannel s₂ c (set (channel s₂ c) 2 0)
+  pub counts-free : (s₃ : State) → n ≡ 0 → s₁ ≡ withChannel (stateOf b) c (set (channel (stateOf b) c) 0 0)
+      → s₂ ≡ withChannel s₁ c (set (channel s₁ c) 1 0) → s₃ ≡ withChannel s₂ c (set (channel s₂ c) 2 0)
       → s₃ ≡ rowCounted (stateOf b) c n w
   unfolding withChannel rowCounted withChannels channelRow
   counts-free s₃ z f g k =
@@ -48,11 +50,12 @@ module _ (b : List ℕ) (c n w : ℕ) (s₁ s₂ : State) (e : length b ≡ stat
 pub ruleset puts = (counts-put, counts-free)
 
 -- shift: n and w are the counts that the row has, a and b those that it gets
-pub shift-in : (s s₂ : State) (c dn dw n w a b : ℕ) → s₂ ≡ rowCounted s c a b → a ≡ sum n dn → b ≡ sum w dw → n ≡ at (s .channels) c 1 → w ≡ at (s .channels) c 2 → s₂ ≡ channelShifted s c dn dw
+pub shift-in : (s s₂ : State) (c dn dw n w a b : ℕ) → s₂ ≡ rowCounted s c a b → a ≡ sum n dn → b ≡ sum w dw → n ≡ at (s .channels) c 1
+    → w ≡ at (s .channels) c 2 → s₂ ≡ channelShifted s c dn dw
 unfolding rowCounted channelShifted shiftRow
 shift-in s s₂ c dn dw n w a b k g h e f = rw (k, g, h, e, f)
 
-pub shift-out : (b : List ℕ) (c dn dw : ℕ) → 128 ≤ c → stateOf b ≡ channelShifted (stateOf b) c dn dw
+pub shift-out : (b : List ℕ) (c dn dw : ℕ) → maxChannels ≤ c → stateOf b ≡ channelShifted (stateOf b) c dn dw
 unfolding channelShifted shiftRow withChannels
 shift-out b c dn dw h =
     rw (set-out (stateOf b .channels) c (channelRow (at (stateOf b .channels) c 0) (sum (at (stateOf b .channels) c 1) dn) (sum (at (stateOf b .channels) c 2) dw)) (omega (arith, length-channels b)))
@@ -72,12 +75,28 @@ module _ (s : State) (l : List ℕ) (dn dw : ℕ) where
     shifts-all n h i = let q : k ≡ n = omega arith in rw q at e
 
 -- enter
-pub enter-is : (tb : Table) (s s₂ : State) (t w n : ℕ) (l : List ℕ) → s₂ ≡ shiftedTo s l 1 w n → l ≡ ownList tb (thread s t) → n ≡ ownRoom tb (thread s t) → w ≡ bit (isWaiting (thread s t))
+pub enter-is : (tb : Table) (s s₂ : State) (t w n : ℕ) (l : List ℕ) → s₂ ≡ shiftedTo s l 1 w n → l ≡ ownList tb (thread s t)
+    → n ≡ ownRoom tb (thread s t) → w ≡ bit (isWaiting (thread s t))
     → s₂ ≡ rowEntered tb s t
 unfolding rowEntered
 enter-is tb s s₂ t w n l f e g h = rw (f, e, g, h)
 
 -- leave
-pub leave-is : (s s₂ : State) (w d : ℕ) (l : List ℕ) → s₂ ≡ shiftedTo s l minusOne d 16 → d ≡ difference 0 w → s₂ ≡ rowLeft s l w
+pub leave-is : (s s₂ : State) (w d : ℕ) (l : List ℕ) → s₂ ≡ shiftedTo s l minusOne d rowSlots → d ≡ difference 0 w → s₂ ≡ rowLeft s l w
 unfolding rowLeft
 leave-is s s₂ w d l f e = rw (f, e)
+
+-- settle_one, settle_two, settle_new: s₁ after the row of t is entered
+module _ (tb : Table) (s s₁ : State) (t : ℕ) (e : s₁ ≡ rowEntered tb s t) where
+  pub one-is : (s₂ : State) (l : List ℕ) (w : ℕ) → s₂ ≡ rowLeft s₁ l w → s₂ ≡ settledOne tb s t l w
+  unfolding settledOne
+  one-is s₂ l w f = f ∙ rw e
+
+  pub new-is : (s₂ s₃ : State) (c : ℕ) (l : List ℕ) (w : ℕ) → s₂ ≡ channelShifted s₁ c 0 0 → s₃ ≡ rowLeft s₂ l w → s₃ ≡ settledNew tb s t c l w
+  unfolding settledNew
+  new-is s₂ s₃ c l w f g = g ∙ rw (f, e)
+
+  pub two-is : (s₂ s₃ s₄ : State) (u : ℕ) (l : List ℕ) (w : ℕ) (l′ : List ℕ) (w′ : ℕ) → s₂ ≡ rowEntered tb s₁ u → s₃ ≡ rowLeft s₂ l w → s₄ ≡ rowLeft s₃ l′ w′
+      → s₄ ≡ settledTwo tb s t u l w l′ w′
+  unfolding settledTwo
+  two-is s₂ s₃ s₄ u l w l′ w′ f g h = h ∙ rw (g, f, e)

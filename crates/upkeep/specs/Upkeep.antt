@@ -16,7 +16,7 @@ use Rattle.numbers.specs.Rows.{at, put}
 use Rattle.numbers.specs.Search.{tabulate}
 use Rattle.numbers.specs.Search.Laws.{caseB, getD-tabulate, length-tabulate, tabulate-cong, is-tabulate}
 use Rattle.table.specs.Table.{Table, ports}
-use Rattle.state.specs.State.{State, thread, isWaiting, typeIn, withMark, withThread, withChannel, withChannels}
+use Rattle.state.specs.State.{State, thread, isWaiting, typeIn, withMark, withThread, withChannel, withChannels, maxChannels, maxThreads}
 use Rattle.rules.specs.Holding.{holds, holders, waiters, countOf, channelRow, recount, settled}
 use Rattle.rules.specs.Moves.{typed}
 use Rattle.holding.specs.Own.{ownList}
@@ -35,7 +35,7 @@ module _ (tb : Table) (ths : List (List ℕ)) where
   unfolding waiters countOf holders
   waiters-le c = omega (arith, count-and-le (λ row. isWaiting row) (λ row. holds tb row c) ths)
 
-  pub few : length ths ≡ 64 → (c : ℕ) → countOf tb ths c ≤ 65
+  pub few : length ths ≡ maxThreads → (c : ℕ) → countOf tb ths c ≤ 65
   unfolding countOf holders
   few long c = omega (arith, long, count-le (λ row. holds tb row c) ths, bit-le (ltb c (ports tb)))
 
@@ -65,7 +65,7 @@ unfolding channelRow
 free-type r n w e z = let q : r ≡ 0 ∷ 0 ∷ 0 ∷ [] = e ∙ rw z in ap (λ (l : List ℕ). getD l 0 0) q
 
 module _ (tb : Table) (ths chs : List (List ℕ)) (e : chs ≡ recount tb ths (λ c. at chs c 0)) where
-  counted-row : (c : ℕ) → c < 128 → getD chs c [] ≡ channelRow (at chs c 0) (countOf tb ths c) (waiters tb ths c)
+  counted-row : (c : ℕ) → c < maxChannels → getD chs c [] ≡ channelRow (at chs c 0) (countOf tb ths c) (waiters tb ths c)
   unfolding recount
   counted-row c h =
       ap (λ (l : List (List ℕ)). getD l c []) e ∙ getD-tabulate 128 c (λ i. channelRow (at chs i 0) (countOf tb ths i) (waiters tb ths i)) [] h
@@ -77,7 +77,7 @@ module _ (tb : Table) (ths chs : List (List ℕ)) (e : chs ≡ recount tb ths (�
     λ c h. raw-row (getD chs c []) (countOf tb ths c) (waiters tb ths c) (counted-row c h) (waiters-le tb ths c),
   )
 
-  free-start : (c : ℕ) → c < 128 → countOf tb ths c ≡ 0 → at chs c 0 ≡ 0
+  free-start : (c : ℕ) → c < maxChannels → countOf tb ths c ≡ 0 → at chs c 0 ≡ 0
   free-start c h z = free-type (getD chs c []) (countOf tb ths c) (waiters tb ths c) (counted-row c h) z
 
 -- ---- the channel rows after one thread row is replaced, after two are, and after one is and a channel's type is written
@@ -93,10 +93,10 @@ module _ (tb : Table) (ths : List (List ℕ)) (row : List ℕ) (c : ℕ) where
   waiting-le : enteredWaiting ≤ entered
   waiting-le = omega (arith, waiters-le tb ths c, bit-and-le (isWaiting row) (holds tb row c))
 
-  entered-le : length ths ≡ 64 → entered ≤ 66
+  entered-le : length ths ≡ maxThreads → entered ≤ 66
   entered-le long = omega (arith, few tb ths long c, bit-le (holds tb row c))
 
-module _ (tb : Table) (ths : List (List ℕ)) (long : length ths ≡ 64) where
+module _ (tb : Table) (ths : List (List ℕ)) (long : length ths ≡ maxThreads) where
   low-start : Low (countOf tb ths) (waiters tb ths)
   low-start c h = (omega (arith, few tb ths long c), omega (arith, few tb ths long c, waiters-le tb ths c))
 
@@ -104,7 +104,7 @@ module _ (tb : Table) (ths : List (List ℕ)) (long : length ths ≡ 64) where
   low-entered row c h = (omega (arith, entered-le tb ths row c long), omega (arith, entered-le tb ths row c long, waiting-le tb ths row c))
 
   -- the old row of thread t is left, where the channel rows are settled with the new one
-  last-left : (row : List ℕ) (chs : List (List ℕ)) (ty : ℕ → ℕ) (t : ℕ) → t < 64 → Settled chs ty (entered tb ths row) (enteredWaiting tb ths row)
+  last-left : (row : List ℕ) (chs : List (List ℕ)) (ty : ℕ → ℕ) (t : ℕ) → t < maxThreads → Settled chs ty (entered tb ths row) (enteredWaiting tb ths row)
       → leaving tb (getD ths t []) chs ≡ recount tb (set ths t row) ty
   last-left row chs ty t h says =
       settled-rows tb (set ths t row) (leaving tb (getD ths t []) chs) ty
@@ -112,7 +112,7 @@ module _ (tb : Table) (ths : List (List ℕ)) (long : length ths ≡ 64) where
       (λ c l. (sym (counts-move tb ths t (omega arith) row c), sym (waiters-move tb ths t (omega arith) row c)))
       (low-entered row))
 
-module _ (tb : Table) (ths : List (List ℕ)) (long : length ths ≡ 64) (chs : List (List ℕ)) (e : chs ≡ recount tb ths (λ c. at chs c 0))
+module _ (tb : Table) (ths : List (List ℕ)) (long : length ths ≡ maxThreads) (chs : List (List ℕ)) (e : chs ≡ recount tb ths (λ c. at chs c 0))
     (t : ℕ) (h : t < 64) (row : List ℕ) where
   raw-entered : Raw (entering tb row chs) (λ c. at chs c 0) (entered tb ths row) (enteredWaiting tb ths row)
   raw-entered = enter-law chs (λ c. at chs c 0) (countOf tb ths) (waiters tb ths) tb row (raw-start tb ths chs e) (low-start tb ths long)
@@ -123,7 +123,7 @@ module _ (tb : Table) (ths : List (List ℕ)) (long : length ths ≡ 64) (chs : 
       (settle (entering tb row chs) (λ c. at chs c 0) (entered tb ths row) (enteredWaiting tb ths row) raw-entered
       (λ c l z. (free-start tb ths chs e c l (omega arith), omega (arith, z, waiting-le tb ths row c))))
 
-  new-moved : (x y : ℕ) → x < 128
+  new-moved : (x y : ℕ) → x < maxChannels
       → leaving tb (getD ths t []) (shiftRow (entering tb row (put chs x 0 y)) x 0 0) ≡ recount tb (set ths t row) (λ c. at (put chs x 0 y) c 0)
   new-moved x y i =
       let (size, raw) = raw-start tb ths chs e in
@@ -142,7 +142,7 @@ module _ (tb : Table) (ths : List (List ℕ)) (long : length ths ≡ 64) (chs : 
       (low-entered tb ths long row)
       (λ c l n z. (rw (there c n) (free-start tb ths chs e c l (omega arith)), omega (arith, z, waiting-le tb ths row c))))
 
-  two-moved : (u : ℕ) → u < 64 → u ≢ t → (other : List ℕ)
+  two-moved : (u : ℕ) → u < maxThreads → u ≢ t → (other : List ℕ)
       → leaving tb (getD ths u []) (leaving tb (getD ths t []) (entering tb other (entering tb row chs))) ≡ recount tb (set (set ths t row) u other) (λ c. at chs c 0)
   two-moved u i d other =
       let ty : ℕ → ℕ = λ c. at chs c 0 in
@@ -164,7 +164,7 @@ module _ (tb : Table) (ths : List (List ℕ)) (long : length ths ≡ 64) (chs : 
 -- ---- states
 
 module _ (tb : Table) (s : State) where
-  pub settled-length : length (settled tb s .channels) ≡ 128
+  pub settled-length : length (settled tb s .channels) ≡ maxChannels
   unfolding settled withChannels recount
   settled-length = length-tabulate 128 (λ c. channelRow (typeIn s c) (countOf tb (s .threads) c) (waiters tb (s .threads) c))
 
@@ -188,7 +188,8 @@ module _ (tb : Table) (s : State) where
     unfolding settled withMark withChannels
     settled-mark = refl
 
-    pub two-mark : (t u : ℕ) (l : List ℕ) (w : ℕ) (l′ : List ℕ) (w′ : ℕ) → settledTwo tb (withMark s i v) t u l w l′ w′ ≡ withMark (settledTwo tb s t u l w l′ w′) i v
+    pub two-mark : (t u : ℕ) (l : List ℕ) (w : ℕ) (l′ : List ℕ) (w′ : ℕ)
+        → settledTwo tb (withMark s i v) t u l w l′ w′ ≡ withMark (settledTwo tb s t u l w l′ w′) i v
     unfolding settledTwo rowEntered rowLeft shiftedTo withMark withChannels
     two-mark t u l w l′ w′ = refl
 
@@ -198,12 +199,12 @@ module _ (tb : Table) (s : State) where
 
 -- ---- the upkeep comes to the recount
 
-module _ (tb : Table) (s : State) (long : length (s .threads) ≡ 64) (e : settled tb s ≡ s) where
+module _ (tb : Table) (s : State) (long : length (s .threads) ≡ maxThreads) (e : settled tb s ≡ s) where
   pub counted : s .channels ≡ recount tb (s .threads) (λ c. at (s .channels) c 0)
   unfolding settled withChannels
   counted = sym (ap (λ (x : State). x .channels) e)
 
-  module _ (t : ℕ) (h : t < 64) (row : List ℕ) where
+  module _ (t : ℕ) (h : t < maxThreads) (row : List ℕ) where
     written : getD (set (s .threads) t row) t [] ≡ row
     written = getD-set-same (s .threads) t row [] (omega arith)
 
@@ -214,7 +215,7 @@ module _ (tb : Table) (s : State) (long : length (s .threads) ≡ 64) (e : settl
         (ap (withChannels (withThread s t row))
         (one-moved tb (s .threads) long (s .channels) counted t h row))
 
-    pub new-settled : (c ty : ℕ) → c < 128
+    pub new-settled : (c ty : ℕ) → c < maxChannels
         → settledNew tb (typed (withThread s t row) c ty) t c (ownList tb (thread s t)) (bit (isWaiting (thread s t))) ≡ settled tb (typed (withThread s t row) c ty)
     unfolding settledNew channelShifted rowEntered rowLeft shiftedTo typed withThread withChannel withChannels settled
     new-settled c ty i =
@@ -222,7 +223,7 @@ module _ (tb : Table) (s : State) (long : length (s .threads) ≡ 64) (e : settl
         (ap (withChannels (withThread s t row))
         (new-moved tb (s .threads) long (s .channels) counted t h row c ty i))
 
-    pub two-settled : (u : ℕ) → u < 64 → u ≢ t → (other : List ℕ)
+    pub two-settled : (u : ℕ) → u < maxThreads → u ≢ t → (other : List ℕ)
         → settledTwo tb (withThread (withThread s t row) u other) t u (ownList tb (thread s t)) (bit (isWaiting (thread s t))) (ownList tb (thread s u)) (bit (isWaiting (thread s u)))
         ≡ settled tb (withThread (withThread s t row) u other)
     unfolding settledTwo rowEntered rowLeft shiftedTo withThread withChannels settled

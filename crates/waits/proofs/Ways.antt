@@ -111,7 +111,8 @@ module _ (tb : Table) (s : State) (d : Direction) (t : ℕ) where
   pub branches-none : (l : List ℕ) → l ≡ tabulate maxChannels (who tb s d t) → l ≡ tabulate maxChannels (whoTo tb s d t 0)
   branches-none l e = e ∙ no-branch-noted tb s d t
 
-  pub branches-more : (i : ℕ) (l m : List ℕ) → l ≡ tabulate maxChannels (whoTo tb s d t i) → m ≡ branchNoted tb s d t i l → m ≡ tabulate maxChannels (whoTo tb s d t (i + 1))
+  pub branches-more : (i : ℕ) (l m : List ℕ) → l ≡ tabulate maxChannels (whoTo tb s d t i) → m ≡ branchNoted tb s d t i l
+      → m ≡ tabulate maxChannels (whoTo tb s d t (i + 1))
   branches-more i l m e f = branch-noted tb s d t i l e m f
 
   pub branches-all : (i n k : ℕ) (l : List ℕ) → l ≡ tabulate maxChannels (whoTo tb s d t i) → i ≤ k → k ≤ i → k ≡ branchCount tb n → n ≡ standsAt (thread s t)
@@ -121,7 +122,8 @@ module _ (tb : Table) (s : State) (d : Direction) (t : ℕ) where
       rw (add-one t) (e ∙ (rw q (branches-noted tb s d t (rw w))))
 
   -- ---- note_thread
-  pub thread-skipped : (x : ℕ) (l : List ℕ) → l ≡ tabulate maxChannels (who tb s d t) → x ≡ status (thread s t) → (x ≡ 2 → ⊥) → l ≡ tabulate maxChannels (who tb s d (t + 1))
+  pub thread-skipped : (x : ℕ) (l : List ℕ) → l ≡ tabulate maxChannels (who tb s d t) → x ≡ status (thread s t) → (x ≡ 2 → ⊥)
+      → l ≡ tabulate maxChannels (who tb s d (t + 1))
   thread-skipped x l e f n = rw (add-one t) (e ∙ none-noted tb s d t (rw (← f) (ne-eqb x 2 n)))
 
 module _ (tb : Table) (s : State) (t i n k : ℕ) (f : k ≡ branchCount tb n) (g : n ≡ standsAt (thread s t)) where
@@ -155,7 +157,7 @@ module _ (tb : Table) (s : State) (d : Direction) (l : List ℕ) where
   pub threads-more : (t : ℕ) (r : Bool) → (r ≡ true → l ≡ tabulate maxChannels (who tb s d (t + 1))) → r ≡ true → l ≡ tabulate maxChannels (who tb s d (t + 1))
   threads-more t r f e = f e
 
-  pub threads-all : (t : ℕ) → l ≡ tabulate maxChannels (who tb s d t) → t ≤ 64 → 64 ≤ t → l ≡ tabulate maxChannels (who tb s d 64)
+  pub threads-all : (t : ℕ) → l ≡ tabulate maxChannels (who tb s d t) → t ≤ maxThreads → maxThreads ≤ t → l ≡ tabulate maxChannels (who tb s d maxThreads)
   threads-all t e h i = let q : t ≡ 64 = omega arith in rw q at e
 
 -- ---- all_apart: a and b are the two notes
@@ -191,7 +193,7 @@ module _ (tb : Table) (s : State) where
   not-alone r e f = rw (waits-law tb s, ← e, f)
 
   pub all-apart : (r b : Bool) (l m : List ℕ) → r ≡ every (waitsAlone tb s) maxThreads → r ≡ true
-      → b ≡ allApart l m → (r ≡ true → l ≡ tabulate maxChannels (who tb s Out 64)) → (r ≡ true → m ≡ tabulate maxChannels (who tb s In 64))
+      → b ≡ allApart l m → (r ≡ true → l ≡ tabulate maxChannels (who tb s Out maxThreads)) → (r ≡ true → m ≡ tabulate maxChannels (who tb s In maxThreads))
       → b ≡ every (waitsRightly tb s) maxThreads
   unfolding allApart
   all-apart r b l m e f g h i =

@@ -1,10 +1,9 @@
-use Rattle.rules.specs.Moves.{goneBy, written}
+use Rattle.acts.proofs.Laws.{gone-written}
 use borrow.Author.Needs.{needs}
 use Rattle.acts.proofs.write_gone.Statement.{statement}
 use Rattle.acts.proofs.write_gone.Tie as tie
 
 pub write-gone-spec : {M : Type 1} → statement M
-unfolding goneBy written
 write-gone-spec =
     tie.close
     (tie.spec
@@ -15,4 +14,4 @@ write-gone-spec =
     (λ c κs. search needs)
     (λ c κs. search needs)
     (λ c κs. search needs)
-    (λ c. cc))
+    (λ c. search gone-written))

@@ -13,7 +13,7 @@ use Rattle.numbers.specs.Tests.{parts}
 use Rattle.numbers.specs.Search.Laws.{caseB, getD-tabulate, some-zero, some-suc, some-more}
 use Rattle.table.specs.Table.{Table, slotCount}
 use Rattle.table.specs.Layout.{definitionOf}
-use Rattle.state.specs.State.{status, standsAt, slotOf, inUse}
+use Rattle.state.specs.State.{status, standsAt, slotOf, inUse, maxChannels, rowSlots}
 use Rattle.rules.specs.Program.{channelSlot}
 use Rattle.rules.specs.Holding.{hasAt, holds}
 use Rattle.holding.specs.Own.{room, ownOf, ownList, ownRoom, holdsTo}
@@ -24,7 +24,7 @@ module _ (tb : Table) (row : List ℕ) where
   abbrev slotsHere : ℕ
   slotsHere = slotCount tb (definitionOf tb (standsAt row))
 
-  pub room-le : ownRoom tb row ≤ 16
+  pub room-le : ownRoom tb row ≤ rowSlots
   unfolding ownRoom room
   room-le =
       caseB (eqb (status row) 0) (λ y. rw y (omega arith))
@@ -36,40 +36,41 @@ module _ (tb : Table) (row : List ℕ) where
       caseB (eqb (status row) 0) (λ y. absurd (let q : k < 0 = rw y at h in omega arith))
       (λ n. (rw n, caseB (ltb slotsHere 16) (λ a. rw (n, a) at h) (λ b. let q : k < 16 = rw (n, b) at h in omega (arith, ltb-false slotsHere 16 b))))
 
-  room-past : (k : ℕ) → ownRoom tb row ≤ k → k < 16 → eqb (status row) 0 ≡ false → slotsHere ≤ k
+  room-past : (k : ℕ) → ownRoom tb row ≤ k → k < rowSlots → eqb (status row) 0 ≡ false → slotsHere ≤ k
   unfolding ownRoom room
   room-past k h i n = caseB (ltb slotsHere 16) (λ a. rw (n, a) at h) (λ b. absurd (let q : 16 ≤ k = rw (n, b) at h in omega arith))
 
-  pub own-past : (k : ℕ) → ownRoom tb row ≤ k → k < 16 → ownOf tb row k ≡ 128
+  pub own-past : (k : ℕ) → ownRoom tb row ≤ k → k < rowSlots → ownOf tb row k ≡ maxChannels
   unfolding ownOf channelSlot
   own-past k h i =
       caseB (eqb (status row) 0) (λ y. rw y) (λ n. rw (n, le-ltb k slotsHere (room-past k h i n)))
 
-  pub own-at : (k : ℕ) → k < 16 → getD (ownList tb row) k 0 ≡ ownOf tb row k
+  pub own-at : (k : ℕ) → k < rowSlots → getD (ownList tb row) k 0 ≡ ownOf tb row k
   unfolding ownList
   own-at k h = getD-tabulate 16 k (ownOf tb row) 0 h
 
 -- ---- a channel is met at the first slot that has it, and there alone
 
 -- the number 128 is no channel
-no-channel : (c : ℕ) → c < 128 → eqb 128 c ≡ false
+no-channel : (c : ℕ) → c < maxChannels → eqb maxChannels c ≡ false
 no-channel c h = ne-eqb 128 c (λ q. omega (arith, q, h))
 
 -- of nested tests that end in v, none gives c where v is not c
-not-here : (b₁ b₂ b₃ : Bool) (v c : ℕ) → c < 128 → (b₁ ≡ true → eqb v c ≡ false) → eqb (cond b₁ (cond b₂ (cond b₃ 128 v) 128) 128) c ≡ false
+not-here : (b₁ b₂ b₃ : Bool) (v c : ℕ) → c < maxChannels → (b₁ ≡ true → eqb v c ≡ false)
+    → eqb (cond b₁ (cond b₂ (cond b₃ maxChannels v) maxChannels) maxChannels) c ≡ false
 not-here false b₂ b₃ v c h e = no-channel c h
 not-here true false b₃ v c h e = no-channel c h
 not-here true true true v c h e = no-channel c h
 not-here true true false v c h e = e refl
 
-module _ (tb : Table) (row : List ℕ) (c : ℕ) (h : c < 128) where
+module _ (tb : Table) (row : List ℕ) (c : ℕ) (h : c < maxChannels) where
   pub holds-none : holdsTo tb row c 0 ≡ false
   unfolding holdsTo
   holds-none = rw (some-zero (hasAt tb row c)) (caseB (inUse row) (λ y. rw y) (λ n. rw n))
 
   module _ (k : ℕ) (u : inUse row ≡ true) where
     -- where slot k has c, it is the first to have c if no slot before has
-    own-here : hasAt tb row c k ≡ true → ownOf tb row k ≡ cond (some (hasAt tb row c) k) 128 c
+    own-here : hasAt tb row c k ≡ true → ownOf tb row k ≡ cond (some (hasAt tb row c) k) maxChannels c
     unfolding hasAt ownOf
     own-here e =
         let y : channelSlot tb (definitionOf tb (standsAt row)) k ≡ true = search parts in
@@ -88,7 +89,7 @@ module _ (tb : Table) (row : List ℕ) (c : ℕ) (h : c < 128) where
         (λ y. rw (y, own-here y) (caseB (some (hasAt tb row c) k) (λ e. rw e (no-channel c h)) (λ e. rw e (eq-eqb c c refl))))
         (λ n. rw (n, own-elsewhere n) (caseB (some (hasAt tb row c) k) (λ e. rw e) (λ e. rw e)))
 
-  own-free : (k : ℕ) → inUse row ≡ false → ownOf tb row k ≡ 128
+  own-free : (k : ℕ) → inUse row ≡ false → ownOf tb row k ≡ maxChannels
   unfolding ownOf
   own-free k u = rw u
 
@@ -115,7 +116,7 @@ module _ (tb : Table) (row : List ℕ) (c : ℕ) (h : c < 128) where
 
   -- ---- a row holds what its 16 slots hold, and what those of its definition do
 
-  pub holds-all : holdsTo tb row c 16 ≡ holds tb row c
+  pub holds-all : holdsTo tb row c rowSlots ≡ holds tb row c
   unfolding holdsTo holds
   holds-all = rw (lt-ltb c 128 h)
 

@@ -2,7 +2,7 @@
 use Prim.Native.Nat.{_≤_, _-_}
 use mathlib.Core.Path.{_≡_}
 use borrow.Author.Needs.{needs}
-use Rattle.state.specs.State.{stateOf}
+use Rattle.state.specs.State.{stateOf, maxThreads}
 use Rattle.rules.specs.Moves.{firstFrom, isFreeThread}
 use Rattle.next_rows.specs.Around.{from-laws}
 use Rattle.next_rows.proofs.free_thread_from.Statement.{statement}
@@ -12,7 +12,7 @@ abbrev Inv-loop : tie.InvT-loop
 Inv-loop state from u₀ u = (from ≤ u) × (firstFrom u from (isFreeThread (stateOf state)) ≡ u)
 
 abbrev μ-loop : tie.MeasureT-loop
-μ-loop state from u₀ u = 64 - u
+μ-loop state from u₀ u = maxThreads - u
 
 pub free-thread-from-spec : {M : Type 1} → statement M
 free-thread-from-spec =

@@ -1,4 +1,5 @@
 use Rattle.offers.specs.Tried.{tried-own, tried-other}
+use Rattle.offers.proofs.Ways.{count-choice, count-none}
 use borrow.Author.Needs.{needs}
 use Rattle.offers.proofs.branches_asked.Statement.{statement}
 use Rattle.offers.proofs.branches_asked.Tie as tie
@@ -9,5 +10,9 @@ branches-asked-spec =
     (tie.spec
     (λ c. search tried-own)
     (λ c κs. search needs)
+    (λ c. search needs)
+    (λ c. search needs)
     (λ c κs. search needs)
-    (λ c. search tried-other))
+    (λ c κs. search needs)
+    (λ c. search (tried-other, count-choice))
+    (λ c. search (tried-other, count-none)))

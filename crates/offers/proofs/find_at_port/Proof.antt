@@ -5,7 +5,7 @@ use borrow.Author.Needs.{needs}
 use Rattle.numbers.specs.Search.{first}
 use Rattle.numbers.specs.Search.Laws.{first-none, first-more}
 use Rattle.table.specs.Table.{tableOf}
-use Rattle.state.specs.State.{stateOf, thread}
+use Rattle.state.specs.State.{stateOf, thread, maxThreads}
 use Rattle.rules.specs.Offers.{offersAt, answers}
 use Rattle.rules.specs.declared.Partner.the-variants.{Nobody}
 use Rattle.offers.specs.Tried.{no-channel, thread-passed, found-at}
@@ -22,10 +22,10 @@ abbrev μ-loop : tie.MeasureT-loop
 
 abbrev Inv-threads : tie.InvT-threads
 Inv-threads table index state d p nodes found₀ u₀ found u =
-    (u ≤ 64) × (first (answers (tableOf table) (stateOf state) 64 d p) u ≡ u) × (found ≡ Nobody)
+    (u ≤ maxThreads) × (first (answers (tableOf table) (stateOf state) maxThreads d p) u ≡ u) × (found ≡ Nobody)
 
 abbrev μ-threads : tie.MeasureT-threads
-μ-threads table index state d p nodes found₀ u₀ found u = 64 - u
+μ-threads table index state d p nodes found₀ u₀ found u = maxThreads - u
 
 pub find-at-port-spec : {M : Type 1} → statement M
 find-at-port-spec =

@@ -1,10 +1,9 @@
-use Rattle.rules.specs.Program.{branchAt}
+use Rattle.program.proofs.Laws.{branch-is}
 use borrow.Author.Needs.{needs}
 use Rattle.program.proofs.branch_at.Statement.{statement}
 use Rattle.program.proofs.branch_at.Tie as tie
 
 pub branch-at-spec : {M : Type 1} → statement M
-unfolding branchAt
 branch-at-spec =
     tie.close
     (tie.spec
@@ -13,4 +12,4 @@ branch-at-spec =
     (λ c. search needs)
     (λ c κs. search needs)
     (λ c. search needs)
-    (λ c. cc))
+    (λ c. search branch-is))

@@ -1,13 +1,12 @@
-use Rattle.rules.specs.Program.{nextOf}
+use Rattle.program.proofs.Laws.{next-is}
 use borrow.Author.Needs.{needs}
 use Rattle.program.proofs.next_of.Statement.{statement}
 use Rattle.program.proofs.next_of.Tie as tie
 
 pub next-of-spec : {M : Type 1} → statement M
-unfolding nextOf
 next-of-spec =
     tie.close
     (tie.spec
     (λ c κs. search needs)
     (λ c κs. search needs)
-    (λ c. cc))
+    (λ c. search next-is))

@@ -1,3 +1,4 @@
+use Rattle.program.proofs.Laws.{node-is}
 use Rattle.table.specs.Layout.{blocks}
 use borrow.Author.Needs.{needs}
 use Rattle.program.proofs.node_within.Statement.{statement}
@@ -11,4 +12,4 @@ node-within-spec =
     (λ c κs. search needs)
     (λ c κs. search needs)
     (λ c. search needs)
-    (λ c. cc))
+    (λ c. search node-is))

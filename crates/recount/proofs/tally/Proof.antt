@@ -5,20 +5,20 @@ use mathlib.Core.Bool.{true}
 use lib.ListN.{length}
 use borrow.Author.Needs.{needs}
 use Rattle.table.specs.Table.{tableOf}
-use Rattle.state.specs.State.{stateOf, isWaiting}
+use Rattle.state.specs.State.{stateOf, isWaiting, maxThreads}
 use Rattle.recount.specs.Tally.{addedBelow}
-use Rattle.recount.proofs.Ways.{tallies}
+use Rattle.recount.proofs.Ways.{rows-none, rows-held, rows-waiting, all-held, all-waiting}
 use Rattle.recount.proofs.tally.Statement.{statement}
 use Rattle.recount.proofs.tally.Tie as tie
 
 abbrev Inv-loop : tie.InvT-loop
 Inv-loop table index state held₀ waiting₀ t₀ held waiting t =
-    (t ≤ 64) × (length held ≡ length held₀) × (length waiting ≡ length waiting₀)
+    (t ≤ maxThreads) × (length held ≡ length held₀) × (length waiting ≡ length waiting₀)
     × (held ≡ addedBelow (tableOf table) (λ row. true) (stateOf state .threads) held₀ t)
     × (waiting ≡ addedBelow (tableOf table) (λ row. isWaiting row) (stateOf state .threads) waiting₀ t)
 
 abbrev μ-loop : tie.MeasureT-loop
-μ-loop table index state held₀ waiting₀ t₀ held waiting t = 64 - t
+μ-loop table index state held₀ waiting₀ t₀ held waiting t = maxThreads - t
 
 pub tally-spec : {M : Type 1} → statement M
 tally-spec =
@@ -26,11 +26,13 @@ tally-spec =
     (tie.spec
     Inv-loop
     μ-loop
-    (λ c. search (tallies, needs))
+    (λ c. search (rows-none, needs))
+    (λ c κs. search needs)
+    (λ c κs. search needs)
     (λ c κs. search needs)
     (λ c. search needs)
     (λ c. search needs)
-    (λ c. search (tallies, needs))
+    (λ c. (search needs, search needs, search needs, search rows-held, search rows-waiting))
     (λ c. search needs)
     (λ c. search needs)
-    (λ c. search (tallies, needs)))
+    (λ c. (search all-held, search all-waiting)))

@@ -15,7 +15,7 @@ use Rattle.numbers.specs.Laid.Laws.{zeros-at}
 use Rattle.numbers.specs.Search.{sumTo, tabulate}
 use Rattle.numbers.specs.Search.Laws.{caseB, sum-none, sum-suc, is-tabulate}
 use Rattle.table.specs.Table.{Table}
-use Rattle.state.specs.State.{isWaiting}
+use Rattle.state.specs.State.{isWaiting, maxChannels, maxThreads, rowSlots}
 use Rattle.rules.specs.Holding.{holds, holders, waiters}
 use Rattle.holding.specs.Own.{ownOf, ownList, ownRoom, holdsTo}
 use Rattle.holding.specs.Own.Laws.{room-le, own-at, holds-none, own-counts, holds-room}
@@ -45,7 +45,7 @@ module _ (tb : Table) where
     length-addedTo zero = refl
     length-addedTo (suc n) = length-added (addedTo (ownList tb row) w l n) (getD (ownList tb row) n 0) w ∙ length-addedTo n
 
-    addedTo-law : (c n : ℕ) → length l ≡ 128 → c < 128 → getD l c 0 < 256 → n ≤ 16
+    addedTo-law : (c n : ℕ) → length l ≡ maxChannels → c < maxChannels → getD l c 0 < 256 → n ≤ rowSlots
         → getD (addedTo (ownList tb row) w l n) c 0 ≡ (getD l c 0 + bit (holdsTo tb row c n) * w) % 256
     unfolding addedTo bit
     addedTo-law c zero e h b i = rw (holds-none tb row c h) (omega arith)
@@ -71,7 +71,8 @@ module _ (tb : Table) where
     bit-and false true = refl
     bit-and false false = refl
 
-    rowAdded-law : (c : ℕ) → length l ≡ 128 → c < 128 → getD l c 0 < 256 → getD (rowAdded tb row (bit b) l) c 0 ≡ (getD l c 0 + bit (b && holds tb row c)) % 256
+    rowAdded-law : (c : ℕ) → length l ≡ maxChannels → c < maxChannels → getD l c 0 < 256
+        → getD (rowAdded tb row (bit b) l) c 0 ≡ (getD l c 0 + bit (b && holds tb row c)) % 256
     unfolding rowAdded
     rowAdded-law c e h y =
         rw (← bit-and (holds tb row c) b, ← holds-room tb row c h) (addedTo-law row (bit b) l c (ownRoom tb row) e h y (room-le tb row))
@@ -89,7 +90,8 @@ module _ (tb : Table) where
       length-below zero = refl
       length-below (suc n) = length-rowAdded (getD ths n []) (p (getD ths n [])) (addedBelow tb p ths l n) ∙ length-below n
 
-      below-law : (c n : ℕ) → length l ≡ 128 → c < 128 → getD l c 0 < 256 → getD (addedBelow tb p ths l n) c 0 ≡ (getD l c 0 + sumTo (passed c) n) % 256
+      below-law : (c n : ℕ) → length l ≡ maxChannels → c < maxChannels → getD l c 0 < 256
+          → getD (addedBelow tb p ths l n) c 0 ≡ (getD l c 0 + sumTo (passed c) n) % 256
       unfolding addedBelow
       below-law c zero e h b = rw (sum-none (passed c)) (omega arith)
       below-law c (suc n) e h b =
@@ -98,7 +100,7 @@ module _ (tb : Table) where
           rw (rowAdded-law (getD ths n []) (p (getD ths n [])) (addedBelow tb p ths l n) c (length-below n ∙ e) h byte, m, sum-suc (passed c) n) (omega arith)
 
     -- all 64 rows, from a list of zeros
-    counted : length ths ≡ 64 → addedBelow tb p ths (replicate 128 0) 64 ≡ tabulate 128 passers
+    counted : length ths ≡ maxThreads → addedBelow tb p ths (replicate maxChannels 0) maxThreads ≡ tabulate maxChannels passers
     counted long = is-tabulate (addedBelow tb p ths (replicate 128 0) 64) 128 passers 0 (length-below (replicate 128 0) 64 ∙ length-replicate {A = ℕ} 128 0)
         (λ c h. let le = count-le (λ row. p row && holds tb row c) ths in
         let i : passers c ≡ sumTo (passed c) 64 = rw long at (count-index (λ row. p row && holds tb row c) ths []) in
@@ -106,10 +108,12 @@ module _ (tb : Table) where
         ∙ omega (arith, zeros-at 128 c))
 
   -- the rows that hold a channel, and the waiting ones among them
-  pub holders-counted : (ths : List (List ℕ)) → length ths ≡ 64 → addedBelow tb (λ row. true) ths (replicate 128 0) 64 ≡ tabulate 128 (holders tb ths)
+  pub holders-counted : (ths : List (List ℕ)) → length ths ≡ maxThreads
+      → addedBelow tb (λ row. true) ths (replicate maxChannels 0) maxThreads ≡ tabulate maxChannels (holders tb ths)
   unfolding holders
   holders-counted ths long = counted (λ row. true) ths long
 
-  pub waiters-counted : (ths : List (List ℕ)) → length ths ≡ 64 → addedBelow tb (λ row. isWaiting row) ths (replicate 128 0) 64 ≡ tabulate 128 (waiters tb ths)
+  pub waiters-counted : (ths : List (List ℕ)) → length ths ≡ maxThreads
+      → addedBelow tb (λ row. isWaiting row) ths (replicate maxChannels 0) maxThreads ≡ tabulate maxChannels (waiters tb ths)
   unfolding waiters
   waiters-counted ths long = counted (λ row. isWaiting row) ths long

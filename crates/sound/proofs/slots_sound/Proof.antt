@@ -6,17 +6,17 @@ use borrow.Author.Needs.{needs}
 use Rattle.numbers.specs.Search.{every}
 use Rattle.numbers.specs.Search.Laws.{every-none, every-passed, every-failed, every-all}
 use Rattle.table.specs.Table.{tableOf}
-use Rattle.state.specs.State.{stateOf, thread}
+use Rattle.state.specs.State.{stateOf, thread, rowSlots}
 use Rattle.sound.specs.SoundRows.{slotSound}
 use Rattle.sound.proofs.slots_sound.Statement.{statement}
 use Rattle.sound.proofs.slots_sound.Tie as tie
 
 abbrev Inv-loop : tie.InvT-loop
 Inv-loop table index marks state t n d k₀ k =
-    (k ≤ 16) × (every (slotSound (tableOf table) (stateOf state) (thread (stateOf state) t)) k ≡ true)
+    (k ≤ rowSlots) × (every (slotSound (tableOf table) (stateOf state) (thread (stateOf state) t)) k ≡ true)
 
 abbrev μ-loop : tie.MeasureT-loop
-μ-loop table index marks state t n d k₀ k = 16 - k
+μ-loop table index marks state t n d k₀ k = rowSlots - k
 
 pub slots-sound-spec : {M : Type 1} → statement M
 slots-sound-spec =

@@ -10,10 +10,10 @@ use Rattle.thread_rows.proofs.copy_slots.Tie as tie
 
 abbrev Inv-loop : tie.InvT-loop
 Inv-loop state t slots₀ k₀ slots k =
-    (k ≤ 16) × (slots ≡ laid (slotOf (thread (stateOf state) t)) k rowSlots)
+    (k ≤ rowSlots) × (slots ≡ laid (slotOf (thread (stateOf state) t)) k rowSlots)
 
 abbrev μ-loop : tie.MeasureT-loop
-μ-loop state t slots₀ k₀ slots k = 16 - k
+μ-loop state t slots₀ k₀ slots k = rowSlots - k
 
 pub copy-slots-spec : {M : Type 1} → statement M
 copy-slots-spec =

@@ -11,7 +11,7 @@ use Rattle.numbers.specs.Laid.{laid}
 use Rattle.numbers.specs.Laid.Laws.{laid-none, laid-all, laid-put}
 use Rattle.numbers.specs.Search.{tabulate}
 use Rattle.numbers.specs.Search.Laws.{getD-tabulate, length-tabulate}
-use Rattle.state.specs.State.{State, stateOf, thread, standsAt, slotOf, slotsOf, stateWords, rowSlots, withThread}
+use Rattle.state.specs.State.{State, stateOf, thread, standsAt, slotOf, slotsOf, stateWords, rowSlots, withThread, maxThreads}
 use Rattle.state.specs.State.Laws.{length-threads, length-thread, thread-same, thread-twice}
 use Rattle.rules.specs.Moves.{waitingRow, stored}
 use Rattle.thread_rows.specs.WrittenRows.{reslotted, refilled}
@@ -25,7 +25,7 @@ two-words (x ∷ y ∷ row) a b h = refl
 
 module _ (b b₁ : List ℕ) (t v n : ℕ) (s₂ : State) where
   pub head-written : s₂ ≡ withThread (stateOf b₁) t (set (thread (stateOf b₁) t) 1 n) → stateOf b₁ ≡ withThread (stateOf b) t (set (thread (stateOf b) t) 0 v)
-      → length b ≡ stateWords → t < 64 → s₂ ≡ withThread (stateOf b) t (v ∷ n ∷ slotsOf (thread (stateOf b) t))
+      → length b ≡ stateWords → t < maxThreads → s₂ ≡ withThread (stateOf b) t (v ∷ n ∷ slotsOf (thread (stateOf b) t))
   head-written e f l h =
       let r = set (thread (stateOf b) t) 0 v in
       let g : thread (stateOf b₁) t ≡ r = ap (λ (s : State). thread s t) f ∙ thread-same (stateOf b) t r (omega (arith, length-threads b)) in
@@ -80,7 +80,7 @@ module _ (b : List ℕ) (t : ℕ) (l : List ℕ) where
   refill-none = rw (set-getD (stateOf b .threads) t [])
 
   pub refill-more : (s₁ s₂ : State) (k x : ℕ) → s₂ ≡ withThread s₁ t (stored (thread s₁ t) k x)
-      → s₁ ≡ withThread (stateOf b) t (refilled l (thread (stateOf b) t) k) → x ≡ getD l k 0 → t < 64
+      → s₁ ≡ withThread (stateOf b) t (refilled l (thread (stateOf b) t) k) → x ≡ getD l k 0 → t < maxThreads
       → s₂ ≡ withThread (stateOf b) t (refilled l (thread (stateOf b) t) (k + 1))
   unfolding refilled
   refill-more s₁ s₂ k x e f g h =
@@ -89,14 +89,15 @@ module _ (b : List ℕ) (t : ℕ) (l : List ℕ) where
       e ∙ rw (w, f, thread-twice (stateOf b) t r (stored r k x), add-one k, g)
 
   pub refill-done : (s₁ : State) (k : ℕ) → s₁ ≡ withThread (stateOf b) t (refilled l (thread (stateOf b) t) k)
-      → length b ≡ stateWords → length l ≡ rowSlots → t < 64 → 16 ≤ k → k ≤ 16 → s₁ ≡ withThread (stateOf b) t (reslotted (thread (stateOf b) t) l)
+      → length b ≡ stateWords → length l ≡ rowSlots → t < maxThreads → rowSlots ≤ k → k ≤ rowSlots
+      → s₁ ≡ withThread (stateOf b) t (reslotted (thread (stateOf b) t) l)
   refill-done s₁ k e g f h i j =
       let q : k ≡ 16 = omega arith in
       e ∙ rw (q, refill-all l (thread (stateOf b) t) 16 f (length-thread b g t h))
 
 -- a head and then the slots make a row
 pub row-written : (b b₁ : List ℕ) (t v n : ℕ) (l : List ℕ) (s₂ : State) → s₂ ≡ withThread (stateOf b₁) t (reslotted (thread (stateOf b₁) t) l)
-    → stateOf b₁ ≡ withThread (stateOf b) t (v ∷ n ∷ slotsOf (thread (stateOf b) t)) → t < 64 → s₂ ≡ withThread (stateOf b) t (v ∷ n ∷ l)
+    → stateOf b₁ ≡ withThread (stateOf b) t (v ∷ n ∷ slotsOf (thread (stateOf b) t)) → t < maxThreads → s₂ ≡ withThread (stateOf b) t (v ∷ n ∷ l)
 row-written b b₁ t v n l s₂ e f h =
     let r = v ∷ n ∷ slotsOf (thread (stateOf b) t) in
     let g : thread (stateOf b₁) t ≡ r = ap (λ (s : State). thread s t) f ∙ thread-same (stateOf b) t r (omega (arith, length-threads b)) in
@@ -105,7 +106,8 @@ row-written b b₁ t v n l s₂ e f h =
 -- ---- a row that is written twice: s₁ has row r for thread t, and s₂ has v in its slot k besides
 
 module _ (b : List ℕ) (t : ℕ) (r : List ℕ) (s₁ s₂ : State) (k v : ℕ) where
-  pub stored-after : s₂ ≡ withThread s₁ t (stored (thread s₁ t) k v) → s₁ ≡ withThread (stateOf b) t r → t < 64 → s₂ ≡ withThread (stateOf b) t (stored r k v)
+  pub stored-after : s₂ ≡ withThread s₁ t (stored (thread s₁ t) k v) → s₁ ≡ withThread (stateOf b) t r → t < maxThreads
+      → s₂ ≡ withThread (stateOf b) t (stored r k v)
   stored-after e f h =
       let w : thread s₁ t ≡ r = ap (λ (s : State). thread s t) f ∙ thread-same (stateOf b) t r (omega (arith, length-threads b)) in
       e ∙ rw (w, f, thread-twice (stateOf b) t r (stored r k v))
@@ -123,7 +125,7 @@ module _ (f : ℕ → ℕ) where
   slots-done l k e h i = let q : k ≡ rowSlots = omega arith in e ∙ rw q (laid-all f rowSlots)
 
 -- the slots of a thread
-pub slots-copied : (b : List ℕ) (t : ℕ) (l : List ℕ) (k : ℕ) → l ≡ laid (slotOf (thread (stateOf b) t)) k rowSlots → length b ≡ stateWords → t < 64
+pub slots-copied : (b : List ℕ) (t : ℕ) (l : List ℕ) (k : ℕ) → l ≡ laid (slotOf (thread (stateOf b) t)) k rowSlots → length b ≡ stateWords → t < maxThreads
     → rowSlots ≤ k → k ≤ rowSlots → l ≡ slotsOf (thread (stateOf b) t)
 slots-copied b t l k e g h i j =
     let f = slotOf (thread (stateOf b) t) in

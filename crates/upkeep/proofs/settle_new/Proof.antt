@@ -1,11 +1,7 @@
 use borrow.Author.Needs.{needs}
-use Rattle.upkeep.specs.Shift.{settledNew}
+use Rattle.upkeep.proofs.Shifts.{new-is}
 use Rattle.upkeep.proofs.settle_new.Statement.{statement}
 use Rattle.upkeep.proofs.settle_new.Tie as tie
-
-returns : tie.Need-returns
-unfolding settledNew
-returns c = cc
 
 pub settle-new-spec : {M : Type 1} → statement M
 settle-new-spec =
@@ -14,4 +10,4 @@ settle-new-spec =
     (λ c κs. search needs)
     (λ c κs. search needs)
     (λ c κs. search needs)
-    returns)
+    (λ c. search new-is))

@@ -1,11 +1,7 @@
 use borrow.Author.Needs.{needs}
-use Rattle.upkeep.specs.Shift.{settledTwo}
+use Rattle.upkeep.proofs.Shifts.{two-is}
 use Rattle.upkeep.proofs.settle_two.Statement.{statement}
 use Rattle.upkeep.proofs.settle_two.Tie as tie
-
-returns : tie.Need-returns
-unfolding settledTwo
-returns c = cc
 
 pub settle-two-spec : {M : Type 1} → statement M
 settle-two-spec =
@@ -15,4 +11,4 @@ settle-two-spec =
     (λ c κs. search needs)
     (λ c κs. search needs)
     (λ c κs. search needs)
-    returns)
+    (λ c. search two-is))

@@ -15,7 +15,7 @@ use Rattle.numbers.specs.Rows.{at}
 use Rattle.numbers.specs.Search.Laws.{caseB}
 use Rattle.numbers.specs.Signed.{sum, difference}
 use Rattle.table.specs.Table.{Table}
-use Rattle.state.specs.State.{minusOne, rowSlots, isWaiting}
+use Rattle.state.specs.State.{minusOne, rowSlots, isWaiting, maxChannels}
 use Rattle.rules.specs.Holding.{holds, channelRow}
 use Rattle.holding.specs.Own.{ownOf, ownList, ownRoom, holdsTo}
 use Rattle.holding.specs.Own.Laws.{room-le, own-at, holds-none, own-again, own-suc, holds-all, holds-room}
@@ -46,14 +46,15 @@ module _ (chs : List (List ℕ)) (v dn dw : ℕ) where
   unfolding shiftRow
   shift-other c e = getD-set-other chs v c (rowShifted chs v dn dw) [] (λ q. eqb-false v c e (sym q))
 
-module _ (tb : Table) (row : List ℕ) (dn dw : ℕ) (chs : List (List ℕ)) (long : length chs ≡ 128) where
-  length-shiftTo : (k : ℕ) → length (shiftTo (ownList tb row) dn dw chs k) ≡ 128
+module _ (tb : Table) (row : List ℕ) (dn dw : ℕ) (chs : List (List ℕ)) (long : length chs ≡ maxChannels) where
+  length-shiftTo : (k : ℕ) → length (shiftTo (ownList tb row) dn dw chs k) ≡ maxChannels
   unfolding shiftTo
   length-shiftTo zero = long
   length-shiftTo (suc k) = length-shiftRow (shiftTo (ownList tb row) dn dw chs k) (getD (ownList tb row) k 0) dn dw ∙ length-shiftTo k
 
   -- a channel is touched once at most
-  shift-law : (c k : ℕ) → c < 128 → k ≤ 16 → getD (shiftTo (ownList tb row) dn dw chs k) c [] ≡ cond (holdsTo tb row c k) (rowShifted chs c dn dw) (getD chs c [])
+  shift-law : (c k : ℕ) → c < maxChannels → k ≤ rowSlots
+      → getD (shiftTo (ownList tb row) dn dw chs k) c [] ≡ cond (holdsTo tb row c k) (rowShifted chs c dn dw) (getD chs c [])
   unfolding shiftTo
   shift-law c zero h l = rw (holds-none tb row c h)
   shift-law c (suc k) h l =
@@ -69,10 +70,12 @@ module _ (tb : Table) (row : List ℕ) (dn dw : ℕ) (chs : List (List ℕ)) (lo
       (λ e. rw e (shift-other prev (ownOf tb row k) dn dw c e ∙ same)))))
 
   -- the slots of the row's definition shift the channels that the row holds and no other; the whole list does no more
-  room-shifted : (c : ℕ) → c < 128 → getD (shiftTo (ownList tb row) dn dw chs (ownRoom tb row)) c [] ≡ cond (holds tb row c) (rowShifted chs c dn dw) (getD chs c [])
+  room-shifted : (c : ℕ) → c < maxChannels
+      → getD (shiftTo (ownList tb row) dn dw chs (ownRoom tb row)) c [] ≡ cond (holds tb row c) (rowShifted chs c dn dw) (getD chs c [])
   room-shifted c h = rw (← holds-room tb row c h) (shift-law c (ownRoom tb row) h (room-le tb row))
 
-  list-shifted : (c : ℕ) → c < 128 → getD (shiftTo (ownList tb row) dn dw chs rowSlots) c [] ≡ cond (holds tb row c) (rowShifted chs c dn dw) (getD chs c [])
+  list-shifted : (c : ℕ) → c < maxChannels
+      → getD (shiftTo (ownList tb row) dn dw chs rowSlots) c [] ≡ cond (holds tb row c) (rowShifted chs c dn dw) (getD chs c [])
   list-shifted c h = rw (← holds-all tb row c h) (shift-law c 16 h (omega arith))
 
 -- ---- one channel row, in plain numbers
@@ -122,7 +125,8 @@ abbrev pub Low : (ℕ → ℕ) → (ℕ → ℕ) → Type 0
 Low n w = (c : ℕ) → c < 128 → (n c < 1000) × (w c < 1000)
 
 module _ (chs : List (List ℕ)) (ty n w : ℕ → ℕ) where
-  pub enter-law : (tb : Table) (row : List ℕ) → Raw chs ty n w → Low n w → Raw (entering tb row chs) ty (λ c. n c + bit (holds tb row c)) (λ c. w c + bit (isWaiting row && holds tb row c))
+  pub enter-law : (tb : Table) (row : List ℕ) → Raw chs ty n w → Low n w
+      → Raw (entering tb row chs) ty (λ c. n c + bit (holds tb row c)) (λ c. w c + bit (isWaiting row && holds tb row c))
   unfolding bit
   enter-law tb row (long, raw) low = (
     length-shiftTo tb row 1 (bit (isWaiting row)) chs long (ownRoom tb row),
@@ -133,11 +137,12 @@ module _ (chs : List (List ℕ)) (ty n w : ℕ → ℕ) where
   )
 
   -- rows whose type is 0 where nobody holds them are settled
-  pub settle : Raw chs ty n w → ((c : ℕ) → c < 128 → n c ≡ 0 → (ty c ≡ 0) × (w c ≡ 0)) → Settled chs ty n w
+  pub settle : Raw chs ty n w → ((c : ℕ) → c < maxChannels → n c ≡ 0 → (ty c ≡ 0) × (w c ≡ 0)) → Settled chs ty n w
   settle (long, raw) free = (long, λ c h. raw c h ∙ free-row (ty c) (n c) (w c) (free c h))
 
   -- moved by 0, a row keeps its counts, and is freed where nobody holds it
-  pub freed-law : (x : ℕ) → Raw chs ty n w → Low n w → ((c : ℕ) → c < 128 → eqb x c ≡ false → n c ≡ 0 → (ty c ≡ 0) × (w c ≡ 0)) → Settled (shiftRow chs x 0 0) ty n w
+  pub freed-law : (x : ℕ) → Raw chs ty n w → Low n w → ((c : ℕ) → c < maxChannels → eqb x c ≡ false → n c ≡ 0 → (ty c ≡ 0) × (w c ≡ 0))
+      → Settled (shiftRow chs x 0 0) ty n w
   unfolding sum
   freed-law x (long, raw) low free = (
     length-shiftRow chs x 0 0 ∙ long,
@@ -150,7 +155,7 @@ module _ (chs : List (List ℕ)) (ty n w : ℕ → ℕ) where
   )
 
   pub leave-law : (tb : Table) (row : List ℕ) (N W : ℕ → ℕ) → Settled chs ty N W
-      → ((c : ℕ) → c < 128 → (N c ≡ n c + bit (holds tb row c)) × (W c ≡ w c + bit (isWaiting row && holds tb row c)))
+      → ((c : ℕ) → c < maxChannels → (N c ≡ n c + bit (holds tb row c)) × (W c ≡ w c + bit (isWaiting row && holds tb row c)))
       → Low N W → Settled (leaving tb row chs) ty n w
   unfolding bit
   leave-law tb row N W (long, says) more low = (

@@ -7,6 +7,7 @@ use borrow.Author.Tests.{not-true, not-false}
 use borrow.Author.Needs.{needs}
 use Rattle.numbers.specs.Search.{every}
 use Rattle.numbers.specs.Search.Laws.{every-laws}
+use Rattle.state.specs.State.{maxChannels}
 use Rattle.waits.specs.Waits.{apart, allApart}
 use Rattle.waits.proofs.Ways.{apart-read}
 use Rattle.waits.proofs.all_apart.Statement.{statement}
@@ -14,10 +15,10 @@ use Rattle.waits.proofs.all_apart.Tie as tie
 
 abbrev Inv-loop : tie.InvT-loop
 Inv-loop senders receivers c₀ c =
-    (c ≤ 128) × (every (λ c. apart (getD senders c 0) (getD receivers c 0)) c ≡ true)
+    (c ≤ maxChannels) × (every (λ c. apart (getD senders c 0) (getD receivers c 0)) c ≡ true)
 
 abbrev μ-loop : tie.MeasureT-loop
-μ-loop senders receivers c₀ c = 128 - c
+μ-loop senders receivers c₀ c = maxChannels - c
 
 pub all-apart-spec : {M : Type 1} → statement M
 unfolding allApart

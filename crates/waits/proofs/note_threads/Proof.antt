@@ -8,7 +8,7 @@ use borrow.Author.Needs.{needs}
 use Rattle.numbers.specs.Search.{every, tabulate}
 use Rattle.numbers.specs.Search.Laws.{every-laws, contra}
 use Rattle.table.specs.Table.{tableOf}
-use Rattle.state.specs.State.{stateOf, maxChannels}
+use Rattle.state.specs.State.{stateOf, maxChannels, maxThreads}
 use Rattle.rules.specs.declared.Direction.the-variants.{Out, In}
 use Rattle.waits.specs.Waits.{waitsAlone, who}
 use Rattle.waits.proofs.Ways.{threads-none, threads-more, threads-all}
@@ -17,11 +17,11 @@ use Rattle.waits.proofs.note_threads.Tie as tie
 
 abbrev Inv-loop : tie.InvT-loop
 Inv-loop table index state senders₀ receivers₀ t₀ senders receivers t =
-    (t ≤ 64) × (length senders ≡ length senders₀) × (length receivers ≡ length receivers₀) × (every (waitsAlone (tableOf table) (stateOf state)) t ≡ true)
+    (t ≤ maxThreads) × (length senders ≡ length senders₀) × (length receivers ≡ length receivers₀) × (every (waitsAlone (tableOf table) (stateOf state)) t ≡ true)
     × (senders ≡ tabulate maxChannels (who (tableOf table) (stateOf state) Out t)) × (receivers ≡ tabulate maxChannels (who (tableOf table) (stateOf state) In t))
 
 abbrev μ-loop : tie.MeasureT-loop
-μ-loop table index state senders₀ receivers₀ t₀ senders receivers t = 64 - t
+μ-loop table index state senders₀ receivers₀ t₀ senders receivers t = maxThreads - t
 
 pub note-threads-spec : {M : Type 1} → statement M
 note-threads-spec =

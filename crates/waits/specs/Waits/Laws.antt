@@ -31,7 +31,7 @@ pub data Note (p : ℕ → Bool) (n : ℕ) : ℕ → Type 0 where
 
 module _ (p : ℕ → Bool) where
   -- thread n besides
-  with-next : (n m : ℕ) → n < 64 → p n ≡ true → Note p n m → Note p (suc n) (noted m n)
+  with-next : (n m : ℕ) → n < maxThreads → p n ≡ true → Note p n m → Note p (suc n) (noted m n)
   unfolding noted
   with-next n m h e (nobody f) = alone n (omega arith) e
       (λ u l t. caseB (ltb u n) (λ y. contra t (f u (ltb-true u n y))) (λ y. omega (arith, ltb-false u n y)))
@@ -49,7 +49,7 @@ module _ (p : ℕ → Bool) where
       (λ u j g. caseB (ltb u n) (λ y. f u (ltb-true u n y) g) (λ y. let q : u ≡ n = omega (arith, ltb-false u n y) in contra (rw q at g) e))
   past-next n m e (many v w l j d t g) = many v w (omega arith) (omega arith) d t g
 
-  pub note-means : (n : ℕ) → n ≤ 64 → Note p n (noteOf p n)
+  pub note-means : (n : ℕ) → n ≤ maxThreads → Note p n (noteOf p n)
   unfolding noteOf
   note-means zero h = nobody (λ u l. absurd (omega arith))
   note-means (suc n) h = caseB (p n)
@@ -66,7 +66,7 @@ pub record Conflict (p q : ℕ → Bool) (n : ℕ) : Type 0 where
   pub one-passes : p one ≡ true
   pub other-passes : q other ≡ true
 
-module _ (p q : ℕ → Bool) (n : ℕ) (h : n ≤ 64) where
+module _ (p q : ℕ → Bool) (n : ℕ) (h : n ≤ maxThreads) where
   abbrev conflict : (u v : ℕ) → u < n → v < n → u ≢ v → p u ≡ true → q v ≡ true → Conflict p q n
   conflict u v i j d e f = record { one = u; other = v; one-below = i; other-below = j; differ = d; one-passes = e; other-passes = f }
 
@@ -145,10 +145,6 @@ partner-is New e = contra e refl
 partner-is Spawn e = contra e refl
 partner-is Assignment e = contra e refl
 
-partner-of : (d : Direction) → needsPartner (Meeting d) ≡ true
-unfolding needsPartner
-partner-of d = refl
-
 module _ (tb : Table) (s : State) (t i : ℕ) where
   abbrev line : ℕ
   line = branchAt tb (standsAt (thread s t)) i
@@ -176,7 +172,8 @@ module _ (tb : Table) (s : State) (t i : ℕ) where
       (λ g. rw g)
 
   -- an offer that another thread answers goes ahead
-  pub met-ahead : (d : Direction) (c u : ℕ) → offersAt tb (thread s t) d c i ≡ true → u < 64 → answers tb s t (opposite d) c u ≡ true → ahead tb s t i ≡ true
+  pub met-ahead : (d : Direction) (c u : ℕ) → offersAt tb (thread s t) d c i ≡ true → u < maxThreads → answers tb s t (opposite d) c u ≡ true
+      → ahead tb s t i ≡ true
   unfolding offersAt offersIn ahead branchMove
   met-ahead d c u e h f =
       let m : actOf tb line ≡ Meeting d = meets-is (actOf tb line) d (and-left _ _ e) in
@@ -211,25 +208,26 @@ module _ (tb : Table) (s : State) where
   abbrev offering : Direction → ℕ → ℕ → Bool
   offering d c u = offers tb (thread s u) d c
 
-  who-means : (d : Direction) (c : ℕ) → Note (offering d c) 64 (who tb s d 64 c)
+  who-means : (d : Direction) (c : ℕ) → Note (offering d c) maxThreads (who tb s d maxThreads c)
   unfolding who
   who-means d c = note-means (offering d c) 64 (omega arith)
 
   abbrev noneConflict : Bool
   noneConflict = every (λ c. apart (who tb s Out 64 c) (who tb s In 64 c)) maxChannels
 
-  offers-channel : (d : Direction) (c u : ℕ) → offering d c u ≡ true → c < 128
+  offers-channel : (d : Direction) (c u : ℕ) → offering d c u ≡ true → c < maxChannels
   unfolding offers
   offers-channel d c u e = ltb-true c 128 (and-left (ltb c 128) _ e)
 
   -- two threads in conflict: the one sends, the other receives
-  conflicts : (c : ℕ) → noneConflict ≡ true → Conflict (offering Out c) (offering In c) 64 → ⊥
+  conflicts : (c : ℕ) → noneConflict ≡ true → Conflict (offering Out c) (offering In c) maxThreads → ⊥
   conflicts c e k =
       is-apart (offering Out c) (offering In c) 64 (omega arith) (who tb s Out 64 c) (who tb s In 64 c) (who-means Out c) (who-means In c)
       (every-elim (λ c. apart (who tb s Out 64 c) (who tb s In 64 c)) maxChannels c e (offers-channel Out c (k .one) (k .one-passes))) k
 
   -- so no thread that offers d on c is answered
-  unanswered : (d : Direction) (c t u : ℕ) → noneConflict ≡ true → t < 64 → u < 64 → offering d c t ≡ true → answers tb s t (opposite d) c u ≡ true → ⊥
+  unanswered : (d : Direction) (c t u : ℕ) → noneConflict ≡ true → t < maxThreads → u < maxThreads → offering d c t ≡ true
+      → answers tb s t (opposite d) c u ≡ true → ⊥
   unfolding answers opposite
   unanswered Out c t u e h j o a =
       conflicts c e (record { one = t; other = u; one-below = h; other-below = j; differ = λ q. eqb-false u t (not-true _ (and-left _ _ a)) (sym q); one-passes = o; other-passes = and-right (not (eqb u t)) _ a })
@@ -251,7 +249,7 @@ module _ (tb : Table) (s : State) where
         (λ n. rw n)
 
     -- nor with a partner
-    rightly-unmet : (d : Direction) (c u : ℕ) → waitsRightly tb s t ≡ true → offering d c t ≡ true → u < 64 → answers tb s t (opposite d) c u ≡ true → ⊥
+    rightly-unmet : (d : Direction) (c u : ℕ) → waitsRightly tb s t ≡ true → offering d c t ≡ true → u < maxThreads → answers tb s t (opposite d) c u ≡ true → ⊥
     unfolding waitsRightly offers
     rightly-unmet d c u e o h a =
         let o₁ : (isWaiting (thread s t) && some (offersAt tb (thread s t) d c) (branchCount tb node)) ≡ true = and-right (ltb c maxChannels) _ o in
@@ -261,20 +259,22 @@ module _ (tb : Table) (s : State) where
         contra (met-ahead tb s t i d c u y h a) (not-true _ (every-elim (λ i. not (ahead tb s t i)) (branchCount tb node) i (and-right (eqb (kindOf tb node) 1) _ f) l))
 
     -- a thread that could not go ahead alone, in a state without conflicts, waits rightly
-    open-offer : (d : Direction) (c i : ℕ) → c < 128 → i < branchCount tb node → isWaiting (thread s t) ≡ true → offersAt tb (thread s t) d c i ≡ true → offering d c t ≡ true
+    open-offer : (d : Direction) (c i : ℕ) → c < maxChannels → i < branchCount tb node → isWaiting (thread s t) ≡ true
+        → offersAt tb (thread s t) d c i ≡ true → offering d c t ≡ true
     unfolding offers
     open-offer d c i b l w y = rw (lt-ltb c 128 b, w) (some-intro (offersAt tb (thread s t) d c) (branchCount tb node) i l y)
 
-    answers-channel : (d : Direction) (c u : ℕ) → answers tb s t d c u ≡ true → c < 128
+    answers-channel : (d : Direction) (c u : ℕ) → answers tb s t d c u ≡ true → c < maxChannels
     unfolding answers
     answers-channel d c u a = offers-channel d c u (and-right (not (eqb u t)) _ a)
 
-    still-met : (i : ℕ) → t < 64 → noneConflict ≡ true → i < branchCount tb node → isWaiting (thread s t) ≡ true → branchHeld tb s t i ≡ true → ahead tb s t i ≡ true → ⊥
+    still-met : (i : ℕ) → t < maxThreads → noneConflict ≡ true → i < branchCount tb node → isWaiting (thread s t) ≡ true → branchHeld tb s t i ≡ true
+        → ahead tb s t i ≡ true → ⊥
     still-met i h k l w b a =
         let (d, c, u, y, j, x) = ahead-met tb s t i a b in
         unanswered d c t u k h j (open-offer d c i (answers-channel (opposite d) c u x) l w y) x
 
-    alone-rightly : t < 64 → waitsAlone tb s t ≡ true → noneConflict ≡ true → waitsRightly tb s t ≡ true
+    alone-rightly : t < maxThreads → waitsAlone tb s t ≡ true → noneConflict ≡ true → waitsRightly tb s t ≡ true
     unfolding waitsRightly waitsAlone
     alone-rightly h e k = caseB (isWaiting (thread s t))
         (λ w. let f : (eqb (kindOf tb node) 1 && every (branchHeld tb s t) (branchCount tb node)) ≡ true = rw w at e in
@@ -286,14 +286,14 @@ module _ (tb : Table) (s : State) where
         (λ n. rw n)
 
   -- where all wait rightly, no channel has a sender and a receiver that are two threads
-  rightly-apart : (c : ℕ) → every (waitsRightly tb s) maxThreads ≡ true → apart (who tb s Out 64 c) (who tb s In 64 c) ≡ true
+  rightly-apart : (c : ℕ) → every (waitsRightly tb s) maxThreads ≡ true → apart (who tb s Out maxThreads c) (who tb s In maxThreads c) ≡ true
   unfolding opposite
   rightly-apart c e = caseB (apart (who tb s Out 64 c) (who tb s In 64 c))
       (λ y. y)
       (λ n. absurd (in-conflict
       (not-apart (offering Out c) (offering In c) 64 (omega arith) (who tb s Out 64 c) (who tb s In 64 c) (who-means Out c) (who-means In c) n)))
     where
-      in-conflict : Conflict (offering Out c) (offering In c) 64 → ⊥
+      in-conflict : Conflict (offering Out c) (offering In c) maxThreads → ⊥
       in-conflict k = rightly-unmet (k .other) In c (k .one) (every-elim (waitsRightly tb s) maxThreads (k .other) e (k .other-below)) (k .other-passes) (k .one-below)
           (other-answers tb s (k .other) (opposite In) c (k .one) (k .differ) (k .one-passes))
 

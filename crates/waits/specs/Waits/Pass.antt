@@ -71,19 +71,19 @@ module _ (tb : Table) (s : State) (d : Direction) (t : ℕ) where
       (caseB (some (offersAt tb (thread s t) d c) i) (λ y. rw y (sym (noted-again (who tb s d t c) t))) (λ n. rw n))
 
   module _ (i : ℕ) (l : List ℕ) (e : l ≡ tabulate maxChannels (whoTo tb s d t i)) where
-    long : length l ≡ 128
+    long : length l ≡ maxChannels
     long = ap length e ∙ length-tabulate 128 (whoTo tb s d t i)
 
-    entry : (c : ℕ) → c < 128 → getD l c 0 ≡ whoTo tb s d t i c
+    entry : (c : ℕ) → c < maxChannels → getD l c 0 ≡ whoTo tb s d t i c
     entry c h = ap (λ m. getD m c 0) e ∙ getD-tabulate 128 c (whoTo tb s d t i) 0 h
 
-    length-noted : length (branchNoted tb s d t i l) ≡ 128
+    length-noted : length (branchNoted tb s d t i l) ≡ maxChannels
     unfolding branchNoted offerNoted
     length-noted = caseB (isOpen i)
         (λ y. rw y (length-set l (channelAt i) (noted (getD l (channelAt i) 0) t) ∙ long))
         (λ n. rw n long)
 
-    entry-noted : (c : ℕ) → c < 128 → getD (branchNoted tb s d t i l) c 0 ≡ whoTo tb s d t (suc i) c
+    entry-noted : (c : ℕ) → c < maxChannels → getD (branchNoted tb s d t i l) c 0 ≡ whoTo tb s d t (suc i) c
     unfolding branchNoted offerNoted
     entry-noted c h = caseB (isOpen i)
         (λ y. rw y (caseB (eqb (channelAt i) c)
@@ -101,7 +101,8 @@ module _ (tb : Table) (s : State) (d : Direction) (t : ℕ) where
   unfolding whoTo
   no-branch-noted = tabulate-cong 128 (who tb s d t) (whoTo tb s d t 0) (λ c h. rw (some-zero (offersAt tb (thread s t) d c)))
 
-  pub branches-noted : isWaiting (thread s t) ≡ true → tabulate maxChannels (whoTo tb s d t (branchCount tb (standsAt (thread s t)))) ≡ tabulate maxChannels (who tb s d (suc t))
+  pub branches-noted : isWaiting (thread s t) ≡ true
+      → tabulate maxChannels (whoTo tb s d t (branchCount tb (standsAt (thread s t)))) ≡ tabulate maxChannels (who tb s d (suc t))
   unfolding whoTo who noteOf offers
   branches-noted w = tabulate-cong 128 (whoTo tb s d t (branchCount tb (standsAt (thread s t)))) (who tb s d (suc t)) (λ c h. rw (lt-ltb c 128 h, w))
 

@@ -13,7 +13,7 @@ use Rattle.numbers.specs.Search.Laws.{caseB, some-cong, some-zero, some-suc, is
 use Rattle.table.specs.Table.{Table, slotRow, slotCount}
 use Rattle.table.specs.Layout.{start, definitionOf, slotType}
 use Rattle.table.specs.declared.Part.the-variants.{Slots}
-use Rattle.state.specs.State.{standsAt, slotOf, inUse}
+use Rattle.state.specs.State.{standsAt, slotOf, maxChannels, rowSlots}
 use Rattle.rules.specs.Program.{channelSlot}
 use Rattle.rules.specs.Holding.{hasAt}
 use Rattle.holding.specs.Own.{ownOf, ownList, ownRoom, holdsTo}
@@ -21,19 +21,19 @@ use Rattle.holding.specs.Own.Laws.{room-used, room-le, own-past, holds-n
 use Rattle.holding.specs.Own.Listing.{listed, ownBy, listedTo}
 
 -- the same tests in another order: v is what a slot has, p what the list says of it, and b whether a slot before has it
-same-tests : (v : ℕ) (number p b : Bool) → (v < 128 → p ≡ b)
-    → cond (ltb v 128) (cond number 128 (cond p 128 v)) 128 ≡ cond (not number) (cond (ltb v 128) (cond b 128 v) 128) 128
+same-tests : (v : ℕ) (number p b : Bool) → (v < maxChannels → p ≡ b)
+    → cond (ltb v maxChannels) (cond number maxChannels (cond p maxChannels v)) maxChannels ≡ cond (not number) (cond (ltb v maxChannels) (cond b maxChannels v) maxChannels) maxChannels
 same-tests v true p b e = caseB (ltb v 128) (λ y. rw y) (λ z. rw z)
 same-tests v false p b e = caseB (ltb v 128) (λ y. rw (y, e (ltb-true v 128 y))) (λ z. rw z)
 
-full-at : (n k : ℕ) → k < n → _≡_ {A = ℕ} (getD (replicate n 128) k 0) 128
+full-at : (n k : ℕ) → k < n → _≡_ {A = ℕ} (getD (replicate n maxChannels) k 0) maxChannels
 full-at zero k h = absurd (omega arith)
 full-at (suc n) zero h = refl
 full-at (suc n) (suc k) h = full-at n k (omega arith)
 
 module _ (tb : Table) (row : List ℕ) where
   -- the channels met by the first k slots are those that these slots hold
-  met-holds : (c k : ℕ) → c < 128 → some (λ i. eqb (ownOf tb row i) c) k ≡ holdsTo tb row c k
+  met-holds : (c k : ℕ) → c < maxChannels → some (λ i. eqb (ownOf tb row i) c) k ≡ holdsTo tb row c k
   met-holds c zero h = some-zero (λ i. eqb (ownOf tb row i) c) ∙ sym (holds-none tb row c h)
   met-holds c (suc k) h = rw (some-suc (λ i. eqb (ownOf tb row i) c) k, own-suc tb row c h k, met-holds c k h)
 
@@ -71,7 +71,7 @@ module _ (tb : Table) (row : List ℕ) where
         getD-set-other (listedTo tb from row l k) k i (ownBy tb from row (listedTo tb from row l k) k) 0 (λ q. omega arith) ∙ untouched l k i (omega arith)
 
     -- past the row's slots the list has no channel, and need not be written
-    pub listed-own : listedTo tb from row (replicate 16 128) (ownRoom tb row) ≡ ownList tb row
+    pub listed-own : listedTo tb from row (replicate rowSlots maxChannels) (ownRoom tb row) ≡ ownList tb row
     unfolding ownList
     listed-own =
         let none : List ℕ = replicate 16 128 in
