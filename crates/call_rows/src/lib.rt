@@ -1,16 +1,14 @@
 // The row of a thread that makes a call: the slots with which it enters the definition, and whether the thread holds what it held.
 ghost use mathlib.Core.Path.{_≡_};
-ghost use mathlib.Core.Bool.{_&&_};
 ghost use Prim.Native.Nat.{_<_, _≤_};
 ghost use lib.ListN.{replicate};
 ghost use Rattle.numbers.specs.Search.{every, tabulate};
 ghost use Rattle.table.specs.Table.{tableOf};
 ghost use Rattle.table.specs.Index.{Indexed};
-ghost use Rattle.state.specs.State.{maxThreads, stateOf, thread, standsAt, rowSlots};
-ghost use Rattle.rules.specs.Program.{callee};
+ghost use Rattle.state.specs.State.{maxThreads, stateOf, thread, rowSlots};
 ghost use Rattle.rules.specs.Moves.{written};
 ghost use Rattle.rules.specs.declared.Move.the-variants.{Calls};
-ghost use Rattle.call_rows.specs.CalledRow.{lastSlot, callBy, keptAt, keptBy, callAt, slotKept, callSlots, callKeeps};
+ghost use Rattle.call_rows.specs.CalledRow.{lastSlot, callBy, keptAt, keptBy, callSlots, callKeeps};
 use table::Part;
 use table::field;
 
@@ -79,16 +77,6 @@ fn slot_keeps(
     true
 }
 
-// Whether a and b both hold.
-fn both(a: bool, b: bool) -> bool
-    ensures { λ r. ⌜ r ≡ (a && b) ⌝ }
-{
-    if a {
-        return b;
-    }
-    false
-}
-
 // All slots with which the call in a row enters a definition with p parameters among n slots are laid down. Answers whether every channel slot gets what it
 // has.
 fn lay_call(
@@ -113,39 +101,9 @@ fn lay_call(
     for k in 0..last {
         let v = call_slot(table, index, row, from, p, n, state, t, k);
         numbers::put_cell(slots, k as usize, v);
-        kept = both(kept, slot_keeps(table, index, from, n, state, t, k, v));
+        kept = kept & slot_keeps(table, index, from, n, state, t, k, v);
     }
     kept
-}
-
-// All slots with which the call at thread t's node enters definition d are laid down. Answers whether every channel slot gets what it has.
-fn call_slots(
-    table: &[u8],
-    index: &[u32],
-    state: &[u32; state::WORDS],
-    t: u32,
-    d: u32,
-    slots: &mut [u32; thread_rows::SLOTS],
-) -> bool
-    requires { ⌜ Indexed (tableOf (now table)) (now index) ⌝ }
-    requires { ⌜ now slots ≡ replicate rowSlots 0 ⌝ }
-    ensures { λ _. ⌜ now (slots .exit) ≡ tabulate rowSlots (callAt (tableOf (now (table .entry))) (thread (stateOf (now (state .entry))) t) d) ⌝ }
-    ensures { λ r. ⌜ r ≡ every (slotKept (tableOf (now (table .entry))) (thread (stateOf (now (state .entry))) t) d) rowSlots ⌝ }
-{
-    let row = table::node_row_of(table, index) + thread_rows::stands_at(state, t) as usize;
-    let from = program::types_from(table, index, d);
-    let p = table::parameter_count_of(table, index, d);
-    let n = table::slot_count_of(table, index, d);
-    lay_call(table, index, row, from, p, n, state, t, slots)
-}
-
-// The definition that the call at thread t's node calls.
-fn called_by(table: &[u8], index: &[u32], state: &[u32; state::WORDS], t: u32) -> u32
-    requires { ⌜ Indexed (tableOf (now table)) (now index) ⌝ }
-    ensures { λ r. ⌜ r ≡ callee (tableOf (now (table .entry))) (standsAt (thread (stateOf (now (state .entry))) t)) ⌝ }
-{
-    let row = table::node_row_of(table, index) + thread_rows::stands_at(state, t) as usize;
-    table::cell_of(table, index, row, field::CALLEE)
 }
 
 // All slots with which thread t makes the call at its node are laid down, before any is written. Answers whether the call is to the thread's own definition and
@@ -162,9 +120,14 @@ pub fn prepare_call(
     ensures { λ _. ⌜ now (slots .exit) ≡ callSlots (tableOf (now (table .entry))) (thread (stateOf (now (state .entry))) t) ⌝ }
     ensures { λ r. ⌜ r ≡ callKeeps (tableOf (now (table .entry))) (thread (stateOf (now (state .entry))) t) ⌝ }
 {
-    let d = called_by(table, index, state, t);
-    let kept = call_slots(table, index, state, t, d, slots);
-    if program::definition_of(table, index, thread_rows::stands_at(state, t)) == d {
+    let node = thread_rows::stands_at(state, t);
+    let row = table::node_row_of(table, index) + node as usize;
+    let d = table::cell_of(table, index, row, field::CALLEE);
+    let from = program::types_from(table, index, d);
+    let p = table::parameter_count_of(table, index, d);
+    let n = table::slot_count_of(table, index, d);
+    let kept = lay_call(table, index, row, from, p, n, state, t, slots);
+    if program::definition_of(table, index, node) == d {
         let entry = table::start_of(table, index, Part::Nodes, d);
         if program::definition_of(table, index, entry) == d {
             return kept;
@@ -186,7 +149,8 @@ pub fn enter_call(
     requires { ⌜ now slots ≡ callSlots (tableOf (now table)) (thread (stateOf (now state)) t) ⌝ }
     ensures { λ _. ⌜ stateOf (now (state .exit)) ≡ written (tableOf (now (table .entry))) (stateOf (now (state .entry))) t Calls ⌝ }
 {
-    let d = called_by(table, index, state, t);
+    let row = table::node_row_of(table, index) + thread_rows::stands_at(state, t) as usize;
+    let d = table::cell_of(table, index, row, field::CALLEE);
     let node = table::start_of(table, index, Part::Nodes, d);
     thread_rows::put_row(state, t, 1, node, slots);
 }

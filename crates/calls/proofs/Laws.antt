@@ -33,7 +33,6 @@ use Rattle.rules.specs.declared.Turn.{Turn}
 use Rattle.rules.specs.declared.Turn.the-variants.{Went}
 use Rattle.rules.specs.declared.Ran.{Ran}
 use Rattle.rules.specs.declared.Ran.the-variants as Ran
-use Rattle.turns.specs.Made.{made}
 use Rattle.rules_laws.specs.Soundness.{Sound}
 use Rattle.rules_laws.specs.Soundness.Laws.{sound-settled}
 use Rattle.turns.specs.Made.Laws.{turn-ends}
@@ -42,16 +41,16 @@ use Rattle.calls.specs.Course.{after, turnAt, courseBy, course-by, cours
 -- ---- ground 11
 
 module _ (s : State) (t : ℕ) where
-  pub step-inside : (v : ℕ) → v ≡ at (s .threads) t 0 → t < 64 → eqb v 1 ≡ canStep s t
+  pub step-inside : (v : ℕ) → v ≡ at (s .threads) t 0 → t < maxThreads → eqb v 1 ≡ canStep s t
   unfolding canStep
   step-inside v e h = rw (lt-ltb t 64 h, e)
 
-  pub step-outside : 64 ≤ t → false ≡ canStep s t
+  pub step-outside : maxThreads ≤ t → false ≡ canStep s t
   unfolding canStep
   step-outside h = rw (le-ltb t 64 h)
 
   module _ (r : Bool) (e : r ≡ canStep s t) (f : r ≡ true) where
-    pub step-low : t < 64
+    pub step-low : t < maxThreads
     unfolding canStep
     step-low = ltb-true t 64 (and-left (ltb t maxThreads) (isReady (thread s t)) (sym e ∙ f))
 
@@ -65,16 +64,17 @@ settled-mark : (tb : Table) (s : State) (v : ℕ) → settled tb (withMark s 2 v
 unfolding settled withMark withChannels
 settled-mark tb s v = refl
 
-module _ (tb : Table) (s : State) (t : ℕ) where
-  by-one : t < 64 → courseBy tb 1 s t .state ≡ pastTurn (made tb s t (move tb s t)) t
+module _ (tb : Table) (s : State) where
+  by-one : settled tb s ≡ s → (t : ℕ) → t < maxThreads → courseBy tb 1 s t .state ≡ pastTurn (perform tb s t (move tb s t)) t
   unfolding courseBy turnAt pastTurn
-  by-one l =
-      let e = turn-ends tb s t (move tb s t) (made tb s t (move tb s t)) (withMark (made tb s t (move tb s t)) 2 (oneUp maxThreads t)) (turnBy t (move tb s t)) (oneUp maxThreads t) refl refl refl refl refl in
-      rw (lt-ltb t 64 l, ← e) (last-turn tb (turnBy t (move tb s t)) (withMark (made tb s t (move tb s t)) 2 (oneUp maxThreads t)))
+  by-one whole t l =
+      let e = turn-ends tb s whole t (move tb s t) (perform tb s t (move tb s t)) (withMark (perform tb s t (move tb s t)) 2 (oneUp maxThreads t)) (turnBy t (move tb s t)) (oneUp maxThreads t) refl refl refl refl refl in
+      rw (lt-ltb t 64 l, ← e) (last-turn tb (turnBy t (move tb s t)) (withMark (perform tb s t (move tb s t)) 2 (oneUp maxThreads t)))
 
+module _ (tb : Table) (s : State) (t : ℕ) where
   -- a move leaves the turn as it is
-  turn-stays : (m : Move) → getD (made tb s t m .marks) 2 0 ≡ getD (s .marks) 2 0
-  unfolding made perform written spawnedBy typed settled withChannels withChannel withThread withMark
+  turn-stays : (m : Move) → getD (perform tb s t m .marks) 2 0 ≡ getD (s .marks) 2 0
+  unfolding perform written spawnedBy typed settled withChannels withChannel withThread withMark
   turn-stays Ends = refl
   turn-stays Calls = refl
   turn-stays Waits = refl
@@ -85,46 +85,50 @@ module _ (tb : Table) (s : State) (t : ℕ) where
   turn-stays LacksThread = refl
   turn-stays LacksChannel = refl
 
-  put-back : (m : Move) → withMark (pastTurn (made tb s t m) t) 2 (getD (s .marks) 2 0) ≡ made tb s t m
+  put-back : (m : Move) → withMark (pastTurn (perform tb s t m) t) 2 (getD (s .marks) 2 0) ≡ perform tb s t m
   unfolding pastTurn withMark
   put-back m =
-      ap (λ (y : List ℕ). withMarks (made tb s t m) y)
-      (set-set (made tb s t m .marks) 2 (oneUp maxThreads t) (getD (s .marks) 2 0) ∙ rw (← turn-stays m) (set-getD (made tb s t m .marks) 2 0))
+      ap (λ (y : List ℕ). withMarks (perform tb s t m) y)
+      (set-set (perform tb s t m .marks) 2 (oneUp maxThreads t) (getD (s .marks) 2 0) ∙ rw (← turn-stays m) (set-getD (perform tb s t m .marks) 2 0))
 
 -- ---- step: s before and s₁ after
 
-module _ (s s₁ : State) where
-  step-made : (tb : Table) (t n : ℕ) (m : Move) → s₁ ≡ made tb s t m → afterwards (stepAnswer n m) s₁ ≡ stepEnd (stepAnswer n m) s (perform tb s t m)
-  unfolding stepAnswer stepEnd made
-  step-made tb t n Ends e = ap (afterwards _) e
-  step-made tb t n Calls e = ap (afterwards _) e
-  step-made tb t n Waits e = ap (afterwards _) e
-  step-made tb t n (Goes i) e = ap (afterwards _) e
-  step-made tb t n (Creates i c) e = ap (afterwards _) e
-  step-made tb t n (Spawns i u) e = ap (afterwards _) e
-  step-made tb t n (Meets i u j) e = ap (afterwards _) e
-  step-made tb t n LacksThread e = ap (afterwards _) e
-  step-made tb t n LacksChannel e = ap (afterwards _) e
+module _ (s s₁ : State) (tb : Table) (ok : Sound tb s) (t : ℕ) where
+  whole : settled tb s ≡ s
+  whole = sound-settled tb s ok
 
-  step-answered : (tb : Table) (t n : ℕ) (m : Move) (r : Stepped) (x : Bool) → s₁ ≡ made tb s t (move tb s t)
+  step-made : (n : ℕ) (m : Move) → s₁ ≡ perform tb s t m → afterwards (stepAnswer n m) s₁ ≡ stepEnd (stepAnswer n m) s (perform tb s t m)
+  unfolding stepAnswer stepEnd perform written
+  step-made n Ends e = ap (afterwards _) e
+  step-made n Calls e = ap (afterwards _) e
+  step-made n Waits e = ap (afterwards _) e
+  step-made n (Goes i) e = ap (afterwards _) e
+  step-made n (Creates i c) e = ap (afterwards _) e
+  step-made n (Spawns i u) e = ap (afterwards _) e
+  step-made n (Meets i u j) e = ap (afterwards _) e
+  step-made n LacksThread e = ap (afterwards _) (e ∙ whole)
+  step-made n LacksChannel e = ap (afterwards _) (e ∙ whole)
+
+  step-answered : (n : ℕ) (m : Move) (r : Stepped) (x : Bool) → s₁ ≡ perform tb s t (move tb s t)
       → r ≡ stepAnswer n m → m ≡ move tb s t → n ≡ at (s .threads) t 1 → x ≡ canStep s t → x ≡ true → afterwards r s₁ ≡ stepOn tb s t
   unfolding stepOn
-  step-answered tb t n m r x e p q i j k = rw (← j, k, p, q, i) (step-made tb t (standsAt (thread s t)) (move tb s t) e)
+  step-answered n m r x e p q i j k = rw (← j, k, p, q, i) (step-made (standsAt (thread s t)) (move tb s t) e)
 
-  -- the turn is put back
-  module _ (tb : Table) (t : ℕ) where
-    -- s₂ after the turn, s₃ with the turn put back, s₁ with all counts settled
-    turned-back : (i v : ℕ) (r : Reason) (s₂ s₃ : State) → course i r (settled tb s₂) ≡ courseBy tb 1 s t → t < 64 → s₁ ≡ settled tb s₃ → s₃ ≡ withMark s₂ 2 v → v ≡ getD (s .marks) 2 0
-        → s₁ ≡ made tb s t (move tb s t)
-    turned-back i v r s₂ s₃ e l f k g =
-        let q : settled tb s₂ ≡ pastTurn (made tb s t (move tb s t)) t = ap (λ (k : Course). k .state) e ∙ by-one tb s t l in
-        f ∙ rw (k, settled-mark tb s₂ v, q, g) (put-back tb s t (move tb s t))
+  -- The turn is put back: s₂ is the state after the turn, s₃ that with the turn put back, s₁ that with all counts settled.
+  turned-back : (i v : ℕ) (r : Reason) (s₂ s₃ : State) → course i r (settled tb s₂) ≡ courseBy tb 1 s t → t < maxThreads → s₁ ≡ settled tb s₃
+      → s₃ ≡ withMark s₂ 2 v → v ≡ getD (s .marks) 2 0
+      → s₁ ≡ perform tb s t (move tb s t)
+  turned-back i v r s₂ s₃ e l f k g =
+      let q : settled tb s₂ ≡ pastTurn (perform tb s t (move tb s t)) t = ap (λ (k : Course). k .state) e ∙ by-one tb s whole t l in
+      f ∙ rw (k, settled-mark tb s₂ v, q, g) (put-back tb s t (move tb s t))
 
-    pub step-done : (i v n : ℕ) (r : Reason) (s₂ s₃ : State) (m : Move) (a : Stepped) (x : Bool) → course i r (settled tb s₂) ≡ courseBy tb 1 s t → s₁ ≡ settled tb s₃ → s₃ ≡ withMark s₂ 2 v
-        → v ≡ getD (s .marks) 2 0 → (t < 64 → _≡_ {A = ℕ} 1 1 → m ≡ move tb s t) → a ≡ stepAnswer n m → n ≡ at (s .threads) t 1 → x ≡ canStep s t → x ≡ true → afterwards a s₁ ≡ stepOn tb s t
-    step-done i v n r s₂ s₃ m a x e f w g o p q j k =
-        let l : t < 64 = step-low s t x j k in
-        step-answered tb t n m a x (turned-back i v r s₂ s₃ e l f w g) p (o l refl) q j k
+  pub step-done : (i v n : ℕ) (r : Reason) (s₂ s₃ : State) (m : Move) (a : Stepped) (x : Bool) → course i r (settled tb s₂) ≡ courseBy tb 1 s t
+      → s₁ ≡ settled tb s₃
+      → s₃ ≡ withMark s₂ 2 v → v ≡ getD (s .marks) 2 0 → (t < maxThreads → _≡_ {A = ℕ} 1 1 → m ≡ move tb s t) → a ≡ stepAnswer n m → n ≡ at (s .threads) t 1
+      → x ≡ canStep s t → x ≡ true → afterwards a s₁ ≡ stepOn tb s t
+  step-done i v n r s₂ s₃ m a x e f w g o p q j k =
+      let l : t < 64 = step-low s t x j k in
+      step-answered n m a x (turned-back i v r s₂ s₃ e l f w g) p (o l refl) q j k
 
 pub step-refused : (tb : Table) (s : State) (t : ℕ) (x : Bool) → x ≡ canStep s t → x ≡ false → afterwards (Stepped.Refused Thread) s ≡ stepOn tb s t
 unfolding stepOn
@@ -155,7 +159,8 @@ module _ (tb : Table) (s : State) (p n : ℕ) (e : n ≡ at tb 0 6) where
       unfolding giveOn givenTo
       give-met v i f = rw (lt-ltb p (at tb 0 6) (omega arith), ← f, g) (ap (afterwards _) i)
 
-      pub take-met : (v : ℕ) → s₁ ≡ metByBench tb s u j 0 → v ≡ valueBy tb (thread s u) j → x ≡ partnerOf tb s bench Out p → afterwards (Taken.Met u v) s₁ ≡ takeOn tb s p
+      pub take-met : (v : ℕ) → s₁ ≡ metByBench tb s u j 0 → v ≡ valueBy tb (thread s u) j → x ≡ partnerOf tb s bench Out p
+          → afterwards (Taken.Met u v) s₁ ≡ takeOn tb s p
       unfolding takeOn takenFrom
       take-met v i q f = rw (lt-ltb p (at tb 0 6) (omega arith), ← f, g, q) (ap (afterwards _) i)
 
@@ -176,14 +181,14 @@ module _ (tb : Table) (s₀ : State) (t₀ : ℕ) where
     followed-more s₁ t₁ = (λ z. absurd (omega arith), λ z. first-is (omega arith))
 
     -- what it comes to where only one turn was asked for
-    pub stopped-last : (n : ℕ) → i < n → t₀ < 64 → n ≡ 1 → m₁ ≡ move tb s₀ t₀
+    pub stopped-last : (n : ℕ) → i < n → t₀ < maxThreads → n ≡ 1 → m₁ ≡ move tb s₀ t₀
     stopped-last n h l o = first-is (omega arith)
 
   module _ (i : ℕ) (s : State) (t : ℕ) (m : Move) (f : Followed i s t m) (n : ℕ) where
-    pub nobody-last : i < n → 64 ≤ t → t₀ < 64 → n ≡ 1 → m ≡ move tb s₀ t₀
+    pub nobody-last : i < n → maxThreads ≤ t → t₀ < maxThreads → n ≡ 1 → m ≡ move tb s₀ t₀
     nobody-last h j l o = let (p, q) = f .0 (omega arith) in absurd (omega arith)
 
-    pub all-last : i ≤ n → n ≤ i → t₀ < 64 → n ≡ 1 → m ≡ move tb s₀ t₀
+    pub all-last : i ≤ n → n ≤ i → t₀ < maxThreads → n ≡ 1 → m ≡ move tb s₀ t₀
     all-last h j l o = f .1 (omega arith)
 
 -- a sound state is settled
@@ -192,15 +197,17 @@ module _ (tb : Table) (s : State) (ok : Sound tb s) where
   course-begins n t = rw (sound-settled tb s ok) (course-none tb n s t)
 
 -- the next turn, in a state whose counts of waiting holders are still to be settled
-pub course-goes-on : (tb : Table) (n : ℕ) (s : State) (t i : ℕ) (s₁ s₂ : State) (u v : ℕ) (w : Turn) → courseBy tb n s t ≡ after i (courseBy tb (n - i) (settled tb s₁) u) → i < n
-    → turned w (settled tb s₂) ≡ turnEnd tb (settled tb s₁) u (turnBy u (move tb (settled tb s₁) u)) → u < 64 → w ≡ Went → v ≡ nextReady s₂
+pub course-goes-on : (tb : Table) (n : ℕ) (s : State) (t i : ℕ) (s₁ s₂ : State) (u v : ℕ) (w : Turn)
+    → courseBy tb n s t ≡ after i (courseBy tb (n - i) (settled tb s₁) u) → i < n
+    → turned w (settled tb s₂) ≡ turnEnd tb (settled tb s₁) u (turnBy u (move tb (settled tb s₁) u)) → u < maxThreads → w ≡ Went → v ≡ nextReady s₂
     → courseBy tb n s t ≡ after (i + 1) (courseBy tb (n - (i + 1)) (settled tb s₂) v)
 unfolding nextReady isReadyThread settled withChannels
 course-goes-on tb n s t i s₁ s₂ u v w f h e l g j = course-more tb n s t i (settled tb s₁) u f h w (settled tb s₂) e l v g j
 
 -- ---- run
 
-pub run-done : (tb : Table) (s s₁ s₂ : State) (n i t : ℕ) (r : Reason) → course i r (settled tb s₁) ≡ courseBy tb n s t → s₂ ≡ settled tb s₁ → t ≡ nextReady s → afterwards (Ran.Done i r) s₂ ≡ runOn tb s n
+pub run-done : (tb : Table) (s s₁ s₂ : State) (n i t : ℕ) (r : Reason) → course i r (settled tb s₁) ≡ courseBy tb n s t → s₂ ≡ settled tb s₁ → t ≡ nextReady s
+    → afterwards (Ran.Done i r) s₂ ≡ runOn tb s n
 unfolding runOn
 run-done tb s s₁ s₂ n i t r e g f =
     let k : courseOf tb n s ≡ course i r s₂ = sym (rw g (e ∙ rw f (course-by tb n s))) in

@@ -1,7 +1,7 @@
 -- A run seen from a step in its midst. Assumes nothing.
 use Prim.Native.Nat.{ℕ, zero, suc, _+_, _-_, _<_, _≤_}
 use native.Mathlib.Omega.{arith}
-use mathlib.Core.Path.{_≡_, refl, sym, _∙_, ap}
+use mathlib.Core.Path.{_≡_, refl, sym, _∙_}
 use mathlib.Core.Bool.{cond}
 use lib.Dec.{ltb}
 use borrow.Author.Tests.{lt-ltb, le-ltb}
@@ -52,14 +52,14 @@ module _ (tb : Table) (n : ℕ) (s : State) (t : ℕ) where
         rw (q, e)
 
     -- nobody is ready
-    pub course-nobody : 64 ≤ u → course i NoneReady s₁ ≡ courseBy tb n s t
+    pub course-nobody : maxThreads ≤ u → course i NoneReady s₁ ≡ courseBy tb n s t
     unfolding after onward turnAt
     course-nobody l =
         let k : courseBy tb (n - i) s₁ u ≡ course 0 NoneReady s₁ = step-on (turned (Stopped NoneReady) s₁) (rw (le-ltb u 64 l)) in
         let x : i + 0 ≡ i = omega arith in
         sym (f ∙ rw (k, x))
 
-    module _ (w : Turn) (s₂ : State) (e : turned w s₂ ≡ turnEnd tb s₁ u (turnBy u (move tb s₁ u))) (l : u < 64) where
+    module _ (w : Turn) (s₂ : State) (e : turned w s₂ ≡ turnEnd tb s₁ u (turnBy u (move tb s₁ u))) (l : u < maxThreads) where
       here : turned w s₂ ≡ turnAt tb s₁ u
       unfolding turnAt
       here = rw (lt-ltb u 64 l) e
@@ -81,7 +81,8 @@ module _ (tb : Table) (n : ℕ) (s : State) (t : ℕ) where
           sym (f ∙ rw (k, x))
 
   -- all steps made
-  pub course-all : (i : ℕ) (s₁ : State) (u : ℕ) → courseBy tb n s t ≡ after i (courseBy tb (n - i) s₁ u) → i ≤ n → n ≤ i → course n AllDone s₁ ≡ courseBy tb n s t
+  pub course-all : (i : ℕ) (s₁ : State) (u : ℕ) → courseBy tb n s t ≡ after i (courseBy tb (n - i) s₁ u) → i ≤ n → n ≤ i
+      → course n AllDone s₁ ≡ courseBy tb n s t
   unfolding after courseBy
   course-all i s₁ u f h l =
       let e : i ≡ n = omega arith in

@@ -108,7 +108,8 @@ module _ (table b : List ℕ) (a : Admission) (e : a ≡ startAdmission table b)
   unfolding startCall
   start-refused g f = sym (by-refused Started.Refused b (startOn (tableOf table)) (startAdmission table b) g (sym e ∙ f))
 
-  pub start-done : (b₁ w : List ℕ) → b₁ ≡ stateBytes (stateOf w) → stateOf w ≡ started (tableOf table) → a ≡ Admitted → outcome Started.Done b₁ ≡ startCall table b
+  pub start-done : (b₁ w : List ℕ) → b₁ ≡ stateBytes (stateOf w) → stateOf w ≡ started (tableOf table) → a ≡ Admitted
+      → outcome Started.Done b₁ ≡ startCall table b
   unfolding startCall startOn
   start-done b₁ w h k f = rw (h, k) (sym (by-admitted Started.Refused b (startOn (tableOf table)) (startAdmission table b) (sym e ∙ f)))
 
@@ -155,7 +156,8 @@ module _ (table b : List ℕ) (a : Admission) (e : a ≡ admission table b) wher
           kept (onBuffers refused table b (call (view b))) x b y (call-unchanged refused table b (call (view b)) (bytes-fit b fit) x h y)
 
     module _ (t : ℕ) (r : Stepped) (k : afterwards r (stateOf w₁) ≡ stepOn (tableOf table) (stateOf w) t) where
-      pub step-done : (n : ℕ) (d : Deed) (b₁ : List ℕ) → r ≡ Stepped.Done n d → b₁ ≡ stateBytes (stateOf w₁) → outcome (Stepped.Done n d) b₁ ≡ stepCall table b t
+      pub step-done : (n : ℕ) (d : Deed) (b₁ : List ℕ) → r ≡ Stepped.Done n d → b₁ ≡ stateBytes (stateOf w₁)
+          → outcome (Stepped.Done n d) b₁ ≡ stepCall table b t
       unfolding stepCall
       step-done n d b₁ g h = rw (← g) (written Stepped.Refused (λ s. stepOn (tableOf table) s t) r k b₁ h)
 
@@ -193,6 +195,7 @@ module _ (table b : List ℕ) (a : Admission) (e : a ≡ admission table b) wher
       take-nobody g fit =
           unwritten Taken.Refused (λ s. takeOn (tableOf table) s p) r k fit Taken.Nobody g (λ e. take-unchanged (tableOf table) (view b) p (λ u v i. clash cc))
 
-    pub run-done : (r : Ran) (n : ℕ) (b₁ : List ℕ) → afterwards r (stateOf w₁) ≡ runOn (tableOf table) (stateOf w) n → b₁ ≡ stateBytes (stateOf w₁) → outcome r b₁ ≡ runCall table b n
+    pub run-done : (r : Ran) (n : ℕ) (b₁ : List ℕ) → afterwards r (stateOf w₁) ≡ runOn (tableOf table) (stateOf w) n → b₁ ≡ stateBytes (stateOf w₁)
+        → outcome r b₁ ≡ runCall table b n
     unfolding runCall
     run-done r n b₁ k h = written Ran.Refused (λ s. runOn (tableOf table) s n) r k b₁ h

@@ -5,7 +5,7 @@ ghost use Prim.Native.Nat.{_<_};
 ghost use Rattle.table.specs.Table.{tableOf};
 ghost use Rattle.table.specs.Index.{Indexed};
 ghost use Rattle.state.specs.State.{maxThreads, stateOf, thread};
-ghost use Rattle.rules.specs.Moves.{met, metBy, valueBy, sideOf, written};
+ghost use Rattle.rules.specs.Moves.{metBy, valueBy, sideOf, written};
 ghost use Rattle.rules.specs.declared.Move.the-variants.{Meets};
 ghost use Rattle.thread_rows.specs.WrittenRows.{rewritten};
 ghost use Rattle.meetings.specs.Sides.{Facing, passed};
@@ -35,19 +35,7 @@ pub fn value_by(table: &[u8], index: &[u32], state: &[u32; state::WORDS], t: u32
     program::slot(state, t, table::cell_of(table, index, row, field::B))
 }
 
-// Thread t goes on at a node after a meeting: a receiver has v in its slot.
-fn go_on(state: &mut [u32; state::WORDS], t: u32, d: Direction, node: u32, slot: u32, v: u32)
-    requires { ⌜ t < maxThreads ⌝ }
-    ensures { λ _. ⌜ stateOf (now (state .exit)) ≡ rewritten (stateOf (now (state .entry))) t (λ row. met d row node slot v) ⌝ }
-{
-    thread_rows::resume(state, t, node);
-    match d {
-        Direction::Out => {}
-        Direction::In => thread_rows::store(state, t, slot, v),
-    }
-}
-
-// Thread t goes on after a meeting by its branch i with somebody who gives v.
+// Thread t goes on after a meeting by its branch i with somebody who gives v: a receiver has v in its slot.
 pub fn write_met(
     table: &[u8],
     index: &[u32],
@@ -64,8 +52,12 @@ pub fn write_met(
     let row = program::branch_at(table, index, node, i);
     let next = program::next_of(table, index, node, row);
     let slot = table::cell_of(table, index, row, field::B);
-    let act = program::act_of(table, index, row);
-    go_on(state, t, side_of(act), next, slot, v);
+    let side = side_of(program::act_of(table, index, row));
+    thread_rows::resume(state, t, next);
+    match side {
+        Direction::Out => {}
+        Direction::In => thread_rows::store(state, t, slot, v),
+    }
 }
 
 // Threads t and u go on after the meeting of their branches i and j, each with what the other one gives.
@@ -111,7 +103,8 @@ fn write_passed(
     let next = program::next_of(table, index, thread_rows::stands_at(state, t), send);
     let after = program::next_of(table, index, thread_rows::stands_at(state, u), receive);
     thread_rows::resume(state, t, next);
-    go_on(state, u, Direction::In, after, slot, v);
+    thread_rows::resume(state, u, after);
+    thread_rows::store(state, u, slot, v);
 }
 
 // Threads t and u go on after the meeting of their branches i and j, by who of the two sends: fewer words are read and written than by `write_meeting`.

@@ -15,7 +15,7 @@ use Rattle.numbers.specs.Search.Laws.{some-zero, some-still, some-intro}
 use Rattle.table.specs.Fields as Field
 use Rattle.table.specs.Table.{Table}
 use Rattle.table.specs.Layout.{branchCount}
-use Rattle.state.specs.State.{State, stateOf, thread, status, standsAt, slotOf, isWaiting, withThread}
+use Rattle.state.specs.State.{maxChannels, maxThreads, rowSlots, State, stateOf, thread, status, standsAt, slotOf, isWaiting, withThread}
 use Rattle.state.specs.State.Laws.{length-threads}
 use Rattle.rules.specs.Program.{branchAt}
 use Rattle.rules.specs.Holding.{settled}
@@ -33,35 +33,32 @@ use Rattle.upkeep.specs.Upkeep.{one-settled, settled-again}
 use Rattle.threads.specs.Threads.{offersMarked, withHeld}
 use Rattle.threads.specs.Threads.Laws.{this-way}
 use Rattle.threads.specs.Looking.{raisedTo, isMarked, reachesBy, reachesAt}
-use Rattle.threads.specs.Looking.Laws.{raised-held, reaches-is, offers-nothing}
+use Rattle.threads.specs.Looking.Laws.{raised-length, raised-held, reaches-is, offers-nothing}
 
--- is_marked
-module _ (k : List Bool) (c : ℕ) where
-  pub marked-in : (r : Bool) → r ≡ getD k c false → c < 128 → r ≡ isMarked k c
-  unfolding isMarked
-  marked-in r e h = rw (lt-ltb c 128 h) e
+-- reaches_by: c is what the branch names, in slot x
+module _ (tb : Table) (row : List ℕ) (k : List Bool) (r x c : ℕ) (e : c ≡ slotOf row x) (f : x ≡ at tb r Field.a) where
+  pub reach-outside : maxChannels ≤ c → false ≡ reachesBy tb row k r
+  unfolding reachesBy isMarked
+  reach-outside h = rw (← f, ← e, le-ltb c 128 h)
 
-  pub marked-out : 128 ≤ c → false ≡ isMarked k c
-  unfolding isMarked
-  marked-out h = rw (le-ltb c 128 h)
+  module _ (l : c < maxChannels) where
+    pub reach-unmarked : not (getD k c false) ≡ true → false ≡ reachesBy tb row k r
+    unfolding reachesBy isMarked
+    reach-unmarked h = rw (← f, ← e, lt-ltb c 128 l, not-true (getD k c false) h)
 
--- reaches_by: c is the channel that the branch names, in slot x, and m whether it is marked
-module _ (tb : Table) (row : List ℕ) (k : List Bool) (r x c : ℕ) (e : c ≡ slotOf row x) (f : x ≡ at tb r Field.a) (m : Bool) (g : m ≡ isMarked k c) where
-  pub reach-unmarked : not m ≡ true → false ≡ reachesBy tb row k r
-  unfolding reachesBy
-  reach-unmarked h = rw (← f, ← e, ← g, not-true m h)
+    module _ (h : not (getD k c false) ≡ false) (v : Offer) (i : v ≡ offerOn tb row c r) where
+      pub reach-offers : (d : Direction) → v ≡ Of d → true ≡ reachesBy tb row k r
+      unfolding reachesBy isMarked
+      reach-offers d j =
+          rw (← f, ← e, lt-ltb c 128 l, not-false (getD k c false) h)
+          (sym (this-way (λ o. offersIn tb row o c r) d (offer-of tb row c r v i d d j ∙ same-self d)))
 
-  module _ (h : not m ≡ false) (v : Offer) (i : v ≡ offerOn tb row c r) where
-    pub reach-offers : (d : Direction) → v ≡ Of d → true ≡ reachesBy tb row k r
-    unfolding reachesBy
-    reach-offers d j =
-        rw (← f, ← e, ← g, not-false m h) (sym (this-way (λ o. offersIn tb row o c r) d (offer-of tb row c r v i d d j ∙ same-self d)))
+      pub reach-nothing : v ≡ Nothing → false ≡ reachesBy tb row k r
+      unfolding reachesBy isMarked
+      reach-nothing j =
+          rw (← f, ← e, lt-ltb c 128 l, not-false (getD k c false) h, offer-nothing tb row c r v i j Out, offer-nothing tb row c r v i j In)
 
-    pub reach-nothing : v ≡ Nothing → false ≡ reachesBy tb row k r
-    unfolding reachesBy
-    reach-nothing j = rw (← f, ← e, ← g, not-false m h, offer-nothing tb row c r v i j Out, offer-nothing tb row c r v i j In)
-
-pub ruleset reaching = (reach-unmarked, reach-offers, reach-nothing)
+pub ruleset reaching = (reach-outside, reach-unmarked, reach-offers, reach-nothing)
 
 -- offers_marked: y is the status of the thread
 module _ (tb : Table) (row : List ℕ) (k : List Bool) (y : ℕ) (s : y ≡ status row) where
@@ -72,7 +69,8 @@ module _ (tb : Table) (row : List ℕ) (k : List Bool) (y : ℕ) (s : y ≡ stat
     waits : isWaiting row ≡ true
     waits = eq-eqb (status row) 2 (sym s ∙ w)
 
-    pub offers-here : (node n i x : ℕ) (r : Bool) → x ≡ branchAt tb node i → r ≡ reachesBy tb row k x → node ≡ standsAt row → n ≡ branchCount tb node → r ≡ true → i < n
+    pub offers-here : (node n i x : ℕ) (r : Bool) → x ≡ branchAt tb node i → r ≡ reachesBy tb row k x → node ≡ standsAt row → n ≡ branchCount tb node
+        → r ≡ true → i < n
         → true ≡ offersMarked tb row k
     unfolding reachesAt
     offers-here node n i x r f g e h j l =
@@ -80,7 +78,8 @@ module _ (tb : Table) (row : List ℕ) (k : List Bool) (y : ℕ) (s : y ≡ stat
         let z : reachesBy tb row k (branchAt tb (standsAt row) i) ≡ true = rw (← e, ← f, ← g) j in
         sym (sym (reaches-is tb row k waits) ∙ some-intro (λ i. reachesBy tb row k (branchAt tb (standsAt row) i)) (branchCount tb (standsAt row)) i b z)
 
-    pub offers-none : (node n i : ℕ) → some (reachesAt tb row k) i ≡ false → n ≡ branchCount tb node → node ≡ standsAt row → i ≤ n → n ≤ i → false ≡ offersMarked tb row k
+    pub offers-none : (node n i : ℕ) → some (reachesAt tb row k) i ≡ false → n ≡ branchCount tb node → node ≡ standsAt row → i ≤ n → n ≤ i
+        → false ≡ offersMarked tb row k
     offers-none node n i h e f a b = let q : i ≡ n = omega arith in rw (← reaches-is tb row k waits, ← f, ← e, ← q) (sym h)
 
 module _ (tb : Table) (row : List ℕ) (k : List Bool) where
@@ -95,11 +94,7 @@ module _ (tb : Table) (row : List ℕ) (k : List Bool) where
     pub none-more : some (reachesAt tb row k) i ≡ false → r ≡ false → some (reachesAt tb row k) (i + 1) ≡ false
     none-more h j = rw (add-one i) (some-still (reachesAt tb row k) i h (not-here j))
 
--- mark_channel
-pub no-mark : (m : List Bool) (c : ℕ) → length m ≡ 128 → 128 ≤ c → m ≡ set m c true
-no-mark m c e h = sym (set-out m c true (omega arith))
-
--- set_marks
+-- mark_held
 module _ (m : List Bool) (l : List ℕ) where
   pub raised-none : m ≡ raisedTo m l 0
   unfolding raisedTo
@@ -109,16 +104,19 @@ module _ (m : List Bool) (l : List ℕ) where
   unfolding raisedTo
   raised-more m₁ m₂ i f e = rw (f, e, add-one i)
 
-  pub raised-past : (m₁ : List Bool) (i : ℕ) → m₁ ≡ raisedTo m l i → i ≤ 16 → 16 ≤ i → m₁ ≡ raisedTo m l 16
-  raised-past m₁ i e h j = let q : i ≡ 16 = omega arith in rw q at e
+  -- what is no channel marks nothing
+  pub raised-same : (m₁ m₂ : List Bool) (i : ℕ) → m₂ ≡ m₁ → m₁ ≡ raisedTo m l i → length m ≡ maxChannels → maxChannels ≤ getD l i 0 → m₂ ≡ raisedTo m l (i + 1)
+  unfolding raisedTo
+  raised-same m₁ m₂ i f e n h = rw (f, e, add-one i) (sym (set-out (raisedTo m l i) (getD l i 0) true (omega (arith, raised-length m l i))))
 
--- mark_held
-pub held-marked : (tb : Table) (row : List ℕ) (k k₁ : List Bool) (l : List ℕ) → k₁ ≡ raisedTo k l 16 → l ≡ ownList tb row → length k ≡ 128 → k₁ ≡ withHeld tb row k
-held-marked tb row k k₁ l e f h = e ∙ rw f (raised-held tb row k h)
+pub held-marked : (tb : Table) (row : List ℕ) (k k₁ : List Bool) (l : List ℕ) (i : ℕ) → k₁ ≡ raisedTo k l i → l ≡ ownList tb row → length k ≡ maxChannels
+    → i ≤ rowSlots → rowSlots ≤ i
+    → k₁ ≡ withHeld tb row k
+held-marked tb row k k₁ l i e f h a b = let q : i ≡ 16 = omega arith in e ∙ rw (q, f) (raised-held tb row k h)
 
 -- release
 module _ (tb : Table) (b : List ℕ) (t : ℕ) (s₁ s₂ : State) (l : List ℕ) (w : ℕ) (e : s₂ ≡ settledOne tb s₁ t l w) (f : s₁ ≡ withThread (stateOf b) t freeRow)
-    (g : l ≡ ownList tb (thread (stateOf b) t)) (h : w ≡ bit (isWaiting (thread (stateOf b) t))) (i : settled tb (stateOf b) ≡ stateOf b) (j : t < 64) where
+    (g : l ≡ ownList tb (thread (stateOf b) t)) (h : w ≡ bit (isWaiting (thread (stateOf b) t))) (i : settled tb (stateOf b) ≡ stateOf b) (j : t < maxThreads) where
   pub released : s₂ ≡ settled tb (withThread (stateOf b) t freeRow)
   released = e ∙ rw (f, g, h) (one-settled tb (stateOf b) (length-threads b) i t j freeRow)
 

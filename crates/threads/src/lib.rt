@@ -3,14 +3,13 @@
 ghost use mathlib.Core.Path.{_≡_};
 ghost use mathlib.Core.Bool.{true};
 ghost use Prim.Native.Nat.{_<_};
-ghost use lib.ListN.{set};
 ghost use Rattle.table.specs.Table.{tableOf, ports};
 ghost use Rattle.table.specs.Index.{Indexed};
-ghost use Rattle.state.specs.State.{maxThreads, rowSlots, stateOf, thread, status, withThread};
+ghost use Rattle.state.specs.State.{maxThreads, stateOf, thread, status, withThread};
 ghost use Rattle.rules.specs.Holding.{settled};
 ghost use Rattle.rules.specs.Start.{freeRow};
 ghost use Rattle.threads.specs.Threads.{offersMarked, withHeld};
-ghost use Rattle.threads.specs.Looking.{raisedTo, isMarked, reachesBy};
+ghost use Rattle.threads.specs.Looking.{reachesBy};
 use offers::Offer;
 use table::field;
 
@@ -29,16 +28,6 @@ pub fn status_of(words: &[u32; state::WORDS], t: u32) -> u32
     state::thread_word(words, t as usize, state::STATUS)
 }
 
-// Whether c is a channel, and marked.
-fn is_marked(marks: &[bool; state::CHANNELS as usize], c: u32) -> bool
-    ensures { λ r. ⌜ r ≡ isMarked (now (marks .entry)) c ⌝ }
-{
-    if c < state::CHANNELS {
-        return marks[c as usize];
-    }
-    false
-}
-
 // Whether the branch in a row, of thread t, offers on the channel that it names, and that channel is marked.
 fn reaches_by(
     table: &[u8],
@@ -52,7 +41,10 @@ fn reaches_by(
     ensures { λ r. ⌜ r ≡ reachesBy (tableOf (now (table .entry))) (thread (stateOf (now (words .entry))) t) (now (marks .entry)) row ⌝ }
 {
     let c = program::slot(words, t, table::cell_of(table, index, row, field::A));
-    if !is_marked(marks, c) {
+    if state::CHANNELS <= c {
+        return false;
+    }
+    if !marks[c as usize] {
         return false;
     }
     match offers::offer_on(table, index, row, words, t, c) {
@@ -86,26 +78,6 @@ pub fn offers_marked(
     false
 }
 
-// Channel c is marked; 128, which is no channel, marks nothing.
-fn mark_channel(marks: &mut [bool; state::CHANNELS as usize], c: u8)
-    ensures { λ _. ⌜ now (marks .exit) ≡ set (now (marks .entry)) c true ⌝ }
-{
-    // as a slice the marks tell their number
-    let all: &[bool] = marks;
-    if c < state::NO_CHANNEL {
-        marks[c as usize] = true;
-    }
-}
-
-// The channels of a list are marked.
-fn set_marks(marks: &mut [bool; state::CHANNELS as usize], list: &[u8; holding::LIST])
-    ensures { λ _. ⌜ now (marks .exit) ≡ raisedTo (now (marks .entry)) (now (list .entry)) rowSlots ⌝ }
-{
-    for i in 0..holding::LIST {
-        mark_channel(marks, list[i]);
-    }
-}
-
 // The channels that thread t holds are marked too.
 pub fn mark_held(
     table: &[u8],
@@ -117,11 +89,17 @@ pub fn mark_held(
     requires { ⌜ Indexed (tableOf (now table)) (now index) ⌝ }
     ensures { λ _. ⌜ now (marks .exit) ≡ withHeld (tableOf (now (table .entry))) (thread (stateOf (now (words .entry))) t) (now (marks .entry)) ⌝ }
 {
-    // as a slice the marks tell their number
+    // As a slice the marks tell their number.
     let all: &[bool] = marks;
     let mut list = [0u8; holding::LIST];
     holding::own_channels(table, index, words, t, &mut list);
-    set_marks(marks, &list);
+    for i in 0..holding::LIST {
+        // An entry that is no channel marks nothing.
+        let c = list[i];
+        if c < state::NO_CHANNEL {
+            marks[c as usize] = true;
+        }
+    }
 }
 
 // The row of thread t is freed, and the channel rows are settled again.

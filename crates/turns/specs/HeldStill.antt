@@ -11,7 +11,7 @@ use Rattle.numbers.specs.Search.Laws.{caseB, contra, every-elim, some-cong, get
 use Rattle.table.specs.Table.{Table, parameters, slotCount}
 use Rattle.table.specs.Layout.{start, definitionOf, slotType}
 use Rattle.table.specs.declared.Part.the-variants.{Nodes}
-use Rattle.state.specs.State.{status, standsAt, slotOf, inUse}
+use Rattle.state.specs.State.{rowSlots, status, standsAt, slotOf, inUse}
 use Rattle.rules.specs.Program.{channelSlot, blank, callee, argument}
 use Rattle.rules.specs.Holding.{hasAt, holds}
 use Rattle.rules.specs.Start.{entered}
@@ -30,7 +30,8 @@ number-slot tb d k e = rw e (caseB (ltb k (slotCount tb d)) (λ y. rw y) (λ z. 
 
 module _ (tb : Table) (row new : List ℕ) where
   alike : inUse new ≡ true → inUse row ≡ true → definitionOf tb (standsAt new) ≡ definitionOf tb (standsAt row)
-      → ((k : ℕ) → k < 16 → channelSlot tb (definitionOf tb (standsAt row)) k ≡ true → slotOf new k ≡ slotOf row k) → (c : ℕ) → holds tb new c ≡ holds tb row c
+      → ((k : ℕ) → k < rowSlots → channelSlot tb (definitionOf tb (standsAt row)) k ≡ true → slotOf new k ≡ slotOf row k) → (c : ℕ)
+      → holds tb new c ≡ holds tb row c
   unfolding holds hasAt
   alike u v d f c =
       rw (u, v, some-cong (hasAt tb new c) (hasAt tb row c) 16 (λ k h. caseB (channelSlot tb (definitionOf tb (standsAt row)) k) (λ y. rw (d, y, f k h y)) (λ z. rw (d, z))))
@@ -65,7 +66,8 @@ module _ (tb : Table) (row : List ℕ) (u : inUse row ≡ true) where
   met-holds n k v e z In = stored-holds n k v e z
 
   -- a call of its own definition, by which every channel slot gets what it has
-  pub call-holds : callKeeps tb row ≡ true → (c : ℕ) → holds tb (entered tb (callee tb (standsAt row)) (λ k. slotOf row (argument tb (standsAt row) k))) c ≡ holds tb row c
+  pub call-holds : callKeeps tb row ≡ true → (c : ℕ)
+      → holds tb (entered tb (callee tb (standsAt row)) (λ k. slotOf row (argument tb (standsAt row) k))) c ≡ holds tb row c
   unfolding callKeeps slotKept callAt entered
   call-holds e =
       let d = callee tb (standsAt row) in

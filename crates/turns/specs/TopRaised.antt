@@ -20,7 +20,7 @@ use Rattle.rules.specs.declared.Move.{Move}
 use Rattle.rules.specs.declared.Move.the-variants.{Ends, Calls, Waits, Goes, Creates, Spawns, Meets, LacksThread, LacksChannel}
 use Rattle.next_rows.specs.UsedBelow.{UsedBelow, top-le, ready-below, waiting-below}
 use Rattle.rules_laws.specs.Decided.{meets-waiting, spawns-free}
-use Rattle.turns.specs.Made.{ChildIn, made}
+use Rattle.turns.specs.Made.{ChildIn}
 
 -- the number after a move
 unfoldable pub raisedBy : ℕ → Move → ℕ
@@ -76,8 +76,8 @@ module _ (tb : Table) (s : State) (t top : ℕ) (used : UsedBelow s top) (r : is
       (λ y. rw y (two u top row row′ (ltb-true u top y) (omega arith) (used .0)))
       (λ y. rw y (two u (suc u) row row′ (omega arith) (omega (arith, ltb-false u top y)) (omega arith)))
 
-  made-used : (m : Move) → move tb s t ≡ m → UsedBelow (made tb s t m) (raisedBy top m)
-  unfolding made perform written spawnedBy raisedBy
+  made-used : (m : Move) → move tb s t ≡ m → UsedBelow (perform tb s t m) (raisedBy top m)
+  unfolding perform written spawnedBy raisedBy
   made-used Ends e = used-settled _ top (one _) tb
   made-used Calls e = used-settled _ top (one _) tb
   made-used Waits e = used-settled _ top (one _) tb
@@ -86,11 +86,12 @@ module _ (tb : Table) (s : State) (t top : ℕ) (used : UsedBelow s top) (r : is
   made-used (Spawns i u) e = used-settled _ _ (used-mark _ _ (child u _ _ (spawns-free tb s t i u e .0)) 0 _) tb
   made-used (Meets i u j) e =
       used-settled _ top (two u top _ _ (waiting-below s top used u (meets-waiting tb s t i u j e)) (omega arith) (top-le s top used)) tb
-  made-used LacksThread e = used
-  made-used LacksChannel e = used
+  made-used LacksThread e = used-settled s top used tb
+  made-used LacksChannel e = used-settled s top used tb
 
   -- after the turn: s₁ after the move, s₂ with the turn moved on
-  pub turn-used : (m : Move) (s₁ s₂ : State) (v k : ℕ) → s₂ ≡ withMark s₁ 2 v → s₁ ≡ made tb s t (move tb s t) → m ≡ move tb s t → k ≡ raisedBy top m → UsedBelow s₂ k
+  pub turn-used : (m : Move) (s₁ s₂ : State) (v k : ℕ) → s₂ ≡ withMark s₁ 2 v → s₁ ≡ perform tb s t (move tb s t) → m ≡ move tb s t → k ≡ raisedBy top m
+      → UsedBelow s₂ k
   turn-used m s₁ s₂ v k f g h i = rw (f, i, h, g) (used-mark _ _ (made-used (move tb s t) refl) 2 v)
 
 -- ---- arms

@@ -9,7 +9,7 @@ ghost use Rattle.table.specs.Index.{Indexed};
 ghost use Rattle.state.specs.State.{maxThreads, maxChannels, stateOf, thread, isReady};
 ghost use Rattle.rules.specs.Holding.{settled};
 ghost use Rattle.rules.specs.Moves.{move, metByBench};
-ghost use Rattle.rules.specs.Calls.{stepAnswer, reasonFor, turnBy};
+ghost use Rattle.rules.specs.Calls.{stepAnswer, turnBy};
 ghost use Rattle.rules.specs.declared.Move.the-variants.{Ends, Calls, Creates, Spawns, Meets};
 ghost use Rattle.rules_laws.specs.Granted.{Granted};
 ghost use Rattle.rules_laws.specs.Soundness.{Sound};
@@ -18,7 +18,7 @@ ghost use Rattle.turns.specs.Running.{Running, MoveMade, TurnTaken};
 ghost use Rattle.next_rows.specs.UsedBelow.{UsedBelow};
 ghost use Rattle.turns.specs.Made.{ChildIn};
 ghost use Rattle.turns.specs.TopRaised.{raisedBy};
-ghost use Rattle.turns.specs.Keeping.{CanMeet, numberBy, AtPort};
+ghost use Rattle.turns.specs.Keeping.{CanMeet, AtPort};
 use rules::Deed;
 use rules::Move;
 use rules::Reason;
@@ -116,17 +116,6 @@ fn make_child(table: &[u8], index: &[u32], state: &mut [u32; state::WORDS], t: u
     );
 }
 
-// Whether thread t's branch i, a meeting, gives or receives a number.
-fn passes_number(table: &[u8], index: &[u32], state: &[u32; state::WORDS], t: u32, i: u32) -> bool
-    requires { ⌜ Indexed (tableOf (now table)) (now index) ⌝ }
-    ensures { λ r. ⌜ r ≡ numberBy (tableOf (now (table .entry))) (thread (stateOf (now (state .entry))) t) i ⌝ }
-{
-    let node = thread_rows::stands_at(state, t);
-    let row = program::branch_at(table, index, node, i);
-    let value = table::cell_of(table, index, row, field::B);
-    program::type_at(table, index, node, value) == 0
-}
-
 // Threads t and u meet by their branches i and j. Where a number is given, both hold what they held, and no count of holders changes.
 fn make_meeting(
     table: &[u8],
@@ -142,7 +131,10 @@ fn make_meeting(
     requires { ⌜ CanMeet (tableOf (now table)) (stateOf (now state)) t i u j ⌝ }
     ensures { λ _. ⌜ MoveMade (tableOf (now (table .entry))) (stateOf (now (state .entry))) t (Meets i u j) (stateOf (now (state .exit))) ⌝ }
 {
-    if passes_number(table, index, state, t, i) {
+    let node = thread_rows::stands_at(state, t);
+    let row = program::branch_at(table, index, node, i);
+    let value = table::cell_of(table, index, row, field::B);
+    if program::type_at(table, index, node, value) == 0 {
         meetings::write_directed(table, index, state, t, i, u, j);
         return;
     }
@@ -222,28 +214,20 @@ pub fn step_answer(node: u32, m: Move) -> Stepped
     }
 }
 
-// Why a run ends where the step of thread t is refused: a row is lacking, or there was no thread to step.
-fn reason_for(t: u32, ground: Refusal) -> Reason
-    ensures { λ r. ⌜ r ≡ reasonFor t ground ⌝ }
-{
-    match ground {
-        Refusal::Length => Reason::NoneReady,
-        Refusal::Table => Reason::NoneReady,
-        Refusal::State => Reason::NoneReady,
-        Refusal::Thread => Reason::NoneReady,
-        Refusal::Port => Reason::NoneReady,
-        Refusal::ThreadRow => Reason::LackedThread(t),
-        Refusal::ChannelRow => Reason::LackedChannel(t),
-    }
-}
-
-// What a move of thread t comes to in a run, by the answer that its step would get; the node does not matter.
+// What a move of thread t comes to in a run: the thread went, or the run ends since a row is lacking.
 fn turn_by(t: u32, m: Move) -> Turn
     ensures { λ r. ⌜ r ≡ turnBy t m ⌝ }
 {
-    match step_answer(0, m) {
-        Stepped::Done(_, _) => Turn::Went,
-        Stepped::Refused(ground) => Turn::Stopped(reason_for(t, ground)),
+    match m {
+        Move::Ends => Turn::Went,
+        Move::Calls => Turn::Went,
+        Move::Waits => Turn::Went,
+        Move::Goes(_) => Turn::Went,
+        Move::Creates(_, _) => Turn::Went,
+        Move::Spawns(_, _) => Turn::Went,
+        Move::Meets(_, _, _) => Turn::Went,
+        Move::LacksThread => Turn::Stopped(Reason::LackedThread(t)),
+        Move::LacksChannel => Turn::Stopped(Reason::LackedChannel(t)),
     }
 }
 

@@ -1,6 +1,6 @@
 -- `call_rows::lay_call` meets its contract. The loop: the first k slots are laid, and `kept` says whether they get what they have. Assumes nothing.
 use Prim.Native.Nat.{_≤_, _-_}
-use mathlib.Core.Path.{_≡_}
+use mathlib.Core.Path.{_≡_, refl}
 use borrow.Author.Needs.{needs}
 use Rattle.numbers.specs.Laid.{laid}
 use Rattle.numbers.specs.Search.{every}
@@ -32,12 +32,11 @@ lay-call-spec =
     (λ c. search needs)
     (λ c κs. search needs)
     (λ c κs. search needs)
-    (λ c κs. search needs)
     (λ c. search needs)
     (λ c. search needs)
     (λ c. (
       search needs,
-      calls-more _ _ _ _ _ _ (c .before .before .before .before .before .before .loop .slots) _ _ (c .before .before .before .before .before .before .before .last-slot .result) (c .before .before .before .before .call-slot .result) (c .before .before .put-cell .ensures) (search) (search) (search needs) (search),
-      kept-more _ _ _ _ _ _ _ (c .before .before .before .before .call-slot .result) _ (c .before .before .before .before .before .before .loop .kept) (c .before .slot-keeps .result) (c .both .ensures) (search) (c .before .slot-keeps .ensures) (c .before .before .before .before .call-slot .ensures),
+      calls-more _ _ _ _ _ _ (c .before .before .before .before .before .loop .slots) _ _ (c .before .before .before .before .before .before .last-slot .result) (c .before .before .before .call-slot .result) (c .before .put-cell .ensures) (search) (search) (search needs) (search),
+      kept-more _ _ _ _ _ _ _ (c .before .before .before .call-slot .result) _ (c .before .before .before .before .before .loop .kept) (c .slot-keeps .result) refl (search) (c .slot-keeps .ensures) (c .before .before .before .call-slot .ensures),
     ))
     (λ c. (search calls-laid, search kept-all)))

@@ -28,24 +28,24 @@ use Rattle.call_rows.specs.CalledRow.{lastSlot, callBy, keptAt, keptBy, 
 -- ---- from the last slot on all are 0
 
 module _ (p n : ℕ) where
-  pub last-own : p ≤ n → n < 16 → n ≡ lastSlot p n
+  pub last-own : p ≤ n → n < rowSlots → n ≡ lastSlot p n
   unfolding lastSlot
   last-own h i = rw (le-leb p n h, lt-ltb n 16 i)
 
-  pub last-many : p ≤ n → 16 ≤ n → 16 ≡ lastSlot p n
+  pub last-many : p ≤ n → rowSlots ≤ n → rowSlots ≡ lastSlot p n
   unfolding lastSlot
   last-many h i = rw (le-leb p n h, le-ltb n 16 i)
 
-  pub last-odd : n < p → 16 ≡ lastSlot p n
+  pub last-odd : n < p → rowSlots ≡ lastSlot p n
   unfolding lastSlot
   last-odd h = rw (lt-leb p n h)
 
-  pub last-le : lastSlot p n ≤ 16
+  pub last-le : lastSlot p n ≤ rowSlots
   unfolding lastSlot
   last-le = caseB (leb p n) (λ y. rw y (caseB (ltb n 16) (λ i. rw i (omega (arith, ltb-true n 16 i))) (λ j. rw j (omega arith)))) (λ z. rw z (omega arith))
 
   -- past it and below 16 a slot is past the parameters and past the slots
-  past-last : (k : ℕ) → lastSlot p n ≤ k → k < 16 → (p ≤ k) × (n ≤ k)
+  past-last : (k : ℕ) → lastSlot p n ≤ k → k < rowSlots → (p ≤ k) × (n ≤ k)
   unfolding lastSlot
   past-last k h i =
       caseB (leb p n)
@@ -97,12 +97,14 @@ module _ (tb : Table) (r from p n : ℕ) (row : List ℕ) where
   call-spare k h i = sym (call-past k h i)
 
   -- one slot more is laid
-  pub calls-more : (l l′ : List ℕ) (k m v : ℕ) → l′ ≡ set l k v → v ≡ callBy tb r from p n row k → l ≡ laid (callBy tb r from p n row) k rowSlots → k < m → m ≡ lastSlot p n
+  pub calls-more : (l l′ : List ℕ) (k m v : ℕ) → l′ ≡ set l k v → v ≡ callBy tb r from p n row k → l ≡ laid (callBy tb r from p n row) k rowSlots → k < m
+      → m ≡ lastSlot p n
       → l′ ≡ laid (callBy tb r from p n row) (k + 1) rowSlots
   calls-more l l′ k m v e g h i j = slots-more (callBy tb r from p n row) l l′ k v e g h (omega (arith, j, last-le p n))
 
   -- all slots are laid once the last is
-  pub calls-laid : (l : List ℕ) (k m : ℕ) → l ≡ laid (callBy tb r from p n row) k rowSlots → m ≡ lastSlot p n → m ≤ k → k ≤ m → l ≡ tabulate rowSlots (callBy tb r from p n row)
+  pub calls-laid : (l : List ℕ) (k m : ℕ) → l ≡ laid (callBy tb r from p n row) k rowSlots → m ≡ lastSlot p n → m ≤ k → k ≤ m
+      → l ≡ tabulate rowSlots (callBy tb r from p n row)
   calls-laid l k m e f h i =
       let q : k ≡ lastSlot p n = omega (arith, f) in
       e ∙ laid-skip (callBy tb r from p n row) 16 k 16 (rw q (last-le p n)) (omega arith)
@@ -118,7 +120,7 @@ module _ (tb : Table) (row : List ℕ) (d a m from p n : ℕ) (ea : a ≡ nodeRo
       let place : slotRow tb + start tb Slots d + k ≡ slotRow tb + (start tb Slots d + k) = omega arith in
       rw (ea, em, ef, ep, en, place, same-blank (ltb k (slotCount tb d)) (eqb (slotType tb d k) 0))
 
-  pub calls-looked : (l : List ℕ) → l ≡ tabulate rowSlots (callBy tb (a + m) from p n row) → l ≡ tabulate rowSlots (callAt tb row d)
+  calls-looked : (l : List ℕ) → l ≡ tabulate rowSlots (callBy tb (a + m) from p n row) → l ≡ tabulate rowSlots (callAt tb row d)
   calls-looked l e = e ∙ tabulate-cong 16 (callBy tb (a + m) from p n row) (callAt tb row d) (λ k h. call-at k)
 
   -- ---- a call after which the row holds what it held
@@ -130,37 +132,46 @@ module _ (tb : Table) (row : List ℕ) (d a m from p n : ℕ) (ea : a ≡ nodeRo
       rw (call-at k, ef, en, place)
       (same-kept (ltb k (slotCount tb d)) (eqb (slotType tb d k) 0) (eqb (callAt tb row d k) (slotOf row k)))
 
-  pub kept-looked : (r : Bool) → r ≡ every (keptBy tb (a + m) from p n row) rowSlots → r ≡ every (slotKept tb row d) rowSlots
+  kept-looked : (r : Bool) → r ≡ every (keptBy tb (a + m) from p n row) rowSlots → r ≡ every (slotKept tb row d) rowSlots
   kept-looked r e = e ∙ every-cong (keptBy tb (a + m) from p n row) (slotKept tb row d) 16 (λ k b. kept-at k)
 
-pub callee-read : (tb : Table) (r a m n : ℕ) → r ≡ at tb (a + m) Field.callee → a ≡ nodeRow tb → m ≡ n → r ≡ callee tb n
-callee-read tb r a m n e f g = e ∙ rw (f, g)
+-- ---- the code's ways out: the call of a thread that stands at node m is in row a + m of the table, and calls definition d
 
--- the code's ways out: d is the callee, x and y the definitions of the node, m, and of the callee's first node, z
-module _ (tb : Table) (row : List ℕ) (d m x : ℕ) (f : d ≡ callee tb (standsAt row)) (em : m ≡ standsAt row) (g : x ≡ definitionOf tb m) where
-  pub keeps-not : (x ≡ d → ⊥) → false ≡ callKeeps tb row
-  unfolding callKeeps
-  keeps-not h = rw (← f, ← em, ← g, ne-eqb x d h)
+module _ (tb : Table) (row : List ℕ) (a m d : ℕ) (ea : a ≡ nodeRow tb) (em : m ≡ standsAt row) (ed : d ≡ at tb (a + m) Field.callee) where
+  called : d ≡ callee tb (standsAt row)
+  called = ed ∙ rw (ea, em)
 
-  module _ (y z : ℕ) (i : y ≡ definitionOf tb z) (j : z ≡ start tb Nodes d) (h : x ≡ d) where
-    pub keeps-odd : (y ≡ d → ⊥) → false ≡ callKeeps tb row
+  pub call-laid : (from p n : ℕ) (l : List ℕ) → l ≡ tabulate rowSlots (callBy tb (a + m) from p n row) → from ≡ slotRow tb + start tb Slots d
+      → p ≡ parameters tb d
+      → n ≡ slotCount tb d → l ≡ callSlots tb row
+  unfolding callSlots
+  call-laid from p n l e ef ep en = calls-looked tb row d a m from p n ea em ef ep en l e ∙ rw called
+
+  -- x and y are the definitions of the node and of the callee's first node, z
+  module _ (x : ℕ) (g : x ≡ definitionOf tb m) where
+    pub keeps-not : (x ≡ d → ⊥) → false ≡ callKeeps tb row
     unfolding callKeeps
-    keeps-odd l = rw (← f, ← em, ← g, h, eq-eqb d d refl, ← j, ← i, ne-eqb y d l)
+    keeps-not h = rw (← called, ← em, ← g, ne-eqb x d h)
 
-    pub keeps-own : (r : Bool) → r ≡ every (slotKept tb row d) rowSlots → y ≡ d → r ≡ callKeeps tb row
-    unfolding callKeeps
-    keeps-own r e l = rw (← f, ← em, ← g, h, eq-eqb d d refl, ← j, ← i, l, eq-eqb d d refl) e
+    module _ (y z : ℕ) (i : y ≡ definitionOf tb z) (j : z ≡ start tb Nodes d) (h : x ≡ d) where
+      pub keeps-odd : (y ≡ d → ⊥) → false ≡ callKeeps tb row
+      unfolding callKeeps
+      keeps-odd l = rw (← called, ← em, ← g, h, eq-eqb d d refl, ← j, ← i, ne-eqb y d l)
+
+      pub keeps-own : (from p n : ℕ) (r : Bool) → r ≡ every (keptBy tb (a + m) from p n row) rowSlots → from ≡ slotRow tb + start tb Slots d
+          → p ≡ parameters tb d
+          → n ≡ slotCount tb d → y ≡ d → r ≡ callKeeps tb row
+      unfolding callKeeps
+      keeps-own from p n r e ef ep en l =
+          rw (← called, ← em, ← g, h, eq-eqb d d refl, ← j, ← i, l, eq-eqb d d refl) (kept-looked tb row d a m from p n ea em ef ep en r e)
 
 pub ruleset keeps-ways = (keeps-own, keeps-not, keeps-odd)
 
-pub call-laid : (tb : Table) (row l : List ℕ) (d : ℕ) → l ≡ tabulate rowSlots (callAt tb row d) → d ≡ callee tb (standsAt row) → l ≡ callSlots tb row
-unfolding callSlots
-call-laid tb row l d e f = e ∙ rw f
-
-pub call-entered : (tb : Table) (s s₁ : State) (l : List ℕ) (t d n : ℕ) → s₁ ≡ withThread s t (1 ∷ n ∷ l) → n ≡ start tb Nodes d → d ≡ callee tb (standsAt (thread s t))
-    → l ≡ callSlots tb (thread s t) → s₁ ≡ written tb s t Calls
+pub call-entered : (tb : Table) (s s₁ : State) (l : List ℕ) (t a m d n : ℕ) → s₁ ≡ withThread s t (1 ∷ n ∷ l) → n ≡ start tb Nodes d
+    → d ≡ at tb (a + m) Field.callee
+    → a ≡ nodeRow tb → m ≡ standsAt (thread s t) → l ≡ callSlots tb (thread s t) → s₁ ≡ written tb s t Calls
 unfolding written entered callSlots callAt
-call-entered tb s s₁ l t d n e f g h = e ∙ rw (f, g, h)
+call-entered tb s s₁ l t a m d n e f g ea em h = e ∙ rw (f, called tb (thread s t) a m d ea em g, h)
 
 -- slot_keeps
 module _ (tb : Table) (from n : ℕ) (row : List ℕ) (k v : ℕ) where
@@ -185,7 +196,8 @@ module _ (tb : Table) (r from p n : ℕ) (row : List ℕ) where
   pub kept-none : true ≡ every (keptBy tb r from p n row) 0
   kept-none = sym (every-none (keptBy tb r from p n row))
 
-  pub kept-more : (k v : ℕ) (a b c : Bool) → a ≡ (b && c) → b ≡ every (keptBy tb r from p n row) k → c ≡ keptAt tb from n row k v → v ≡ callBy tb r from p n row k
+  pub kept-more : (k v : ℕ) (a b c : Bool) → a ≡ (b && c) → b ≡ every (keptBy tb r from p n row) k → c ≡ keptAt tb from n row k v
+      → v ≡ callBy tb r from p n row k
       → a ≡ every (keptBy tb r from p n row) (k + 1)
   unfolding keptBy
   kept-more k v a b c e f g h = e ∙ rw (f, g, h) (every-and-next (keptBy tb r from p n row) k)
@@ -198,7 +210,8 @@ module _ (tb : Table) (r from p n : ℕ) (row : List ℕ) where
       (λ y. every-elim (keptBy tb r from p n row) k x e (ltb-true x k y))
       (λ z. let (u, v) = past-last p n x (omega (arith, l, ltb-false x k z)) b in sym (kept-past tb from n row x (callBy tb r from p n row x) v)))
 
-  pub kept-all : (k m : ℕ) (b : Bool) → b ≡ every (keptBy tb r from p n row) k → m ≡ lastSlot p n → m ≤ k → k ≤ m → b ≡ every (keptBy tb r from p n row) rowSlots
+  pub kept-all : (k m : ℕ) (b : Bool) → b ≡ every (keptBy tb r from p n row) k → m ≡ lastSlot p n → m ≤ k → k ≤ m
+      → b ≡ every (keptBy tb r from p n row) rowSlots
   kept-all k m b e f h i =
       e ∙ same-truth (every (keptBy tb r from p n row) k) (every (keptBy tb r from p n row) rowSlots)
       (λ y. kept-rest k (omega (arith, f)) y)

@@ -1,10 +1,9 @@
-use Rattle.rules.specs.Moves.{metBy}
+use Rattle.meetings.proofs.Laws.{sender-goes, receiver-goes}
 use borrow.Author.Needs.{needs}
 use Rattle.meetings.proofs.write_met.Statement.{statement}
 use Rattle.meetings.proofs.write_met.Tie as tie
 
 pub write-met-spec : {M : Type 1} → statement M
-unfolding metBy
 write-met-spec =
     tie.close
     (tie.spec
@@ -15,4 +14,8 @@ write-met-spec =
     (λ c κs. search needs)
     (λ c κs. search needs)
     (λ c κs. search needs)
-    (λ c. cc))
+    (λ c. search needs)
+    (λ c. search needs)
+    (λ c κs. search needs)
+    (λ c. search sender-goes)
+    (λ c. search receiver-goes))

@@ -5,13 +5,15 @@ use Rattle.meetings.proofs.write_passed.Tie as tie
 
 returns : tie.Need-returns
 returns c =
-    passed-on _ _ _ _ _ _ _ _ _ _ _ _ _ _ _ (c .go-on .ensures) (c .before .before .resume .ensures) (c .before .before .before .before .before .before .before .before .before .before .before .before .before .before .before .before .pre .1 .1 .1) (c .before .before .before .before .before .before .before .next-of .ensures) (c .before .before .before .before .before .before .before .before .stands-at .ensures) (c .before .before .before .before .next-of2 .ensures)
-    (c .before .before .before .before .before .stands-at2 .ensures) (search) (search) (c .before .before .before .before .before .before .before .before .before .before .slot .ensures)
+    let pre = c .before .before .before .before .before .before .before .before .before .before .before .before .before .before .before .before .before .before .pre in
+    passed-on _ _ _ _ _ _ _ _ _ _ _ _ _ _ _ _ (c .store .ensures) (c .before .before .resume2 .ensures) (c .before .before .before .before .resume .ensures) (pre .1 .1 .0) (pre .1 .1 .1)
+    (c .before .before .before .before .before .before .before .before .before .next-of .ensures) (c .before .before .before .before .before .before .before .before .before .before .stands-at .ensures) (c .before .before .before .before .before .before .next-of2 .ensures) (c .before .before .before .before .before .before .before .stands-at2 .ensures) (search) (search) (c .before .before .before .before .before .before .before .before .before .before .before .before .slot .ensures)
 
 pub write-passed-spec : {M : Type 1} → statement M
 write-passed-spec =
     tie.close
     (tie.spec
+    (λ c κs. search needs)
     (λ c κs. search needs)
     (λ c κs. search needs)
     (λ c κs. search needs)

@@ -2,7 +2,7 @@
 use Prim.Native.Nat.{_≤_, _-_}
 use mathlib.Core.Path.{_≡_}
 use borrow.Author.Needs.{needs}
-use Rattle.state.specs.State.{stateOf}
+use Rattle.state.specs.State.{maxThreads, stateOf}
 use Rattle.starts.specs.Opening.{freedTo}
 use Rattle.starts.specs.Opening.Laws.{freeing}
 use Rattle.starts.proofs.free_threads.Statement.{statement}
@@ -10,7 +10,7 @@ use Rattle.starts.proofs.free_threads.Tie as tie
 
 abbrev Inv-loop : tie.InvT-loop
 Inv-loop state₀ t₀ state t =
-    (t ≤ 64) × (stateOf state ≡ freedTo (stateOf state₀) t)
+    (t ≤ maxThreads) × (stateOf state ≡ freedTo (stateOf state₀) t)
 
 abbrev μ-loop : tie.MeasureT-loop
 μ-loop state₀ t₀ state t = 64 - t

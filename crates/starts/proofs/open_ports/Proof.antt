@@ -2,7 +2,7 @@
 use Prim.Native.Nat.{_≤_, _-_}
 use mathlib.Core.Path.{_≡_}
 use borrow.Author.Needs.{needs}
-use Rattle.state.specs.State.{stateOf}
+use Rattle.state.specs.State.{maxChannels, stateOf}
 use Rattle.starts.specs.Opening.{openedTo}
 use Rattle.starts.specs.Opening.Laws.{opening}
 use Rattle.starts.proofs.open_ports.Statement.{statement}
@@ -10,7 +10,7 @@ use Rattle.starts.proofs.open_ports.Tie as tie
 
 abbrev Inv-loop : tie.InvT-loop
 Inv-loop state₀ ports c₀ state c =
-    (c ≤ 128) × (stateOf state ≡ openedTo (stateOf state₀) ports c)
+    (c ≤ maxChannels) × (stateOf state ≡ openedTo (stateOf state₀) ports c)
 
 abbrev μ-loop : tie.MeasureT-loop
 μ-loop state₀ ports c₀ state c = 128 - c

@@ -12,7 +12,7 @@ use Rattle.starts.proofs.port_slots.Tie as tie
 
 abbrev Inv-loop : tie.InvT-loop
 Inv-loop table index slots₀ k₀ slots k =
-    (k ≤ 16) × (slots ≡ laid (portAt (tableOf table)) k rowSlots)
+    (k ≤ rowSlots) × (slots ≡ laid (portAt (tableOf table)) k rowSlots)
 
 abbrev μ-loop : tie.MeasureT-loop
 μ-loop table index slots₀ k₀ slots k = 16 - k

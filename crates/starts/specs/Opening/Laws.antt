@@ -16,7 +16,7 @@ use Rattle.numbers.specs.Search.Laws.{caseB, getD-tabulate, tabulate-cong}
 use Rattle.table.specs.Table.{Table, ports}
 use Rattle.table.specs.Layout.{start}
 use Rattle.table.specs.declared.Part.the-variants.{Nodes}
-use Rattle.state.specs.State.{maxThreads, State, stateOf, stateWords, rowSlots, thread, channel, isWaiting, withMark, withThread, withChannel, withChannels}
+use Rattle.state.specs.State.{maxChannels, maxThreads, State, stateOf, stateWords, rowSlots, thread, channel, isWaiting, withMark, withThread, withChannel, withChannels}
 use Rattle.state.specs.State.Laws.{length-marks, length-threads, length-channels, length-channel, three-stored}
 use Rattle.rules.specs.Holding.{holds, holders, waiters, countOf, channelRow, recount, settled}
 use Rattle.rules.specs.Start.{freeRow, entered, portRow, started}
@@ -38,7 +38,7 @@ module _ (s : State) where
   unfolding freedTo filledTo withThread
   freed-more s₁ s₂ t e f = rw (f, e, add-one t)
 
-pub freed-all : (b : List ℕ) (s₁ : State) (t : ℕ) → s₁ ≡ freedTo (stateOf b) t → t ≤ 64 → 64 ≤ t → s₁ ≡ freed (stateOf b)
+pub freed-all : (b : List ℕ) (s₁ : State) (t : ℕ) → s₁ ≡ freedTo (stateOf b) t → t ≤ maxThreads → maxThreads ≤ t → s₁ ≡ freed (stateOf b)
 unfolding freedTo freed
 freed-all b s₁ t e h i =
     let q : t ≡ 64 = omega arith in
@@ -52,7 +52,8 @@ pub ruleset freeing = (freed-none, freed-more, freed-all)
 put-put : (chs : List (List ℕ)) (c k v : ℕ) (r : List ℕ) → c < length chs → set (set chs c r) c (set (getD (set chs c r) c []) k v) ≡ set chs c (set r k v)
 put-put chs c k v r h = rw (getD-set-same chs c r [] h, set-set chs c r (set r k v))
 
-pub row-put : (b : List ℕ) (c ty n : ℕ) (s₁ s₂ s₃ : State) → length b ≡ stateWords → c < 128 → s₁ ≡ withChannel (stateOf b) c (set (channel (stateOf b) c) 0 ty)
+pub row-put : (b : List ℕ) (c ty n : ℕ) (s₁ s₂ s₃ : State) → length b ≡ stateWords → c < maxChannels
+    → s₁ ≡ withChannel (stateOf b) c (set (channel (stateOf b) c) 0 ty)
     → s₂ ≡ withChannel s₁ c (set (channel s₁ c) 1 n) → s₃ ≡ withChannel s₂ c (set (channel s₂ c) 2 0) → s₃ ≡ withChannel (stateOf b) c (ty ∷ n ∷ 0 ∷ [])
 unfolding withChannel
 row-put b c ty n s₁ s₂ s₃ e h f g k =
@@ -78,7 +79,7 @@ module _ (s : State) (p : ℕ) where
   unfolding openedTo filledTo withChannel withChannels
   opened-more s₁ s₂ c e f = rw (f, e, add-one c)
 
-pub opened-all : (b : List ℕ) (p : ℕ) (s₁ : State) (c : ℕ) → s₁ ≡ openedTo (stateOf b) p c → c ≤ 128 → 128 ≤ c → s₁ ≡ opened (stateOf b) p
+pub opened-all : (b : List ℕ) (p : ℕ) (s₁ : State) (c : ℕ) → s₁ ≡ openedTo (stateOf b) p c → c ≤ maxChannels → maxChannels ≤ c → s₁ ≡ opened (stateOf b) p
 unfolding openedTo opened
 opened-all b p s₁ c e h i =
     let q : c ≡ 128 = omega arith in
@@ -88,7 +89,8 @@ pub ruleset opening = (opened-none, opened-more, opened-all)
 
 -- ---- put_marks
 
-pub marks-put : (b : List ℕ) (p : ℕ) (s₁ s₂ s₃ : State) → length b ≡ stateWords → s₁ ≡ withMark (stateOf b) 0 1 → s₂ ≡ withMark s₁ 1 p → s₃ ≡ withMark s₂ 2 0 → s₃ ≡ marked (stateOf b) p
+pub marks-put : (b : List ℕ) (p : ℕ) (s₁ s₂ s₃ : State) → length b ≡ stateWords → s₁ ≡ withMark (stateOf b) 0 1 → s₂ ≡ withMark s₁ 1 p → s₃ ≡ withMark s₂ 2 0
+    → s₃ ≡ marked (stateOf b) p
 unfolding withMark marked
 marks-put b p s₁ s₂ s₃ l e f g = rw (g, f, e, three-stored (stateOf b .marks) 1 p 0 (length-marks b l))
 
@@ -100,7 +102,8 @@ unstarted-is tb p s s₁ s₂ s₃ h e f g = rw (g, f, e, h)
 
 -- ---- write_start
 
-pub start-written : (tb : Table) (s s₁ : State) (l : List ℕ) (n : ℕ) → s₁ ≡ withThread s 0 (1 ∷ n ∷ l) → l ≡ tabulate rowSlots (portAt tb) → n ≡ start tb Nodes 0
+pub start-written : (tb : Table) (s s₁ : State) (l : List ℕ) (n : ℕ) → s₁ ≡ withThread s 0 (1 ∷ n ∷ l) → l ≡ tabulate rowSlots (portAt tb)
+    → n ≡ start tb Nodes 0
     → s₁ ≡ withThread s 0 (entered tb 0 (λ k. k))
 unfolding entered portAt
 start-written tb s s₁ l n e f g = e ∙ rw (f, g)
@@ -121,12 +124,13 @@ module _ (tb : Table) where
   held-row c = caseB (ltb c (ports tb)) (λ y. rw y) (λ f. rw f)
 
   -- the recount looks at the types of the 128 channels alone
-  recount-types : (ths : List (List ℕ)) (f g : ℕ → ℕ) → ((c : ℕ) → c < 128 → f c ≡ g c) → recount tb ths f ≡ recount tb ths g
+  recount-types : (ths : List (List ℕ)) (f g : ℕ → ℕ) → ((c : ℕ) → c < maxChannels → f c ≡ g c) → recount tb ths f ≡ recount tb ths g
   unfolding recount
   recount-types ths f g h =
       tabulate-cong 128 (λ c. channelRow (f c) (countOf tb ths c) (waiters tb ths c)) (λ c. channelRow (g c) (countOf tb ths c) (waiters tb ths c)) (λ c l. rw (h c l))
 
-  recount-held : (n : ℕ) → recount tb (replicate n freeRow) (λ c. at (tabulate 128 (portHeld (ports tb))) c 0) ≡ tabulate 128 (portHeld (ports tb))
+  recount-held : (n : ℕ)
+      → recount tb (replicate n freeRow) (λ c. at (tabulate maxChannels (portHeld (ports tb))) c 0) ≡ tabulate maxChannels (portHeld (ports tb))
   unfolding recount countOf
   recount-held n =
       tabulate-cong 128
@@ -139,13 +143,13 @@ module _ (tb : Table) where
   unstarted-settled =
       ap (withChannels (unstarted tb)) (recount-held maxThreads)
 
-  unstarted-threads : length (unstarted tb .threads) ≡ 64
+  unstarted-threads : length (unstarted tb .threads) ≡ maxThreads
   unfolding unstarted
   unstarted-threads = length-replicate 64 freeRow
 
   -- ---- thread 0's row makes it the start
 
-  same-type : (c : ℕ) → c < 128 → at (tabulate 128 (portHeld (ports tb))) c 0 ≡ at (tabulate 128 (portRow tb)) c 0
+  same-type : (c : ℕ) → c < maxChannels → at (tabulate maxChannels (portHeld (ports tb))) c 0 ≡ at (tabulate maxChannels (portRow tb)) c 0
   unfolding portHeld portRow
   same-type c h =
       rw (getD-tabulate 128 c (portHeld (ports tb)) [] h, getD-tabulate 128 c (portRow tb) [] h)

@@ -9,7 +9,9 @@ reaches-by-spec =
     (tie.spec
     (λ c κs. search needs)
     (λ c κs. search needs)
-    (λ c κs. search needs)
+    (λ c. search reaching)
+    (λ c. search needs)
+    (λ c. search needs)
     (λ c. search reaching)
     (λ c κs. search needs)
     (λ c. search needs)

@@ -5,16 +5,16 @@ use native.Mathlib.Omega.{arith}
 use mathlib.Core.Path.{_≡_, refl, sym, _∙_}
 use mathlib.Core.Bool.{Bool, true, false, _&&_, _||_, cond}
 use mathlib.Core.List.{List}
-use lib.Dec.{ltb, eqb}
+use lib.Dec.{eqb}
 use lib.ListN.{length, getD, length-set}
 use lib.Seq.{getD-set-same, getD-set-other}
 use borrow.Author.Tests.{ltb-true, lt-ltb, eqb-true, eqb-false}
 use Rattle.numbers.specs.Search.{some}
-use Rattle.numbers.specs.Search.Laws.{caseB, contra, same-truth, some-elim, some-intro, some-void, is-tabulate}
+use Rattle.numbers.specs.Search.Laws.{caseB, same-truth, some-elim, some-intro, some-void, is-tabulate}
 use Rattle.numbers.specs.Tests.{parts}
 use Rattle.table.specs.Table.{Table}
 use Rattle.table.specs.Layout.{branchCount}
-use Rattle.state.specs.State.{maxChannels, standsAt, slotOf, isWaiting}
+use Rattle.state.specs.State.{rowSlots, maxChannels, standsAt, slotOf, isWaiting}
 use Rattle.rules.specs.Program.{branchAt, fieldA}
 use Rattle.rules.specs.Holding.{holds}
 use Rattle.rules.specs.Offers.{offersIn, offersAt, offers}
@@ -39,13 +39,16 @@ or-next false false false = refl
 
 -- ---- the marks of the channels that a row holds
 
-module _ (tb : Table) (row : List ℕ) (k : List Bool) (e : length k ≡ 128) where
-  raised-long : (n : ℕ) → length (raisedTo k (ownList tb row) n) ≡ 128
-  unfolding raisedTo
-  raised-long zero = e
-  raised-long (suc n) = length-set (raisedTo k (ownList tb row) n) (getD (ownList tb row) n 0) true ∙ raised-long n
+pub raised-length : (k : List Bool) (l : List ℕ) (n : ℕ) → length (raisedTo k l n) ≡ length k
+unfolding raisedTo
+raised-length k l zero = refl
+raised-length k l (suc n) = length-set (raisedTo k l n) (getD l n 0) true ∙ raised-length k l n
 
-  raised-to : (n c : ℕ) → n ≤ 16 → c < 128 → getD (raisedTo k (ownList tb row) n) c false ≡ (getD k c false || holdsTo tb row c n)
+module _ (tb : Table) (row : List ℕ) (k : List Bool) (e : length k ≡ maxChannels) where
+  raised-long : (n : ℕ) → length (raisedTo k (ownList tb row) n) ≡ maxChannels
+  raised-long n = raised-length k (ownList tb row) n ∙ e
+
+  raised-to : (n c : ℕ) → n ≤ rowSlots → c < maxChannels → getD (raisedTo k (ownList tb row) n) c false ≡ (getD k c false || holdsTo tb row c n)
   unfolding raisedTo
   raised-to zero c h l = rw (holds-none tb row c l) (or-none (getD k c false))
     where
@@ -60,7 +63,7 @@ module _ (tb : Table) (row : List ℕ) (k : List Bool) (e : length k ≡ 128) wh
       (λ y. let q : o ≡ c = eqb-true o c y in rw (y, q) (getD-set-same r c true false (omega (arith, raised-long n))))
       (λ y. rw y (getD-set-other r o c true false (λ q. eqb-false o c y (sym q)))))
 
-  pub raised-held : raisedTo k (ownList tb row) 16 ≡ withHeld tb row k
+  pub raised-held : raisedTo k (ownList tb row) rowSlots ≡ withHeld tb row k
   unfolding withHeld
   raised-held =
       is-tabulate (raisedTo k (ownList tb row) 16) maxChannels (λ c. getD k c false || holds tb row c) false (raised-long 16)

@@ -9,12 +9,15 @@ make-meeting-spec =
     tie.close
     (tie.spec
     (λ c κs. search needs)
+    (λ c κs. search needs)
+    (λ c κs. search needs)
+    (λ c κs. search needs)
     (λ c κs. (search, (search, (search, (search meet-other, search meet-facing)))))
     (λ c. search number-keeps)
     (λ c κs. search needs)
     (λ c κs. search needs)
     (λ c κs. (search, (search, (search, search meet-other))))
-    (λ c κs. search needs)
+    (λ c κs. c .before .before .before .before .before .before .before .before .before .before .before .before .before .before .before .before .before .before .before .pre .0)
     (λ c.
-    let pre = c .before .before .before .before .before .before .before .before .before .before .before .before .before .before .before .before .before .pre in
+    let pre = c .before .before .before .before .before .before .before .before .before .before .before .before .before .before .before .before .before .before .before .before .pre in
     meeting-made _ _ _ _ _ _ _ _ _ _ (c .settle-two .ensures) _ _ (search) (search) (search) (search) (search) (pre .1 .0) (pre .1 .1 .thread-in) (pre .1 .1 .partner-in) (pre .1 .1 .other)))

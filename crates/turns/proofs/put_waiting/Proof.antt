@@ -1,7 +1,7 @@
 -- `turns::put_waiting` meets its contract. The loop: the first c channels have their counts. Assumes nothing.
 use Prim.Native.Nat.{_≤_, _-_}
 use mathlib.Core.Path.{_≡_}
-use Rattle.state.specs.State.{stateOf}
+use Rattle.state.specs.State.{maxChannels, stateOf}
 use Rattle.turns.specs.Counted.{weighed}
 use Rattle.turns.specs.Counted.Laws.{weighed-none, weighed-more, weighed-all}
 use borrow.Author.Needs.{needs}
@@ -10,7 +10,7 @@ use Rattle.turns.proofs.put_waiting.Tie as tie
 
 abbrev Inv-loop : tie.InvT-loop
 Inv-loop state₀ waiting c₀ state c =
-    (c ≤ 128) × (stateOf state ≡ weighed waiting (stateOf state₀) c)
+    (c ≤ maxChannels) × (stateOf state ≡ weighed waiting (stateOf state₀) c)
 
 abbrev μ-loop : tie.MeasureT-loop
 μ-loop state₀ waiting c₀ state c = 128 - c

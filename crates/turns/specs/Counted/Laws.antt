@@ -18,7 +18,7 @@ use Rattle.numbers.specs.Search.Laws.{caseB, getD-tabulate, length-tabulate, ta
 use Rattle.numbers.specs.Signed.{sum}
 use Rattle.table.specs.Table.{Table}
 use Rattle.state.specs.State.Laws.{length-threads, length-channel}
-use Rattle.state.specs.State.{State, stateOf, stateWords, thread, channel, standsAt, typeIn, channelMark, isWaiting, withMark, withThread, withChannel, withChannels}
+use Rattle.state.specs.State.{maxChannels, maxThreads, State, stateOf, stateWords, thread, channel, standsAt, typeIn, channelMark, isWaiting, withMark, withThread, withChannel, withChannels}
 use Rattle.rules.specs.Start.{freeRow}
 use Rattle.rules.specs.Holding.{holds, waiters, countOf, channelRow, recount, settled}
 use Rattle.table.specs.Layout.{branchCount}
@@ -31,9 +31,7 @@ use Rattle.rules.specs.declared.Move.{Move}
 use Rattle.rules.specs.declared.Move.the-variants.{Ends, Calls, Waits, Goes, Creates, Spawns, Meets, LacksThread, LacksChannel}
 use Rattle.holding.specs.Own.{ownList}
 use Rattle.upkeep.specs.Shift.{shiftRow, shiftTo, shiftedTo, channelShifted, rowEntered, rowLeft, settledOne, settledTwo, settledNew}
-use Rattle.upkeep.specs.Upkeep.{waiters-le, counts-move, settled-again, settled-length}
-use Rattle.turns.specs.Made.{Alone, Paired, Creation}
-use Rattle.turns.specs.Made.Laws.{alone-settled, creation-settled, paired-settled}
+use Rattle.upkeep.specs.Upkeep.{waiters-le, counts-move, one-settled, two-settled, new-settled, settled-again, settled-length, settled-mark, two-mark, new-mark}
 use Rattle.turns.specs.Running.{MoveMade}
 use Rattle.turns.specs.Counted.{Alike, Counted, weighedTo, weighed}
 
@@ -62,16 +60,16 @@ put-type (x ∷ y ∷ r) v = refl
 -- ---- all rows
 
 module _ (a b : List (List ℕ)) (e : Alike a b) where
-  type-alike : (c : ℕ) → c < 128 → at a c 0 ≡ at b c 0
+  type-alike : (c : ℕ) → c < maxChannels → at a c 0 ≡ at b c 0
   unfolding Alike
   type-alike c h = sym (first-word (getD a c [])) ∙ rw (e .2 c h) (first-word (getD b c []))
 
-  count-alike : (c : ℕ) → c < 128 → at a c 1 ≡ at b c 1
+  count-alike : (c : ℕ) → c < maxChannels → at a c 1 ≡ at b c 1
   unfolding Alike
   count-alike c h = sym (second-word (getD a c [])) ∙ rw (e .2 c h) (second-word (getD b c []))
 
   -- a row is replaced by one with the same type and count
-  set-alike : (v : ℕ) (r r′ : List ℕ) → (v < 128 → take 2 r ≡ take 2 r′) → Alike (set a v r) (set b v r′)
+  set-alike : (v : ℕ) (r r′ : List ℕ) → (v < maxChannels → take 2 r ≡ take 2 r′) → Alike (set a v r) (set b v r′)
   unfolding Alike
   set-alike v r r′ f = (
     length-set a v r ∙ e .0,
@@ -211,7 +209,8 @@ module _ (tb : Table) (s : State) (e : Counted tb s) where
         same-settled tb (written tb s t m) (rowsAfter t m) q ∙ rw p
 
   -- a row that holds what the row before it held
-  pub kept-counted : length (s .threads) ≡ 64 → (t : ℕ) → t < 64 → (row : List ℕ) → ((c : ℕ) → holds tb row c ≡ holds tb (thread s t) c) → Counted tb (withThread s t row)
+  pub kept-counted : length (s .threads) ≡ maxThreads → (t : ℕ) → t < maxThreads → (row : List ℕ) → ((c : ℕ) → holds tb row c ≡ holds tb (thread s t) c)
+      → Counted tb (withThread s t row)
   unfolding Counted Alike settled withChannels withThread recount
   kept-counted long t h row same =
       let f : ℕ → List ℕ = λ c. channelRow (typeIn s c) (countOf tb (s .threads) c) (waiters tb (s .threads) c) in
@@ -226,86 +225,97 @@ module _ (tb : Table) (s : State) (e : Counted tb s) where
             (head-row (typeIn s c) (countOf tb (s .threads) c) (waiters tb (s .threads) c) (waiters tb (set (s .threads) t row) c)),
       )
 
-  -- ---- moves with upkeep: the channels of the rows before, and what they added to the counts of waiting holders
-  module _ (long : length (s .threads) ≡ 64) (t : ℕ) (h : t < 64) (m : Move) where
-    abbrev own : ℕ → List ℕ
-    own u = ownList tb (thread s u)
-
-    abbrev weight : ℕ → ℕ
-    weight u = bit (isWaiting (thread s u))
-
-    alone-kept : Alone m → (settled tb (settledOne tb (written tb s t m) t (own t) (weight t)) ≡ perform tb (settled tb s) t m) × Counted tb (settledOne tb (written tb s t m) t (own t) (weight t))
-    unfolding perform settled withChannels
-    alone-kept a =
+  -- ---- moves with upkeep: what settles the rows of what the state stands for does the same here
+  module _ (t : ℕ) (m : Move) where
+    one-kept : (l : List ℕ) (w : ℕ) → settledOne tb (written tb (settled tb s) t m) t l w ≡ perform tb (settled tb s) t m
+        → (settled tb (settledOne tb (written tb s t m) t l w) ≡ perform tb (settled tb s) t m) × Counted tb (settledOne tb (written tb s t m) t l w)
+    unfolding perform
+    one-kept l w a =
         let (p, q) = both-after t m in
-        let (p₁, q₁) = one-alike tb (written tb s t m) (rowsAfter t m) q t (own t) (weight t) in
-        stands-for tb (settledOne tb (written tb s t m) t (own t) (weight t)) _ q₁ (written tb (settled tb s) t m)
-        (p₁ ∙ rw p (alone-settled tb (settled tb s) long (settled-again tb s) t h m a))
+        let (p₁, q₁) = one-alike tb (written tb s t m) (rowsAfter t m) q t l w in
+        stands-for tb (settledOne tb (written tb s t m) t l w) _ q₁ (written tb (settled tb s) t m) (p₁ ∙ rw p a)
 
-    creation-kept : (x : ℕ) → Creation x m
-        → (settled tb (settledNew tb (written tb s t m) t x (own t) (weight t)) ≡ perform tb (settled tb s) t m) × Counted tb (settledNew tb (written tb s t m) t x (own t) (weight t))
-    unfolding perform settled withChannels
-    creation-kept x a =
+    new-kept : (x : ℕ) (l : List ℕ) (w : ℕ) → settledNew tb (written tb (settled tb s) t m) t x l w ≡ perform tb (settled tb s) t m
+        → (settled tb (settledNew tb (written tb s t m) t x l w) ≡ perform tb (settled tb s) t m) × Counted tb (settledNew tb (written tb s t m) t x l w)
+    unfolding perform
+    new-kept x l w a =
         let (p, q) = both-after t m in
-        let (p₁, q₁) = new-alike tb (written tb s t m) (rowsAfter t m) q t x (own t) (weight t) in
-        stands-for tb (settledNew tb (written tb s t m) t x (own t) (weight t)) _ q₁ (written tb (settled tb s) t m)
-        (p₁ ∙ rw p (creation-settled tb (settled tb s) long (settled-again tb s) t h x m a))
+        let (p₁, q₁) = new-alike tb (written tb s t m) (rowsAfter t m) q t x l w in
+        stands-for tb (settledNew tb (written tb s t m) t x l w) _ q₁ (written tb (settled tb s) t m) (p₁ ∙ rw p a)
 
-    paired-kept : (x : ℕ) → Paired t x m
-        → (settled tb (settledTwo tb (written tb s t m) t x (own t) (weight t) (own x) (weight x)) ≡ perform tb (settled tb s) t m)
-        × Counted tb (settledTwo tb (written tb s t m) t x (own t) (weight t) (own x) (weight x))
-    unfolding perform settled withChannels
-    paired-kept x a =
+    two-kept : (x : ℕ) (l : List ℕ) (w : ℕ) (l′ : List ℕ) (w′ : ℕ) → settledTwo tb (written tb (settled tb s) t m) t x l w l′ w′ ≡ perform tb (settled tb s) t m
+        → (settled tb (settledTwo tb (written tb s t m) t x l w l′ w′) ≡ perform tb (settled tb s) t m) × Counted tb (settledTwo tb (written tb s t m) t x l w l′ w′)
+    unfolding perform
+    two-kept x l w l′ w′ a =
         let (p, q) = both-after t m in
-        let (p₁, q₁) = two-alike tb (written tb s t m) (rowsAfter t m) q t x (own t) (weight t) (own x) (weight x) in
-        stands-for tb (settledTwo tb (written tb s t m) t x (own t) (weight t) (own x) (weight x)) _ q₁ (written tb (settled tb s) t m)
-        (p₁ ∙ rw p (paired-settled tb (settled tb s) long (settled-again tb s) t h x m a))
+        let (p₁, q₁) = two-alike tb (written tb s t m) (rowsAfter t m) q t x l w l′ w′ in
+        stands-for tb (settledTwo tb (written tb s t m) t x l w l′ w′) _ q₁ (written tb (settled tb s) t m) (p₁ ∙ rw p a)
+
+-- ---- a mark that is moved besides changes nothing in the upkeep
+
+module _ (tb : Table) (s : State) (i v : ℕ) where
+  new-marked : (t x : ℕ) (l : List ℕ) (w : ℕ) → settledNew tb s t x l w ≡ settled tb s → settledNew tb (withMark s i v) t x l w ≡ settled tb (withMark s i v)
+  new-marked t x l w e = new-mark tb s i v t x l w ∙ rw e (sym (settled-mark tb s i v))
+
+  two-marked : (t x : ℕ) (l : List ℕ) (w : ℕ) (l′ : List ℕ) (w′ : ℕ) → settledTwo tb s t x l w l′ w′ ≡ settled tb s
+      → settledTwo tb (withMark s i v) t x l w l′ w′ ≡ settled tb (withMark s i v)
+  two-marked t x l w l′ w′ e = two-mark tb s i v t x l w l′ w′ ∙ rw e (sym (settled-mark tb s i v))
 
 -- ---- the code's ways out: s₁ after the writes, s₂ after the upkeep
 
 module _ (tb : Table) (b : List ℕ) (t : ℕ) (s₁ s₂ : State) (l : List ℕ) (w : ℕ) where
   module _ (f : s₂ ≡ settledOne tb s₁ t l w) where
-    alone-made : (m : Move) → s₁ ≡ written tb (stateOf b) t m → l ≡ ownList tb (thread (stateOf b) t) → w ≡ bit (isWaiting (thread (stateOf b) t)) → Counted tb (stateOf b) → t < 64
-        → Alone m → MoveMade tb (stateOf b) t m s₂
-    alone-made m g i j e h a =
-        let (p, q) = alone-kept tb (stateOf b) e (length-threads b) t h m a in
-        record { after = rw (f, g, i, j) p; counted = rw (f, g, i, j) q }
+    one-made : (m : Move) → s₁ ≡ written tb (stateOf b) t m → Counted tb (stateOf b)
+        → settledOne tb (written tb (settled tb (stateOf b)) t m) t l w ≡ perform tb (settled tb (stateOf b)) t m
+        → MoveMade tb (stateOf b) t m s₂
+    one-made m g e a =
+        let (p, q) = one-kept tb (stateOf b) e t m l w a in
+        record { after = rw (f, g) p; counted = rw (f, g) q }
 
-    pub end-made : s₁ ≡ withThread (stateOf b) t freeRow → l ≡ ownList tb (thread (stateOf b) t) → w ≡ bit (isWaiting (thread (stateOf b) t)) → Counted tb (stateOf b) → t < 64
+    pub end-made : s₁ ≡ withThread (stateOf b) t freeRow → l ≡ ownList tb (thread (stateOf b) t) → w ≡ bit (isWaiting (thread (stateOf b) t))
+        → Counted tb (stateOf b) → t < maxThreads
         → MoveMade tb (stateOf b) t Ends s₂
-    unfolding written Alone
-    end-made g i j e h = alone-made Ends g i j e h tt
+    unfolding written perform settled withChannels
+    end-made g i j e h = one-made Ends g e (rw (i, j) (one-settled tb (settled tb (stateOf b)) (length-threads b) (settled-again tb (stateOf b)) t h _))
 
-    pub call-made : s₁ ≡ written tb (stateOf b) t Calls → l ≡ ownList tb (thread (stateOf b) t) → w ≡ bit (isWaiting (thread (stateOf b) t)) → Counted tb (stateOf b) → t < 64
+    pub call-made : s₁ ≡ written tb (stateOf b) t Calls → l ≡ ownList tb (thread (stateOf b) t) → w ≡ bit (isWaiting (thread (stateOf b) t))
+        → Counted tb (stateOf b) → t < maxThreads
         → MoveMade tb (stateOf b) t Calls s₂
-    unfolding Alone
-    call-made g i j e h = alone-made Calls g i j e h tt
+    unfolding written perform settled withChannels
+    call-made g i j e h = one-made Calls g e (rw (i, j) (one-settled tb (settled tb (stateOf b)) (length-threads b) (settled-again tb (stateOf b)) t h _))
 
   pub channel-made : (k c : ℕ) → s₂ ≡ settledNew tb s₁ t c l w → s₁ ≡ written tb (stateOf b) t (Creates k c) → l ≡ ownList tb (thread (stateOf b) t)
-      → w ≡ bit (isWaiting (thread (stateOf b) t)) → Counted tb (stateOf b) → t < 64 → c < 128 → MoveMade tb (stateOf b) t (Creates k c) s₂
-  unfolding Creation
+      → w ≡ bit (isWaiting (thread (stateOf b) t)) → Counted tb (stateOf b) → t < maxThreads → c < maxChannels → MoveMade tb (stateOf b) t (Creates k c) s₂
+  unfolding written perform settled withChannels
   channel-made k c f g i j e h n =
-      let (p, q) = creation-kept tb (stateOf b) e (length-threads b) t h (Creates k c) c (refl, n) in
-      record { after = rw (f, g, i, j) p; counted = rw (f, g, i, j) q }
+      let a = new-marked tb _ 1 _ t c _ _ (new-settled tb (settled tb (stateOf b)) (length-threads b) (settled-again tb (stateOf b)) t h _ c _ n) in
+      let (p, q) = new-kept tb (stateOf b) e t (Creates k c) c l w (rw (i, j) a) in
+      record { after = rw (f, g) p; counted = rw (f, g) q }
 
   module _ (u : ℕ) (l′ : List ℕ) (w′ : ℕ) (f : s₂ ≡ settledTwo tb s₁ t u l w l′ w′) where
-    paired-made : (m : Move) → s₁ ≡ written tb (stateOf b) t m → l ≡ ownList tb (thread (stateOf b) t) → w ≡ bit (isWaiting (thread (stateOf b) t))
-        → l′ ≡ ownList tb (thread (stateOf b) u) → w′ ≡ bit (isWaiting (thread (stateOf b) u)) → Counted tb (stateOf b) → t < 64 → Paired t u m → MoveMade tb (stateOf b) t m s₂
-    paired-made m g i j k n e h a =
-        let (p, q) = paired-kept tb (stateOf b) e (length-threads b) t h m u a in
-        record { after = rw (f, g, i, j, k, n) p; counted = rw (f, g, i, j, k, n) q }
+    two-made : (m : Move) → s₁ ≡ written tb (stateOf b) t m → Counted tb (stateOf b)
+        → settledTwo tb (written tb (settled tb (stateOf b)) t m) t u l w l′ w′ ≡ perform tb (settled tb (stateOf b)) t m → MoveMade tb (stateOf b) t m s₂
+    two-made m g e a =
+        let (p, q) = two-kept tb (stateOf b) e t m u l w l′ w′ a in
+        record { after = rw (f, g) p; counted = rw (f, g) q }
 
     pub child-made : (x : ℕ) → s₁ ≡ written tb (stateOf b) t (Spawns x u) → l ≡ ownList tb (thread (stateOf b) t) → w ≡ bit (isWaiting (thread (stateOf b) t))
-        → l′ ≡ ownList tb (thread (stateOf b) u) → w′ ≡ bit (isWaiting (thread (stateOf b) u)) → Counted tb (stateOf b) → t < 64 → u < 64 → u ≢ t
+        → l′ ≡ ownList tb (thread (stateOf b) u) → w′ ≡ bit (isWaiting (thread (stateOf b) u)) → Counted tb (stateOf b) → t < maxThreads → u < maxThreads
+        → u ≢ t
         → MoveMade tb (stateOf b) t (Spawns x u) s₂
-    unfolding Paired
-    child-made x g i j k n e h o z = paired-made (Spawns x u) g i j k n e h (refl, o, z)
+    unfolding written spawnedBy perform settled withChannels
+    child-made x g i j k n e h o z =
+        let a = two-marked tb _ 0 _ t u _ _ _ _ (two-settled tb (settled tb (stateOf b)) (length-threads b) (settled-again tb (stateOf b)) t h _ u o z _) in
+        two-made (Spawns x u) g e (rw (i, j, k, n) a)
 
-    pub meeting-made : (x y : ℕ) → s₁ ≡ written tb (stateOf b) t (Meets x u y) → l ≡ ownList tb (thread (stateOf b) t) → w ≡ bit (isWaiting (thread (stateOf b) t))
-        → l′ ≡ ownList tb (thread (stateOf b) u) → w′ ≡ bit (isWaiting (thread (stateOf b) u)) → Counted tb (stateOf b) → t < 64 → u < 64 → u ≢ t
+    pub meeting-made : (x y : ℕ) → s₁ ≡ written tb (stateOf b) t (Meets x u y) → l ≡ ownList tb (thread (stateOf b) t)
+        → w ≡ bit (isWaiting (thread (stateOf b) t))
+        → l′ ≡ ownList tb (thread (stateOf b) u) → w′ ≡ bit (isWaiting (thread (stateOf b) u)) → Counted tb (stateOf b) → t < maxThreads → u < maxThreads
+        → u ≢ t
         → MoveMade tb (stateOf b) t (Meets x u y) s₂
-    unfolding Paired
-    meeting-made x y g i j k n e h o z = paired-made (Meets x u y) g i j k n e h (refl, o, z)
+    unfolding written perform settled withChannels
+    meeting-made x y g i j k n e h o z =
+        two-made (Meets x u y) g e (rw (i, j, k, n) (two-settled tb (settled tb (stateOf b)) (length-threads b) (settled-again tb (stateOf b)) t h _ u o z _))
 
 -- ---- a settled state is counted
 
@@ -320,11 +330,12 @@ module _ (l : List ℕ) (b : List ℕ) where
   unfolding weighed weighedTo withChannels stateOf
   weighed-none = refl
 
-  pub weighed-more : (s₁ s₂ : State) (k v : ℕ) → s₂ ≡ withChannel s₁ k (set (channel s₁ k) 2 v) → s₁ ≡ weighed l (stateOf b) k → v ≡ getD l k 0 → s₂ ≡ weighed l (stateOf b) (k + 1)
+  pub weighed-more : (s₁ s₂ : State) (k v : ℕ) → s₂ ≡ withChannel s₁ k (set (channel s₁ k) 2 v) → s₁ ≡ weighed l (stateOf b) k → v ≡ getD l k 0
+      → s₂ ≡ weighed l (stateOf b) (k + 1)
   unfolding weighed weighedTo withChannels withChannel
   weighed-more s₁ s₂ k v e f g = e ∙ rw (f, g, add-one k)
 
-  pub weighed-all : (s₁ : State) (k : ℕ) → s₁ ≡ weighed l (stateOf b) k → k ≤ 128 → 128 ≤ k → s₁ ≡ weighed l (stateOf b) 128
+  pub weighed-all : (s₁ : State) (k : ℕ) → s₁ ≡ weighed l (stateOf b) k → k ≤ maxChannels → maxChannels ≤ k → s₁ ≡ weighed l (stateOf b) maxChannels
   weighed-all s₁ k e h i = let q : k ≡ 128 = omega arith in rw (← q) e
 
 module _ (l : List ℕ) (chs : List (List ℕ)) where
@@ -365,8 +376,9 @@ last-word (x ∷ y ∷ z ∷ []) ty (suc n) w h e i =
     let b : y ≡ suc n = ap (λ (l : List ℕ). getD l 1 0) e in
     rw (a, b)
 
-pub settled-last : (tb : Table) (b : List ℕ) → length b ≡ stateWords → Counted tb (stateOf b) → (l : List ℕ) (s₁ : State) → s₁ ≡ weighed l (stateOf b) 128
-    → l ≡ tabulate 128 (waiters tb (stateOf b .threads)) → s₁ ≡ settled tb (stateOf b)
+pub settled-last : (tb : Table) (b : List ℕ) → length b ≡ stateWords → Counted tb (stateOf b) → (l : List ℕ) (s₁ : State)
+    → s₁ ≡ weighed l (stateOf b) maxChannels
+    → l ≡ tabulate maxChannels (waiters tb (stateOf b .threads)) → s₁ ≡ settled tb (stateOf b)
 unfolding weighed Counted Alike settled withChannels recount
 settled-last tb b long e l s₁ f g =
     let s = stateOf b in

@@ -7,12 +7,12 @@ use mathlib.Core.List.{List}
 use mathlib.Core.Bool.{Bool, true}
 use lib.Dec.{eqb}
 use lib.ListN.{length}
-use borrow.Author.Tests.{eqb-true}
+use borrow.Author.Tests.{eqb-true, eq-eqb}
 use Rattle.numbers.specs.Rows.{at}
 use Rattle.table.specs.Fields as Field
 use Rattle.table.specs.Table.{Table, ports, carried}
 use Rattle.table.specs.Layout.{branchCount, definitionOf, slotType}
-use Rattle.state.specs.State.{State, stateOf, thread, standsAt, slotOf, inUse, isReady, typeIn, withThread, withChannels}
+use Rattle.state.specs.State.{maxThreads, State, stateOf, thread, standsAt, slotOf, inUse, isReady, typeIn, withThread, withChannels}
 use Rattle.state.specs.State.Laws.{length-threads, thread-other, threads-with}
 use Rattle.rules.specs.Program.{typeAt, branchAt, callee, argument, fieldB, actOf, opposite}
 use Rattle.rules.specs.Holding.{holds, settled}
@@ -43,7 +43,8 @@ use Rattle.turns.specs.HeldStill.{waiting-holds, resumed-holds, stored-h
 use Rattle.turns.specs.Keeping.{numberBy, CanMeet, AtPort}
 
 -- the type ty of the slot k with which branch i, in row a of the table, gives or receives, read at node n
-pub number-read : (tb : Table) (row : List ℕ) (i n a k ty : ℕ) → ty ≡ typeAt tb n k → k ≡ at tb a Field.b → a ≡ branchAt tb n i → n ≡ standsAt row → eqb ty 0 ≡ numberBy tb row i
+number-read : (tb : Table) (row : List ℕ) (i n a k ty : ℕ) → ty ≡ typeAt tb n k → k ≡ at tb a Field.b → a ≡ branchAt tb n i → n ≡ standsAt row
+    → eqb ty 0 ≡ numberBy tb row i
 unfolding numberBy
 number-read tb row i n a k ty e f g h = rw (e, f, g, h)
 
@@ -57,11 +58,11 @@ module _ (tb : Table) (g : Granted tb) (ty : ℕ → ℕ) (row : List ℕ) (r : 
   side-holds i l z v = met-holds tb row used _ _ v (branching tb g ty row r used i l .next .same) z (sideOf (actOf tb (rowOf tb row i)))
 
 module _ (tb : Table) (g : Granted tb) (s : State) (ok : Sound tb (settled tb s)) where
-  row-sound : (t : ℕ) → t < 64 → RowSound tb (typeIn (settled tb s)) (thread s t)
+  row-sound : (t : ℕ) → t < maxThreads → RowSound tb (typeIn (settled tb s)) (thread s t)
   unfolding settled withChannels
   row-sound t h = ok .orderly .row t h
 
-  module _ (t : ℕ) (h : t < 64) (ready : isReady (thread s t) ≡ true) where
+  module _ (t : ℕ) (h : t < maxThreads) (ready : isReady (thread s t) ≡ true) where
     used : inUse (thread s t) ≡ true
     used = ready-used (thread s t) ready
 
@@ -85,7 +86,7 @@ module _ (tb : Table) (g : Granted tb) (s : State) (ok : Sound tb (settled tb s)
           value-type tb g ty (thread s u) (row-sound u (p .thread-in)) partner-used j (p .branch-in) (opposite (o .direction)) (p .does)
           ∙ ap (λ x. carried tb (ty x)) (p .is) ∙ sym (value-type tb g ty (thread s t) (row-sound t h) used i (o .takes .branch-in) (o .direction) (o .takes .does)) ∙ z
 
-      joined-counted : Counted tb s → length (s .threads) ≡ 64 → Counted tb (written tb s t (Meets i u j))
+      joined-counted : Counted tb s → length (s .threads) ≡ maxThreads → Counted tb (written tb s t (Meets i u j))
       unfolding written
       joined-counted e long =
           let p = o .partner in
@@ -104,7 +105,8 @@ module _ (tb : Table) (b : List ℕ) (t : ℕ) (s₁ : State) where
   wrote : Counted tb (stateOf b) → (m : Move) → s₁ ≡ written tb (stateOf b) t m → Counted tb (written tb (stateOf b) t m) → MoveMade tb (stateOf b) t m s₁
   wrote e m f k = record { after = rw f (written-settled tb (stateOf b) e t m); counted = rw f k }
 
-  pub call-keeps : (k : Bool) → s₁ ≡ written tb (stateOf b) t Calls → k ≡ callKeeps tb (thread (stateOf b) t) → k ≡ true → Counted tb (stateOf b) → t < 64
+  pub call-keeps : (k : Bool) → s₁ ≡ written tb (stateOf b) t Calls → k ≡ callKeeps tb (thread (stateOf b) t) → k ≡ true → Counted tb (stateOf b)
+      → t < maxThreads
       → isReady (thread (stateOf b) t) ≡ true → MoveMade tb (stateOf b) t Calls s₁
   unfolding written
   call-keeps k f q y e h r =
@@ -112,19 +114,22 @@ module _ (tb : Table) (b : List ℕ) (t : ℕ) (s₁ : State) where
       (entered tb (callee tb (standsAt (thread (stateOf b) t))) (λ k. slotOf (thread (stateOf b) t) (argument tb (standsAt (thread (stateOf b) t)) k)))
       (call-holds tb (thread (stateOf b) t) (ready-used (thread (stateOf b) t) r) (sym q ∙ y)))
 
-  pub number-keeps : (i u j : ℕ) (k : Bool) → s₁ ≡ written tb (stateOf b) t (Meets i u j) → k ≡ numberBy tb (thread (stateOf b) t) i → k ≡ true → Counted tb (stateOf b)
-      → CanMeet tb (stateOf b) t i u j → MoveMade tb (stateOf b) t (Meets i u j) s₁
-  number-keeps i u j k f q y e a = wrote e (Meets i u j) f (a .number-kept (sym q ∙ y))
+  pub number-keeps : (i u j n a k ty : ℕ) → s₁ ≡ written tb (stateOf b) t (Meets i u j) → ty ≡ typeAt tb n k → k ≡ at tb a Field.b → a ≡ branchAt tb n i
+      → n ≡ standsAt (thread (stateOf b) t) → ty ≡ 0 → Counted tb (stateOf b) → CanMeet tb (stateOf b) t i u j → MoveMade tb (stateOf b) t (Meets i u j) s₁
+  number-keeps i u j n a k ty f q r p o y e can =
+      wrote e (Meets i u j) f (can .number-kept (sym (number-read tb (thread (stateOf b) t) i n a k ty q r p o) ∙ eq-eqb ty 0 y))
 
   -- a move m that was decided in a run
   module _ (m : Move) where
-    pub waits-made : s₁ ≡ withThread (stateOf b) t (waitingRow (thread (stateOf b) t)) → m ≡ Waits → Counted tb (stateOf b) → t < 64 → isReady (thread (stateOf b) t) ≡ true
+    pub waits-made : s₁ ≡ withThread (stateOf b) t (waitingRow (thread (stateOf b) t)) → m ≡ Waits → Counted tb (stateOf b) → t < maxThreads
+        → isReady (thread (stateOf b) t) ≡ true
         → MoveMade tb (stateOf b) t m s₁
     unfolding written
     waits-made f n e h r =
         rw n (wrote e Waits f (kept-counted tb (stateOf b) e (length-threads b) t h (waitingRow (thread (stateOf b) t)) (waiting-holds tb (thread (stateOf b) t) (ready-used (thread (stateOf b) t) r))))
 
-    pub goes-made : (index : List ℕ) (i : ℕ) → s₁ ≡ written tb (stateOf b) t (Goes i) → m ≡ Goes i → m ≡ move tb (stateOf b) t → Running tb index (stateOf b) → t < 64
+    pub goes-made : (index : List ℕ) (i : ℕ) → s₁ ≡ written tb (stateOf b) t (Goes i) → m ≡ Goes i → m ≡ move tb (stateOf b) t → Running tb index (stateOf b)
+        → t < maxThreads
         → isReady (thread (stateOf b) t) ≡ true → MoveMade tb (stateOf b) t m s₁
     unfolding Chosen written
     goes-made index i f n d run h r =
@@ -148,7 +153,8 @@ module _ (tb : Table) (b : List ℕ) (t : ℕ) (m : Move) (e : m ≡ move tb (st
   pub child-aside : (i u : ℕ) → m ≡ Spawns i u → isReady (thread (stateOf b) t) ≡ true → u ≢ t
   child-aside i u f r = spawns-other tb (stateOf b) t i u (sym e ∙ f) r
 
-  pub can-meet : (index : List ℕ) (i u j : ℕ) → m ≡ Meets i u j → Running tb index (stateOf b) → t < 64 → isReady (thread (stateOf b) t) ≡ true → CanMeet tb (stateOf b) t i u j
+  pub can-meet : (index : List ℕ) (i u j : ℕ) → m ≡ Meets i u j → Running tb index (stateOf b) → t < maxThreads → isReady (thread (stateOf b) t) ≡ true
+      → CanMeet tb (stateOf b) t i u j
   unfolding Chosen Facing numberBy typeAt
   can-meet index i u j f run h r =
       let q : move tb (stateOf b) t ≡ Meets i u j = sym e ∙ f in
@@ -164,7 +170,7 @@ module _ (tb : Table) (b : List ℕ) (t : ℕ) (m : Move) (e : m ≡ move tb (st
 -- ---- a thread that the bench meets: s₁ after the write, s₂ settled
 
 module _ (tb : Table) (b : List ℕ) (u j v : ℕ) (s₁ : State) (f : s₁ ≡ withThread (stateOf b) u (metBy tb (thread (stateOf b) u) j v)) where
-  pub met-counted : u < 64 → Granted tb → Sound tb (stateOf b) → AtPort tb (stateOf b) u j → Counted tb s₁
+  pub met-counted : u < maxThreads → Granted tb → Sound tb (stateOf b) → AtPort tb (stateOf b) u j → Counted tb s₁
   unfolding AtPort
   met-counted h g ok (d, port, l, e) =
       let a = partner-answers tb (stateOf b) bench d port u j e in
@@ -177,6 +183,7 @@ module _ (tb : Table) (b : List ℕ) (u j v : ℕ) (s₁ : State) (f : s₁ ≡ 
   met-made s₂ q = q ∙ rw f
 
 -- r is the number of ports, as it was read
-pub at-port : (tb : Table) (s : State) (d : Direction) (p u j r : ℕ) (x : Partner) → r ≡ ports tb → p < r → x ≡ partnerOf tb s bench d p → x ≡ At u j → AtPort tb s u j
+pub at-port : (tb : Table) (s : State) (d : Direction) (p u j r : ℕ) (x : Partner) → r ≡ ports tb → p < r → x ≡ partnerOf tb s bench d p → x ≡ At u j
+    → AtPort tb s u j
 unfolding AtPort
 at-port tb s d p u j r x q l e f = (d, p, (rw (← q) l), sym e ∙ f)

@@ -7,7 +7,7 @@ use Rattle.table.specs.Table.{Table}
 use Rattle.table.specs.Index.{Indexed}
 use Rattle.state.specs.State.{State, maxThreads, thread, isReady, withMark, withChannels}
 use Rattle.rules.specs.Holding.{settled}
-use Rattle.rules.specs.Moves.{oneUp, move, written}
+use Rattle.rules.specs.Moves.{oneUp, move, written, perform}
 use Rattle.rules.specs.Calls.{turnBy}
 use Rattle.rules.specs.declared.Move.{Move}
 use Rattle.rules.specs.declared.Move.the-variants.{LacksThread, LacksChannel}
@@ -20,8 +20,7 @@ use Rattle.rules_laws.specs.Soundness.{Sound}
 use Rattle.rules_laws.specs.Soundness.Laws.{sound-settled, sound-apart}
 use Rattle.turns.specs.Counted.{Counted}
 use Rattle.turns.specs.Counted.Laws.{counted-start, move-alike, written-settled}
-use Rattle.turns.specs.Made.{made}
-use Rattle.turns.specs.Made.Laws.{performed, turn-ends, turn-sound}
+use Rattle.turns.specs.Made.Laws.{turn-ends, turn-sound}
 use Rattle.turns.specs.TopRaised.{raisedBy, turn-used}
 use Rattle.turns.specs.Running.{Running, MoveMade, TurnTaken}
 
@@ -58,15 +57,16 @@ module _ (tb : Table) (s : State) (t : ℕ) (m : Move) (e : Counted tb s) where
 
 -- ---- a turn: s₁ after the move, s₂ with the turn moved on
 
-module _ (tb : Table) (index : List ℕ) (s : State) (t top : ℕ) (m : Move) (s₁ s₂ : State) (v k : ℕ) (w : Turn) (f : s₂ ≡ withMark s₁ 2 v) (a : MoveMade tb s t m s₁)
-    (d : m ≡ move tb s t) (i : v ≡ oneUp maxThreads t) (j : w ≡ turnBy t m) (n : k ≡ raisedBy top m) (run : Running tb index s) (used : UsedBelow s top) (l : t < 64)
+module _ (tb : Table) (index : List ℕ) (s : State) (t top : ℕ) (m : Move) (s₁ s₂ : State) (v k : ℕ) (w : Turn) (f : s₂ ≡ withMark s₁ 2 v)
+    (a : MoveMade tb s t m s₁)
+    (d : m ≡ move tb s t) (i : v ≡ oneUp maxThreads t) (j : w ≡ turnBy t m) (n : k ≡ raisedBy top m) (run : Running tb index s) (used : UsedBelow s top) (l : t < maxThreads)
     (r : isReady (thread s t) ≡ true) where
   -- the move in what the state stands for
   same-move : m ≡ move tb (settled tb s) t
   same-move = d ∙ move-alike tb s (run .counted) t
 
-  after-move : settled tb s₁ ≡ made tb (settled tb s) t (move tb (settled tb s) t)
-  after-move = a .after ∙ performed tb (settled tb s) (settled-again tb s) t m ∙ rw same-move
+  after-move : settled tb s₁ ≡ perform tb (settled tb s) t (move tb (settled tb s) t)
+  after-move = a .after ∙ rw same-move
 
   after-turn : settled tb s₂ ≡ withMark (settled tb s₁) 2 v
   after-turn = rw f (settled-mark tb s₁ 2 v)
@@ -81,7 +81,7 @@ module _ (tb : Table) (index : List ℕ) (s : State) (t top : ℕ) (m : Move) (s
 
   pub turn-taken : TurnTaken tb index s t (record { turn = w; decided = m; top = k }) s₂
   turn-taken = record {
-    ends = turn-ends tb (settled tb s) t m (settled tb s₁) (settled tb s₂) w v after-turn after-move same-move i j;
+    ends = turn-ends tb (settled tb s) (settled-again tb s) t m (settled tb s₁) (settled tb s₂) w v after-turn after-move same-move i j;
     decided = same-move;
     running = record { accepted = run .accepted; indexed = run .indexed; counted = counted-mark tb s₁ s₂ 2 v (a .counted) f; sound = still-sound };
     used = still-used;
