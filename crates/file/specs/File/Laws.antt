@@ -18,7 +18,7 @@ use Rattle.numbers.specs.Laid.Laws.{laid-put, getD-laid, length-laid, getD-unla
 use Rattle.text.specs.Text.{fieldOf, readNumber}
 use Rattle.text.specs.declared.Reading.{Reading}
 use Rattle.text.specs.declared.Reading.the-variants.{Value, Wrong}
-use Rattle.file.specs.File.{isValue, valueOf, lineCount, notLines, fieldIsNumber, wellFormed, malformed, numberAt, rowAt, fileTable, numberIn}
+use Rattle.file.specs.File.{lineLength, isValue, valueOf, lineCount, notLines, fieldIsNumber, wellFormed, malformed, numberAt, rowAt, fileTable, numberIn}
 
 module _ (file : List ℕ) (line : ℕ) where
   number-in : (column : ℕ) → column < 12 → numberIn file (line * 12 + column) ≡ numberAt file line column
@@ -40,7 +40,8 @@ module _ (file : List ℕ) (line : ℕ) where
     unfolding fieldIsNumber isValue
     field-more v g h = every-more (fieldIsNumber file line) column true h (rw (← a, ← e, g)) refl
 
-    pub number-more : (v : ℕ) (l l′ : List ℕ) → l′ ≡ set l (line * 12 + column) v → q ≡ Value v → l ≡ laid (numberIn file) (line * 12 + column) 10380 → line < 865 → column < 12
+    pub number-more : (v : ℕ) (l l′ : List ℕ) → l′ ≡ set l (line * 12 + column) v → q ≡ Value v → l ≡ laid (numberIn file) (line * 12 + column) 10380
+        → line < 865 → column < 12
         → l′ ≡ laid (numberIn file) (line * 12 + (column + 1)) 10380
     unfolding numberAt valueOf
     number-more v l l′ d g b h k =
@@ -52,7 +53,7 @@ module _ (file : List ℕ) (line : ℕ) where
   line-begins l e = let q : line * 12 + 0 ≡ line * 12 = omega arith in rw q e
 
   module _ (column : ℕ) (h : column ≤ 12) (k : 12 ≤ column) where
-    pub line-ends : every (fieldIsNumber file line) column ≡ true → eqb (getD file (line * 73 + 72) 0) 10 ≡ wellFormed file line
+    pub line-ends : every (fieldIsNumber file line) column ≡ true → eqb (getD file (line * lineLength + 72) 0) 10 ≡ wellFormed file line
     unfolding wellFormed
     line-ends e = rw (← every-all (fieldIsNumber file line) column 12 e h k)
 
@@ -71,7 +72,8 @@ module _ (file : List ℕ) where
     unfolding malformed
     lines-more g f = first-more (malformed file) line (not w) f (rw e) g
 
-    pub laid-more : (l : List ℕ) → not w ≡ false → (w ≡ true → l ≡ laid (numberIn file) (line * 12 + 12) 10380) → l ≡ laid (numberIn file) ((line + 1) * 12) 10380
+    pub laid-more : (l : List ℕ) → not w ≡ false → (w ≡ true → l ≡ laid (numberIn file) (line * 12 + 12) 10380)
+        → l ≡ laid (numberIn file) ((line + 1) * 12) 10380
     laid-more l g f = let q : (line + 1) * 12 ≡ line * 12 + 12 = omega arith in rw q (f (not-false w g))
 
   pub laid-begins : (l : List ℕ) → l ≡ laid (numberIn file) 0 10380 → l ≡ laid (numberIn file) (0 * 12) 10380
@@ -83,18 +85,18 @@ module _ (file : List ℕ) where
 -- ---- ground 1
 
 module _ (file : List ℕ) where
-  pub none-lines : length file / 73 < 1 → true ≡ notLines file
+  pub none-lines : length file / lineLength < 1 → true ≡ notLines file
   unfolding notLines
-  none-lines h = rw (lt-leb 1 (length file / 73) h)
+  none-lines h = rw (lt-leb 1 (length file / lineLength) h)
 
-  module _ (h : 1 ≤ length file / 73) where
-    pub many-lines : 865 < length file / 73 → true ≡ notLines file
+  module _ (h : 1 ≤ length file / lineLength) where
+    pub many-lines : 865 < length file / lineLength → true ≡ notLines file
     unfolding notLines
-    many-lines k = rw (le-leb 1 (length file / 73) h, lt-leb (length file / 73) 865 k)
+    many-lines k = rw (le-leb 1 (length file / lineLength) h, lt-leb (length file / lineLength) 865 k)
 
-    pub whole-lines : length file / 73 ≤ 865 → not (eqb (length file % 73) 0) ≡ notLines file
+    pub whole-lines : length file / lineLength ≤ 865 → not (eqb (length file % lineLength) 0) ≡ notLines file
     unfolding notLines
-    whole-lines k = rw (le-leb 1 (length file / 73) h, le-leb (length file / 73) 865 k)
+    whole-lines k = rw (le-leb 1 (length file / lineLength) h, le-leb (length file / lineLength) 865 k)
 
 -- ---- the table
 

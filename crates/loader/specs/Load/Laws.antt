@@ -66,7 +66,8 @@ module _ (file t t′ : List ℕ) (v : Verdict) (e : v ≡ verdict file) where
     unfolding loaded afterVerdict
     load-length a k = rw (← e, h, ne-eqb (length t) 20760 k, a)
 
-    pub load-done : (b : List ℕ) → t′ ≡ b → (v ≡ Sound → tableOf b ≡ fileTable file) → length t ≡ 20760 → length t′ ≡ length t → ((i : ℕ) → Fits w8 (getD t′ i 0)) → outcome Done t′ ≡ loaded file t
+    pub load-done : (b : List ℕ) → t′ ≡ b → (v ≡ Sound → tableOf b ≡ fileTable file) → length t ≡ 20760 → length t′ ≡ length t
+        → ((i : ℕ) → Fits w8 (getD t′ i 0)) → outcome Done t′ ≡ loaded file t
     unfolding loaded afterVerdict
     load-done b a k m n f = rw (← e, h, eq-eqb (length t) 20760 m, ← k h, ← a, table-bytes t′ (n ∙ m) f)
 

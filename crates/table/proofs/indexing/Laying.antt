@@ -41,7 +41,8 @@ module _ (tb : Table) (p : Part) where
   module _ (h : headerInRange tb ≡ true) where
     -- ---- the starts of a part
 
-    pub starts-none : (l : List ℕ) (from : ℕ) → from ≡ startsFrom p → l ≡ laid (entry tb) (startsFrom p) indexLength → l ≡ laid (entry tb) (from + 0 + 1) indexLength
+    pub starts-none : (l : List ℕ) (from : ℕ) → from ≡ startsFrom p → l ≡ laid (entry tb) (startsFrom p) indexLength
+        → l ≡ laid (entry tb) (from + 0 + 1) indexLength
     starts-none l from e g =
         let c = header-counts tb h in
         let z : entry tb (startsFrom p) ≡ 0 =
@@ -49,7 +50,8 @@ module _ (tb : Table) (p : Part) where
         let q : from + 0 + 1 ≡ suc (startsFrom p) = omega arith in
         g ∙ rw q (laid-zero (entry tb) indexLength (startsFrom p) (omega (arith, starts-fit tb c p, starts-inside tb p)) z)
 
-    pub starts-more : (l l′ : List ℕ) (from i s v : ℕ) → l′ ≡ set l (from + i + 1) (s + v) → l ≡ laid (entry tb) (from + i + 1) indexLength → v ≡ size tb p i → s ≡ sumTo (size tb p) i
+    pub starts-more : (l l′ : List ℕ) (from i s v : ℕ) → l′ ≡ set l (from + i + 1) (s + v) → l ≡ laid (entry tb) (from + i + 1) indexLength → v ≡ size tb p i
+        → s ≡ sumTo (size tb p) i
         → from ≡ startsFrom p → i < blocks tb p → l′ ≡ laid (entry tb) (from + (i + 1) + 1) indexLength
     starts-more l l′ from i s v d a g f e k =
         let c = header-counts tb h in
@@ -59,7 +61,8 @@ module _ (tb : Table) (p : Part) where
         (sum-more (size tb p) i s v f g ∙ sym (start-sum tb p (i + 1) (omega arith)) ∙ sym (entry-start tb p (i + 1) (omega (arith, starts-fit tb c p)))) in
         d ∙ rw (a, q, m, w) (laid-put (entry tb) indexLength (startsFrom p + (i + 1)) (omega (arith, starts-fit tb c p, starts-inside tb p)))
 
-    pub starts-all : (l : List ℕ) (from n i : ℕ) → from ≡ startsFrom p → n ≡ blocks tb p → i ≤ n → n ≤ i → l ≡ laid (entry tb) (from + i + 1) indexLength → l ≡ laid (entry tb) (startsFrom p + startsRoom p) indexLength
+    pub starts-all : (l : List ℕ) (from n i : ℕ) → from ≡ startsFrom p → n ≡ blocks tb p → i ≤ n → n ≤ i → l ≡ laid (entry tb) (from + i + 1) indexLength
+        → l ≡ laid (entry tb) (startsFrom p + startsRoom p) indexLength
     starts-all l from n i e b j k a =
         let c = header-counts tb h in
         let f = starts-fit tb c p in
@@ -91,7 +94,8 @@ module _ (tb : Table) (p : Part) where
 
     -- ---- the owners of a part
 
-    pub owners-none : (l : List ℕ) (from : ℕ) → from ≡ ownersFrom p → l ≡ laid (entry tb) (ownersFrom p) indexLength → l ≡ laid (entry tb) (from + 0) indexLength
+    pub owners-none : (l : List ℕ) (from : ℕ) → from ≡ ownersFrom p → l ≡ laid (entry tb) (ownersFrom p) indexLength
+        → l ≡ laid (entry tb) (from + 0) indexLength
     owners-none l from e g = let q : from + 0 ≡ ownersFrom p = omega arith in rw q g
 
     pub owners-start : first (endsPast tb p 0) 0 ≡ 0
@@ -107,7 +111,8 @@ module _ (tb : Table) (p : Part) where
     owners-below x r e = rw e (first-le (endsPast tb p x) (blocks tb p))
 
     module _ (room : 0 < ownersRoom p) (from : ℕ) (e : from ≡ ownersFrom p) where
-      pub owners-more : (l l′ : List ℕ) (x r : ℕ) → l′ ≡ set l (from + x) r → l ≡ laid (entry tb) (from + x) indexLength → r ≡ first (endsPast tb p x) (blocks tb p) → x < lines tb p
+      pub owners-more : (l l′ : List ℕ) (x r : ℕ) → l′ ≡ set l (from + x) r → l ≡ laid (entry tb) (from + x) indexLength
+          → r ≡ first (endsPast tb p x) (blocks tb p) → x < lines tb p
           → l′ ≡ laid (entry tb) (from + (x + 1)) indexLength
       unfolding owner
       owners-more l l′ x r d a f k =
@@ -117,7 +122,8 @@ module _ (tb : Table) (p : Part) where
           let m : r ≡ entry tb (ownersFrom p + x) = sym (entry-owner tb p x (omega arith) ∙ o) in
           d ∙ rw (w, a, e, m) (laid-put (entry tb) indexLength (ownersFrom p + x) (omega (arith, owners-inside tb p)))
 
-      pub owners-all : (l : List ℕ) (n x : ℕ) → n ≡ lines tb p → x ≤ n → n ≤ x → l ≡ laid (entry tb) (from + x) indexLength → l ≡ laid (entry tb) (ownersFrom p + ownersRoom p) indexLength
+      pub owners-all : (l : List ℕ) (n x : ℕ) → n ≡ lines tb p → x ≤ n → n ≤ x → l ≡ laid (entry tb) (from + x) indexLength
+          → l ≡ laid (entry tb) (ownersFrom p + ownersRoom p) indexLength
       owners-all l n x b j k a =
           let fit = lines-fit tb (header-counts tb h) p room in
           a ∙ laid-skip (entry tb) indexLength (from + x) (ownersFrom p + ownersRoom p) (omega arith) (owners-inside tb p)
@@ -126,10 +132,12 @@ module _ (tb : Table) (p : Part) where
 
 -- the first rows are laid behind the owners
 module _ (tb : Table) where
-  row-laid : (l l′ : List ℕ) (p v : ℕ) → p < indexLength → v ≡ entry tb p → l ≡ laid (entry tb) p indexLength → l′ ≡ set l p v → l′ ≡ laid (entry tb) (suc p) indexLength
+  row-laid : (l l′ : List ℕ) (p v : ℕ) → p < indexLength → v ≡ entry tb p → l ≡ laid (entry tb) p indexLength → l′ ≡ set l p v
+      → l′ ≡ laid (entry tb) (suc p) indexLength
   row-laid l l′ p v h e a d = d ∙ rw (a, e) (laid-put (entry tb) indexLength p h)
 
-  pub rows-laid : (l l₁ l₂ l₃ l₄ : List ℕ) (d s n b : ℕ) → l₄ ≡ set l₃ 806 b → l₃ ≡ set l₂ 805 n → l₂ ≡ set l₁ 804 s → l₁ ≡ set l 803 d → l ≡ laid (entry tb) 803 indexLength
+  pub rows-laid : (l l₁ l₂ l₃ l₄ : List ℕ) (d s n b : ℕ) → l₄ ≡ set l₃ 806 b → l₃ ≡ set l₂ 805 n → l₂ ≡ set l₁ 804 s → l₁ ≡ set l 803 d
+      → l ≡ laid (entry tb) 803 indexLength
       → d ≡ definitionRow tb → s ≡ slotRow tb → n ≡ nodeRow tb → b ≡ branchRow tb → l₄ ≡ laid (entry tb) indexLength indexLength
   rows-laid l l₁ l₂ l₃ l₄ d s n b e₄ e₃ e₂ e₁ e f g h i =
       row-laid l₃ l₄ 806 b (omega arith) (i ∙ sym (entry-branch-row tb))

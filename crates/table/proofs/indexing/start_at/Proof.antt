@@ -1,6 +1,6 @@
 use borrow.Author.Needs.{needs}
-use Rattle.indexing.proofs.start_at.Statement.{statement}
-use Rattle.indexing.proofs.start_at.Tie as tie
+use Rattle.table.proofs.indexing.start_at.Statement.{statement}
+use Rattle.table.proofs.indexing.start_at.Tie as tie
 
 pub start-at-spec : {M : Type 1} → statement M
 start-at-spec =

@@ -1,13 +1,13 @@
--- `indexing::seek` meets its contract. The loop: no block passed ends past x. Assumes nothing.
+-- `table::indexing::seek` meets its contract. The loop: no block passed ends past x. Assumes nothing.
 use Prim.Native.Nat.{_≤_, _<_, _-_}
 use mathlib.Core.Path.{_≡_}
 use borrow.Author.Needs.{needs}
 use Rattle.numbers.specs.Search.{first}
 use Rattle.table.specs.Table.{tableOf}
 use Rattle.table.specs.Layout.{blocks, endsPast}
-use Rattle.indexing.proofs.Laying.{seek-hit, seek-more, seek-all}
-use Rattle.indexing.proofs.seek.Statement.{statement}
-use Rattle.indexing.proofs.seek.Tie as tie
+use Rattle.table.proofs.indexing.Laying.{seek-hit, seek-more, seek-all}
+use Rattle.table.proofs.indexing.seek.Statement.{statement}
+use Rattle.table.proofs.indexing.seek.Tie as tie
 
 abbrev Inv-loop : tie.InvT-loop
 Inv-loop table index part from x n i₀ i =

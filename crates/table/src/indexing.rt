@@ -5,20 +5,20 @@ ghost use Prim.Native.Nat.{_+_, _≤_, _<_};
 ghost use lib.ListN.{getD, replicate};
 ghost use Rattle.numbers.specs.Search.{first};
 ghost use Rattle.numbers.specs.Laid.{laid};
 ghost use Rattle.table.specs.Table.{tableOf};
 ghost use Rattle.table.specs.Layout.{blocks, endsPast};
 ghost use Rattle.table.specs.Form.{headerInRange};
 ghost use Rattle.table.specs.Index.{startsFrom, startsRoom, ownersFrom, ownersRoom, rowsFrom, indexLength, indexOf, entry, Starts};
-use table::Part;
-use table::block_size;
-use table::blocks_of;
-use table::branch_row;
-use table::definition_row;
-use table::lines_of;
-use table::node_row;
-use table::owners_from;
-use table::slot_row;
-use table::starts_from;
+use super::Part;
+use super::block_size;
+use super::blocks_of;
+use super::branch_row;
+use super::definition_row;
+use super::lines_of;
+use super::node_row;
+use super::owners_from;
+use super::slot_row;
+use super::starts_from;
 
 // Start i of a part, from the index.
 fn start_at(index: &[u32], part: Part, i: u32) -> u32
@@ -82,10 +82,10 @@ fn lay_rows(table: &[u8], index: &mut [u32])
     requires { ⌜ now index ≡ laid (entry (tableOf (now table))) rowsFrom indexLength ⌝ }
     ensures { λ _. ⌜ now (index .exit) ≡ laid (entry (tableOf (now (table .entry)))) indexLength indexLength ⌝ }
 {
-    numbers::put_cell(index, table::DEFINITION_ROW, definition_row(table) as u32);
-    numbers::put_cell(index, table::SLOT_ROW, slot_row(table) as u32);
-    numbers::put_cell(index, table::NODE_ROW, node_row(table) as u32);
-    numbers::put_cell(index, table::BRANCH_ROW, branch_row(table) as u32);
+    numbers::put_cell(index, super::DEFINITION_ROW, definition_row(table) as u32);
+    numbers::put_cell(index, super::SLOT_ROW, slot_row(table) as u32);
+    numbers::put_cell(index, super::NODE_ROW, node_row(table) as u32);
+    numbers::put_cell(index, super::BRANCH_ROW, branch_row(table) as u32);
 }
 
 // The index of a table whose header is in range, into a slice of zeros.

@@ -1,7 +1,7 @@
-use Rattle.indexing.proofs.Laying.{index-none, index-whole}
+use Rattle.table.proofs.indexing.Laying.{index-none, index-whole}
 use borrow.Author.Needs.{needs}
-use Rattle.indexing.proofs.fill_index.Statement.{statement}
-use Rattle.indexing.proofs.fill_index.Tie as tie
+use Rattle.table.proofs.indexing.fill_index.Statement.{statement}
+use Rattle.table.proofs.indexing.fill_index.Tie as tie
 
 pub fill-index-spec : {M : Type 1} → statement M
 fill-index-spec =

@@ -1,16 +1,16 @@
--- `indexing::lay_owners` meets its contract. The loop: the owners below x are laid, and no block before the present one ends past x. Assumes nothing.
+-- `table::indexing::lay_owners` meets its contract. The loop: the owners below x are laid, and no block before the present one ends past x. Assumes nothing.
 use Prim.Native.Nat.{_+_, _≤_, _<_, _-_}
 use mathlib.Core.Path.{_≡_}
 use borrow.Author.Needs.{needs}
 use lib.ListN.{length}
 use Rattle.numbers.specs.Search.{first}
 use Rattle.table.specs.Table.{tableOf}
 use Rattle.table.specs.Layout.{blocks, lines, endsPast}
 use Rattle.table.specs.Index.{ownersFrom, entry, indexLength}
 use Rattle.numbers.specs.Laid.{laid}
-use Rattle.indexing.proofs.Laying.{starts-there, owners-start, owners-none, owners-below, owners-next, owners-more, owners-all}
-use Rattle.indexing.proofs.lay_owners.Statement.{statement}
-use Rattle.indexing.proofs.lay_owners.Tie as tie
+use Rattle.table.proofs.indexing.Laying.{starts-there, owners-start, owners-none, owners-below, owners-next, owners-more, owners-all}
+use Rattle.table.proofs.indexing.lay_owners.Statement.{statement}
+use Rattle.table.proofs.indexing.lay_owners.Tie as tie
 
 abbrev Inv-loop : tie.InvT-loop
 Inv-loop table index₀ part n from block₀ x₀ index block x =

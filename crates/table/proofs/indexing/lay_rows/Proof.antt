@@ -1,7 +1,7 @@
-use Rattle.indexing.proofs.Laying.{rows-laid}
+use Rattle.table.proofs.indexing.Laying.{rows-laid}
 use borrow.Author.Needs.{needs}
-use Rattle.indexing.proofs.lay_rows.Statement.{statement}
-use Rattle.indexing.proofs.lay_rows.Tie as tie
+use Rattle.table.proofs.indexing.lay_rows.Statement.{statement}
+use Rattle.table.proofs.indexing.lay_rows.Tie as tie
 
 pub lay-rows-spec : {M : Type 1} → statement M
 lay-rows-spec =

@@ -1,16 +1,16 @@
--- `indexing::lay_starts` meets its contract. The loop: the starts up to block i are laid, and the sum is that of the sizes so far. Assumes nothing.
+-- `table::indexing::lay_starts` meets its contract. The loop: the starts up to block i are laid, and the sum is that of the sizes so far. Assumes nothing.
 use Prim.Native.Nat.{_+_, _*_, _≤_, _<_, _-_}
 use mathlib.Core.Path.{_≡_}
 use borrow.Author.Needs.{needs}
 use lib.ListN.{length}
 use Rattle.numbers.specs.Search.{sumTo}
 use Rattle.table.specs.Table.{tableOf}
 use Rattle.table.specs.Layout.{blocks, size}
 use Rattle.table.specs.Index.{startsFrom, entry, indexLength}
 use Rattle.numbers.specs.Laid.{laid}
-use Rattle.indexing.proofs.Laying.{sizes-none, sizes-more, starts-none, starts-more, starts-all}
-use Rattle.indexing.proofs.lay_starts.Statement.{statement}
-use Rattle.indexing.proofs.lay_starts.Tie as tie
+use Rattle.table.proofs.indexing.Laying.{sizes-none, sizes-more, starts-none, starts-more, starts-all}
+use Rattle.table.proofs.indexing.lay_starts.Statement.{statement}
+use Rattle.table.proofs.indexing.lay_starts.Tie as tie
 
 abbrev Inv-loop : tie.InvT-loop
 Inv-loop table index₀ part n from sum₀ i₀ index sum i =
