@@ -63,12 +63,6 @@ module _ (r t : Bool) (e : r ≡ t) where
 
 -- x was tested against what a call answered, y
 module _ (r x y : ℕ) (e : r ≡ y) where
-  pub eq-via : x ≡ r → eqb x y ≡ true
-  eq-via h = eq-eqb x y (h ∙ e)
-
-  pub ne-via : (x ≡ r → ⊥) → eqb x y ≡ false
-  ne-via h = ne-eqb x y (λ q. h (q ∙ sym e))
-
   pub lt-via : x < r → ltb x y ≡ true
   lt-via h = lt-ltb x y (rw e at h)
 

@@ -47,8 +47,7 @@ all-read b l i a e f h =
 
 -- all words of a state are written
 pub all-written : (b l : List ℕ) (i : ℕ) → Agree (words b) l i → length b ≡ stateLength → ((j : ℕ) → Fits w8 (getD b j 0)) → length l ≡ stateWords
-    → stateWords ≤ i
-    → b ≡ stateBytes (stateOf l)
+    → stateWords ≤ i → b ≡ stateBytes (stateOf l)
 unfolding Agree
 all-written b l i a e g f h =
     let w = words-long b e in

@@ -273,8 +273,7 @@ module _ (l : List ℕ) (six-long : length l ≡ 6) where
 
 -- six stores, one after the other
 pub columns-laid : (l : List ℕ) (at a b c d e f : ℕ) (n : Bool) (m : ℕ) → a ≡ letterOf n (m / 100000) (m / 10000) → b ≡ letterOf n (m / 10000) (m / 1000)
-    → c ≡ letterOf n (m / 1000) (m / 100)
-    → d ≡ letterOf n (m / 100) (m / 10) → e ≡ letterOf n (m / 10) 1 → f ≡ 48 + m % 10
+    → c ≡ letterOf n (m / 1000) (m / 100) → d ≡ letterOf n (m / 100) (m / 10) → e ≡ letterOf n (m / 10) 1 → f ≡ 48 + m % 10
     → set (set (set (set (set (set l at a) (at + 1) b) (at + 2) c) (at + 3) d) (at + 4) e) (at + 5) f ≡ sets l at (columns n m)
 unfolding columns
 columns-laid l at a b c d e f n m p q r s t u =

@@ -51,8 +51,7 @@ module _ (tb : Table) (p : Part) where
         g ∙ rw q (laid-zero (entry tb) indexLength (startsFrom p) (omega (arith, starts-fit tb c p, starts-inside tb p)) z)
 
     pub starts-more : (l l′ : List ℕ) (from i s v : ℕ) → l′ ≡ set l (from + i + 1) (s + v) → l ≡ laid (entry tb) (from + i + 1) indexLength → v ≡ size tb p i
-        → s ≡ sumTo (size tb p) i
-        → from ≡ startsFrom p → i < blocks tb p → l′ ≡ laid (entry tb) (from + (i + 1) + 1) indexLength
+        → s ≡ sumTo (size tb p) i → from ≡ startsFrom p → i < blocks tb p → l′ ≡ laid (entry tb) (from + (i + 1) + 1) indexLength
     starts-more l l′ from i s v d a g f e k =
         let c = header-counts tb h in
         let q : from + i + 1 ≡ startsFrom p + (i + 1) = omega arith in
@@ -112,8 +111,7 @@ module _ (tb : Table) (p : Part) where
 
     module _ (room : 0 < ownersRoom p) (from : ℕ) (e : from ≡ ownersFrom p) where
       pub owners-more : (l l′ : List ℕ) (x r : ℕ) → l′ ≡ set l (from + x) r → l ≡ laid (entry tb) (from + x) indexLength
-          → r ≡ first (endsPast tb p x) (blocks tb p) → x < lines tb p
-          → l′ ≡ laid (entry tb) (from + (x + 1)) indexLength
+          → r ≡ first (endsPast tb p x) (blocks tb p) → x < lines tb p → l′ ≡ laid (entry tb) (from + (x + 1)) indexLength
       unfolding owner
       owners-more l l′ x r d a f k =
           let fit = lines-fit tb (header-counts tb h) p room in
