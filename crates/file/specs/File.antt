@@ -6,13 +6,11 @@ use mathlib.Core.List.{List}
 use lib.Dec.{ltb, leb, eqb}
 use lib.ListN.{length, getD, replicate}
 use Rattle.numbers.specs.Search.{every, tabulate}
+pub use Rattle.text.specs.Text.{lineLength}
 use Rattle.text.specs.Text.{fieldOf, readNumber}
 use Rattle.text.specs.declared.Reading.{Reading}
 use Rattle.text.specs.declared.Reading.the-variants.{Value, Wrong}
 use Rattle.table.specs.Table.{Table, maxRows, rowNumbers}
-
-abbrev pub lineLength : ℕ
-lineLength = 73
 
 -- whether a field is a number, and which; 0 where it is none
 unfoldable pub isValue : Reading → Bool

@@ -10,8 +10,8 @@ ghost use Rattle.table.specs.Table.{maxRows, rowNumbers, tableNumbers};
 ghost use Rattle.file.specs.File.{lineLength, notLines, wellFormed, malformed, numberIn};
 use text::Reading;
 
-// The characters of a line: twelve fields and a newline.
-pub const LINE: usize = 73;
+// The characters of a line.
+pub const LINE: usize = text::LINE;
 
 // The fields of a line, laid into the table behind the fields of the lines before; whether all of the line is well formed.
 fn read_line(file: &[u8], table: &mut [u8], line: usize) -> bool

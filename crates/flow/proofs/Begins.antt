@@ -9,7 +9,7 @@ use lib.ListN.{set, replicate}
 use borrow.Author.Tests.{eq-eqb, ne-eqb, le-leb}
 use Rattle.numbers.specs.Search.{tabulate}
 use Rattle.numbers.specs.Search.Laws.{caseB, sum-none, tabulate-none, tabulate-suc, tabulate-cong}
-use Rattle.table.specs.Table.{Table, nodes, parameters}
+use Rattle.table.specs.Table.{Table, maxNodes, nodes, parameters}
 use Rattle.table.specs.Layout.{blocks, lines, size, start, definitionOf}
 use Rattle.table.specs.Form.Laws.{header-counts}
 use Rattle.table.specs.Index.{Indexed}
@@ -18,7 +18,7 @@ use Rattle.numbers.specs.Laid.{laid}
 use Rattle.numbers.specs.Laid.Laws.{laid-none, laid-put, laid-skip, laid-all}
 use Rattle.table.specs.declared.Part.{Part}
 use Rattle.table.specs.declared.Part.the-variants.{Nodes}
-use Rattle.flow.specs.Flow.{begins, beginning}
+use Rattle.flow.specs.Flow.{markCount, begins, beginning}
 use Rattle.flow.specs.Marks.{bit, bits, marksOf, marksFrom, seed}
 use Rattle.flow.specs.Marks.Laws.{bit-none, bits-from}
 
@@ -46,25 +46,26 @@ module _ (tb : Table) where
   unfolding seed lines
   seed-past n h k = rw (owner-past tb Nodes n k, start-zero Nodes, ne-eqb n 0 (λ e. omega arith))
 
-  bits-seed : (n : ℕ) → bits (seed tb n) ≡ tabulate 17 (begins tb n)
+  bits-seed : (n : ℕ) → bits (seed tb n) ≡ tabulate markCount (begins tb n)
   unfolding seed begins bits
   bits-seed n = caseB (eqb n (start tb Nodes (definitionOf tb n)))
-      (λ t. rw t (bits-from (parameters tb (definitionOf tb n)) ∙ tabulate-cong 17 (leb (parameters tb (definitionOf tb n))) (begins tb n) (λ k l. rw t)))
-      (λ f. rw f (tabulate-cong 17 (bit 0) (begins tb n) (λ k l. bit-none k ∙ rw f)))
+      (λ t. rw t (bits-from (parameters tb (definitionOf tb n)) ∙ tabulate-cong markCount (leb (parameters tb (definitionOf tb n))) (begins tb n) (λ k l. rw t)))
+      (λ f. rw f (tabulate-cong markCount (bit 0) (begins tb n) (λ k l. bit-none k ∙ rw f)))
 
-  pub begin-none : (l : List ℕ) → l ≡ replicate 192 0 → l ≡ laid (seed tb) 0 192
-  begin-none l e = e ∙ sym (laid-none (seed tb) 192)
+  pub begin-none : (l : List ℕ) → l ≡ replicate maxNodes 0 → l ≡ laid (seed tb) 0 maxNodes
+  begin-none l e = e ∙ sym (laid-none (seed tb) maxNodes)
 
   module _ (x : List ℕ) (g : Indexed tb x) where
-    pub begin-more : (l l′ : List ℕ) (n c : ℕ) → l ≡ laid (seed tb) n 192 → l′ ≡ set l n (seed tb n) → c ≡ nodes tb → n < c → l′ ≡ laid (seed tb) (n + 1) 192
+    pub begin-more : (l l′ : List ℕ) (n c : ℕ) → l ≡ laid (seed tb) n maxNodes → l′ ≡ set l n (seed tb n) → c ≡ nodes tb → n < c
+        → l′ ≡ laid (seed tb) (n + 1) maxNodes
     begin-more l l′ n c e f q h =
         let o = header-counts tb (g .counts) in
-        rw (add-one n, f, e) (laid-put (seed tb) 192 n (omega arith))
+        rw (add-one n, f, e) (laid-put (seed tb) maxNodes n (omega arith))
 
-    pub begin-all : (l : List ℕ) (n c : ℕ) → l ≡ laid (seed tb) n 192 → c ≡ nodes tb → n ≤ c → c ≤ n → marksOf l ≡ beginning tb
+    pub begin-all : (l : List ℕ) (n c : ℕ) → l ≡ laid (seed tb) n maxNodes → c ≡ nodes tb → n ≤ c → c ≤ n → marksOf l ≡ beginning tb
     unfolding marksOf beginning
     begin-all l n c e q h k =
         let o = header-counts tb (g .counts) in
-        let s : laid (seed tb) n 192 ≡ laid (seed tb) 192 192 = laid-skip (seed tb) 192 n 192 (omega arith) (omega arith) (λ i j m. seed-past i (omega arith) (omega arith)) in
-        rw (e, s, laid-all (seed tb) 192, map-tabulate bits 192 (seed tb))
-        (tabulate-cong 192 (λ i. bits (seed tb i)) (λ i. tabulate 17 (begins tb i)) (λ i j. bits-seed i))
+        let s : laid (seed tb) n maxNodes ≡ laid (seed tb) maxNodes maxNodes = laid-skip (seed tb) maxNodes n maxNodes (omega arith) (omega arith) (λ i j m. seed-past i (omega arith) (omega arith)) in
+        rw (e, s, laid-all (seed tb) maxNodes, map-tabulate bits maxNodes (seed tb))
+        (tabulate-cong maxNodes (λ i. bits (seed tb i)) (λ i. tabulate markCount (begins tb i)) (λ i j. bits-seed i))

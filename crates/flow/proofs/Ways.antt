@@ -18,7 +18,7 @@ use Rattle.table.specs.Index.{Indexed}
 use Rattle.table.specs.declared.Part.the-variants.{Nodes, Branches}
 use Rattle.table.specs.declared.Role.{Role}
 use Rattle.flow.specs.Flow.Laws.{length-flow}
-use Rattle.flow.specs.Flow.{Marks, slotWritten, pastWrite, arrive, beginning, branchFollowed, branchesFollowed, flowTo, flow}
+use Rattle.flow.specs.Flow.{Marks, markCount, slotWritten, pastWrite, arrive, beginning, branchFollowed, branchesFollowed, flowTo, flow}
 use Rattle.flow.specs.Marks.{bits, marksOf}
 
 -- ---- the slot that a branch writes
@@ -33,7 +33,7 @@ module _ (tb : Table) (r : ℕ) (a : Role) (t : Bool) (e : a ≡ operandRole tb 
     unfolding slotWritten
     slot-second s k h = rw (← e, ← f, g, ← i, ← j, k) h
 
-    pub slot-none : u ≡ false → 17 ≡ slotWritten tb r
+    pub slot-none : u ≡ false → markCount ≡ slotWritten tb r
     unfolding slotWritten
     slot-none k = rw (← e, ← f, g, ← i, ← j, k)
 
@@ -46,8 +46,8 @@ module _ (tb : Table) (f r a k w : ℕ) (m p : List Bool) (ms ms₁ : Marks) whe
   unfolding branchFollowed
   branch-next h j e g i n = i ∙ rw (← j, ne-eqb k 4 n, ← e, ← g, h)
 
-  pub branch-spawn : (b : ℕ) (ms₂ : Marks) → b ≡ at tb r Field.child → a ≡ at tb r Field.next → k ≡ at tb r Field.action → w ≡ slotWritten tb r → p ≡ pastWrite w m
-      → ms₁ ≡ arrive ms (f + a) p → ms₂ ≡ arrive ms₁ (f + b) p → k ≡ 4 → ms₂ ≡ branchFollowed tb f m r ms
+  pub branch-spawn : (b : ℕ) (ms₂ : Marks) → b ≡ at tb r Field.child → a ≡ at tb r Field.next → k ≡ at tb r Field.action → w ≡ slotWritten tb r
+      → p ≡ pastWrite w m → ms₁ ≡ arrive ms (f + a) p → ms₂ ≡ arrive ms₁ (f + b) p → k ≡ 4 → ms₂ ≡ branchFollowed tb f m r ms
   unfolding branchFollowed
   branch-spawn b ms₂ q h j e g i s n = s ∙ rw (i, ← j, n, ← e, ← g, h, q)
 
@@ -63,7 +63,8 @@ module _ (tb : Table) (n : ℕ) (m : List Bool) (ms : Marks) where
   unfolding branchesFollowed
   branches-more i f row ms₁ ms₂ e g h j = j ∙ rw (h, e, g, add-one i, add-assoc (branchRow tb) (start tb Branches n) i)
 
-  pub branches-all : (i c : ℕ) (ms₁ : Marks) → ms₁ ≡ branchesFollowed tb n m ms i → c ≡ branchCount tb n → i ≤ c → c ≤ i → ms₁ ≡ branchesFollowed tb n m ms (branchCount tb n)
+  pub branches-all : (i c : ℕ) (ms₁ : Marks) → ms₁ ≡ branchesFollowed tb n m ms i → c ≡ branchCount tb n → i ≤ c → c ≤ i
+      → ms₁ ≡ branchesFollowed tb n m ms (branchCount tb n)
   branches-all i c ms₁ e g h j = let q : branchCount tb n ≡ i = omega arith in rw q e
 
 -- ---- the nodes

@@ -29,7 +29,8 @@ module _ (tb : Table) (p : Part) where
     unfolding lossOf
     losses-more f h = sum-more (lossOf tb p) i s g f (h ∙ rw e)
 
-  pub agrees-is : (n i g l m : ℕ) → n ≡ blocks tb p → i ≤ n → n ≤ i → g ≡ sumTo (gainOf tb p) i → l ≡ sumTo (lossOf tb p) i → m ≡ lines tb p → eqb g (m + l) ≡ sumAgrees tb p
+  pub agrees-is : (n i g l m : ℕ) → n ≡ blocks tb p → i ≤ n → n ≤ i → g ≡ sumTo (gainOf tb p) i → l ≡ sumTo (lossOf tb p) i → m ≡ lines tb p
+      → eqb g (m + l) ≡ sumAgrees tb p
   unfolding sumAgrees
   agrees-is n i g l m e h k a b d = let q : i ≡ blocks tb p = omega arith in rw (a, b, d, q)
 

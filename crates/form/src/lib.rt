@@ -66,19 +66,12 @@ fn kind_due(table: &[u8], row: usize) -> u32
     6
 }
 
-// Whether a row has another kind than the header's counts give it.
-fn kind_wrong(table: &[u8], row: usize) -> bool
-    ensures { λ r. ⌜ r ≡ kindWrong (tableOf (now (table .entry))) row ⌝ }
-{
-    cell(table, row, field::KIND) != kind_due(table, row)
-}
-
-// The first of n rows whose kind is wrong; n where there is none.
+// The first of n rows that has another kind than the header's counts give it; n where there is none.
 pub fn first_kind_wrong(table: &[u8], n: usize) -> usize
     ensures { λ r. ⌜ r ≡ first (kindWrong (tableOf (now (table .entry)))) n ⌝ }
 {
     for row in 0..n {
-        if kind_wrong(table, row) {
+        if cell(table, row, field::KIND) != kind_due(table, row) {
             return row;
         }
     }

@@ -101,7 +101,7 @@ fn judge(table: &[u8], index: &mut [u32], n: usize) -> Verdict
     if !form::sums_agree(table) {
         return Verdict::Fault(Ground::Sums, 1);
     }
-    indexing::fill_index(table, index);
+    table::indexing::fill_index(table, index);
     judge_rows(table, index, n)
 }
 

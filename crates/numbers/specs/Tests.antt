@@ -14,6 +14,10 @@ module _ {A : Type 0} (t : Bool) (r a b : A) where
   pub cond-no : t ≡ false → r ≡ b → r ≡ cond t a b
   cond-no e f = rw e f
 
+-- two constructors that differ are not equal: an equation of them gives one of 0 and 1
+pub clash {ℓ} : {A : Type ℓ} → _≡_ {A = ℕ} 0 1 → A
+clash e = absurd (let h : ⊥ = omega arith in h)
+
 -- the parts of a conjunction
 pub and-left : (a b : Bool) → (a && b) ≡ true → a ≡ true
 and-left true b e = refl
@@ -21,7 +25,7 @@ and-left false b e = e
 
 pub and-right : (a b : Bool) → (a && b) ≡ true → b ≡ true
 and-right true b e = e
-and-right false b e = absurd (let z : _≡_ {A = ℕ} 0 1 = cc in let h : ⊥ = omega arith in h)
+and-right false b e = clash cc
 
 pub ruleset parts = (and-left, and-right)
 
@@ -59,12 +63,6 @@ module _ (r t : Bool) (e : r ≡ t) where
 
 -- x was tested against what a call answered, y
 module _ (r x y : ℕ) (e : r ≡ y) where
-  pub eq-via : x ≡ r → eqb x y ≡ true
-  eq-via h = eq-eqb x y (h ∙ e)
-
-  pub ne-via : (x ≡ r → ⊥) → eqb x y ≡ false
-  ne-via h = ne-eqb x y (λ q. h (q ∙ sym e))
-
   pub lt-via : x < r → ltb x y ≡ true
   lt-via h = lt-ltb x y (rw e at h)
 

@@ -1,29 +1,63 @@
 -- The ways out of the tests of a row's ranges, by what the calls answered. Assumes nothing.
 use Prim.Native.Nat.{ℕ, _+_, _-_, _≤_, _<_}
-use mathlib.Core.Path.{_≡_, _∙_}
+use native.Mathlib.Omega.{arith}
+use mathlib.Core.Path.{_≡_, sym, _∙_}
 use mathlib.Core.Bool.{Bool, true, false, not}
-use lib.Dec.{eqb}
-use borrow.Author.Tests.{not-true, not-false, lt-ltb, le-ltb, ne-eqb}
+use lib.Dec.{eqb, ltb}
+use borrow.Author.Tests.{not-true, not-false, lt-ltb, le-ltb, eq-eqb, ne-eqb}
 use Rattle.numbers.specs.Rows.{at}
 use Rattle.numbers.specs.Search.{every, first}
-use Rattle.numbers.specs.Search.Laws.{first-more, first-hit}
+use Rattle.numbers.specs.Search.Laws.{every-more, every-not, every-intro, every-elim, first-more, first-hit}
 use Rattle.table.specs.Fields as Field
-use Rattle.table.specs.Table.{Table, maxParameters, maxOwnSlots, maxOwnNodes, maxOwnBranches, types, definitions, nodeRow, branchRow, parameters, slotCount, nodeCount}
+use Rattle.table.specs.Table.{Table, rowNumbers, maxParameters, maxOwnSlots, maxOwnNodes, maxOwnBranches, types, definitions, nodeRow, branchRow, parameters, slotCount, nodeCount}
 use Rattle.table.specs.Layout.{start, definitionOf, nodeOf}
 use Rattle.table.specs.Form.{within}
+use Rattle.table.specs.Roles.{operandCount, operand, operandRole}
+use Rattle.table.specs.declared.Role.{Role}
 use Rattle.table.specs.declared.Part.the-variants.{Nodes}
-use Rattle.ranges.specs.Ranges.{ahead, unusedFrom, restUnused, typeInRange, definitionInRange, argumentInRange, callInRange, nodeInRange, operandInRange, targetsInRange, branchInRange, rowInRange, outOfRange}
+use Rattle.ranges.specs.Ranges.{roleInRange, ahead, unusedFrom, restUnused, typeInRange, definitionInRange, argumentInRange, callInRange, nodeInRange, operandInRange, targetsInRange, branchInRange, rowInRange, outOfRange}
 
 -- ---- the numbers that a row does not use
 
-module _ (tb : Table) (r k i : ℕ) where
-  pub unused-before : i < k → true ≡ unusedFrom tb r k i
+module _ (tb : Table) (r k : ℕ) where
+  -- those before the first unused one do not count
+  pub unused-none : every (unusedFrom tb r k) k ≡ true
   unfolding unusedFrom
-  unused-before h = rw (lt-ltb i k h)
+  unused-none = every-intro (unusedFrom tb r k) k (λ i h. rw (lt-ltb i k h))
 
-  pub unused-is : (a : ℕ) → a ≡ at tb r i → k ≤ i → eqb a 0 ≡ unusedFrom tb r k i
-  unfolding unusedFrom
-  unused-is a e h = rw (le-ltb i k h, e)
+  module _ (i a : ℕ) (e : a ≡ at tb r i) (h : k ≤ i) where
+    unused-is : eqb a 0 ≡ unusedFrom tb r k i
+    unfolding unusedFrom
+    unused-is = rw (le-ltb i k h, e)
+
+    pub unused-more : every (unusedFrom tb r k) i ≡ true → a ≡ 0 → every (unusedFrom tb r k) (i + 1) ≡ true
+    unused-more f g = every-more (unusedFrom tb r k) i (eqb a 0) f unused-is (eq-eqb a 0 g)
+
+    pub unused-not : (a ≡ 0 → ⊥) → i < rowNumbers → false ≡ restUnused tb r k
+    unfolding restUnused
+    unused-not n l = every-not (unusedFrom tb r k) i rowNumbers (eqb a 0) unused-is (ne-eqb a 0 n) l
+
+  pub unused-all : (i : ℕ) → every (unusedFrom tb r k) i ≡ true → rowNumbers ≤ i → true ≡ restUnused tb r k
+  unfolding restUnused
+  unused-all i e h = sym (every-intro (unusedFrom tb r k) rowNumbers (λ j l. every-elim (unusedFrom tb r k) i j e (omega arith)))
+
+-- ---- an argument, and an operand
+
+module _ (tb : Table) (r s i a : ℕ) (e : a ≡ at tb r (Field.arguments + i)) where
+  argument-is : ltb a s ≡ argumentInRange tb r s i
+  unfolding argumentInRange
+  argument-is = rw e
+
+  pub argument-more : every (argumentInRange tb r s) i ≡ true → a < s → every (argumentInRange tb r s) (i + 1) ≡ true
+  argument-more f g = every-more (argumentInRange tb r s) i (ltb a s) f argument-is (lt-ltb a s g)
+
+  pub argument-not : (n : ℕ) → s ≤ a → i < n → false ≡ every (argumentInRange tb r s) n
+  argument-not n g h = every-not (argumentInRange tb r s) i n (ltb a s) argument-is (le-ltb a s g) h
+
+pub operand-is : (tb : Table) (r s k v : ℕ) (a : Role) (t : Bool) → t ≡ roleInRange a s v → a ≡ operandRole tb r k → v ≡ operand tb r k
+    → t ≡ operandInRange tb r s k
+unfolding operandInRange
+operand-is tb r s k v a t e f g = e ∙ rw (f, g)
 
 -- ---- a type, and a slot: a names a type, of which there are m
 
@@ -69,7 +103,7 @@ module _ (tb : Table) (r s a m : ℕ) (e : a ≡ at tb r Field.callee) (f : m �
     unfolding callInRange
     call-not i = rw (← e, ← f, lt-ltb a m h, ← g, ← k, not-true t i)
 
-    pub call-rest : (u : Bool) → not t ≡ false → u ≡ restUnused tb r (3 + n) → u ≡ callInRange tb r s
+    pub call-rest : (u : Bool) → not t ≡ false → u ≡ restUnused tb r (Field.arguments + n) → u ≡ callInRange tb r s
     unfolding callInRange
     call-rest u i j = rw (← e, ← f, lt-ltb a m h, ← g, ← k, not-false t i) j
 
@@ -125,7 +159,7 @@ module _ (tb : Table) (r n d a : ℕ) (t : Bool) (e : a ≡ at tb r Field.guard)
     unfolding branchInRange
     action-out j = rw (← e, ← f, not-false t g, ← h, ← i, not-true u j)
 
-    module _ (j : not u ≡ false) (s : ℕ) (v : Bool) (k : s ≡ slotCount tb d) (l : v ≡ every (operandInRange tb r s) 5) where
+    module _ (j : not u ≡ false) (s : ℕ) (v : Bool) (k : s ≡ slotCount tb d) (l : v ≡ every (operandInRange tb r s) operandCount) where
       pub operands-out : not v ≡ true → false ≡ branchInRange tb r n d
       unfolding branchInRange
       operands-out m = rw (← e, ← f, not-false t g, ← h, ← i, not-false u j, ← k, ← l, not-true v m)

@@ -1,14 +1,14 @@
 // Ground 4 over a table whose counts ground 3 has passed: fields out of their range. A row is tested by its kind. Its node and its definition are looked
 // up once and handed down.
 ghost use mathlib.Core.Path.{_≡_};
-ghost use Prim.Native.Nat.{_≤_, _<_};
+ghost use Prim.Native.Nat.{_≤_};
 ghost use Rattle.numbers.specs.Search.{every, first};
 ghost use Rattle.table.specs.Table.{tableOf};
 ghost use Rattle.table.specs.Layout.{start};
 ghost use Rattle.table.specs.Index.{Indexed};
 ghost use Rattle.table.specs.declared.Part.the-variants.{Nodes};
 ghost use Rattle.table.specs.Roles.{operandCount};
-ghost use Rattle.ranges.specs.Ranges.{roleInRange, ahead, unusedFrom, restUnused, typeInRange, definitionInRange, argumentInRange, callInRange, nodeInRange, operandInRange, targetsInRange, branchInRange, rowInRange, outOfRange};
+ghost use Rattle.ranges.specs.Ranges.{roleInRange, ahead, restUnused, typeInRange, definitionInRange, argumentInRange, callInRange, nodeInRange, operandInRange, targetsInRange, branchInRange, rowInRange, outOfRange};
 use roles::operand_of;
 use roles::role_of;
 use table::MAX_OWN_BRANCHES;
@@ -28,22 +28,12 @@ use table::parameters_of;
 use table::slots_of;
 use table::start_of;
 
-// Whether number i of a row is 0, if it is one from number k on.
-fn unused_from(table: &[u8], row: usize, k: usize, i: usize) -> bool
-    ensures { λ r. ⌜ r ≡ unusedFrom (tableOf (now (table .entry))) row k i ⌝ }
-{
-    if i < k {
-        return true;
-    }
-    cell(table, row, i) == 0
-}
-
 // Whether the numbers of a row from number k on are 0.
 fn rest_unused(table: &[u8], row: usize, k: usize) -> bool
     ensures { λ r. ⌜ r ≡ restUnused (tableOf (now (table .entry))) row k ⌝ }
 {
-    for i in 0..table::ROW_NUMBERS {
-        if !unused_from(table, row, k, i) {
+    for i in k..table::ROW_NUMBERS {
+        if cell(table, row, i) != 0 {
             return false;
         }
     }
@@ -82,19 +72,12 @@ fn definition_in_range(table: &[u8], row: usize) -> bool
     rest_unused(table, row, 4)
 }
 
-// Whether argument i of the call in a row is a slot of the calling definition, which has s slots.
-fn argument_in_range(table: &[u8], row: usize, s: u32, i: u32) -> bool
-    ensures { λ r. ⌜ r ≡ argumentInRange (tableOf (now (table .entry))) row s i ⌝ }
-{
-    cell(table, row, field::ARGUMENTS + i as usize) < s
-}
-
 // Whether the n arguments of the call in a row are slots of the calling definition, which has s slots.
 fn arguments_in_range(table: &[u8], row: usize, s: u32, n: u32) -> bool
     ensures { λ r. ⌜ r ≡ every (argumentInRange (tableOf (now (table .entry))) row s) n ⌝ }
 {
     for i in 0..n {
-        if !argument_in_range(table, row, s, i) {
+        if s <= cell(table, row, field::ARGUMENTS + i as usize) {
             return false;
         }
     }
@@ -157,20 +140,12 @@ fn role_in_range(role: Role, s: u32, v: u32) -> bool
     }
 }
 
-// Whether operand k of the branch in a row is in the range of its role, in a definition of s slots.
-fn operand_in_range(table: &[u8], row: usize, s: u32, k: u32) -> bool
-    requires { ⌜ k < operandCount ⌝ }
-    ensures { λ r. ⌜ r ≡ operandInRange (tableOf (now (table .entry))) row s k ⌝ }
-{
-    role_in_range(role_of(table, row, k), s, operand_of(table, row, k))
-}
-
 // Whether all operands of the branch in a row are in the ranges of their roles, in a definition of s slots.
 fn operands_in_range(table: &[u8], row: usize, s: u32) -> bool
     ensures { λ r. ⌜ r ≡ every (operandInRange (tableOf (now (table .entry))) row s) operandCount ⌝ }
 {
     for k in 0..table::OPERANDS {
-        if !operand_in_range(table, row, s, k) {
+        if !role_in_range(role_of(table, row, k), s, operand_of(table, row, k)) {
             return false;
         }
     }

@@ -46,8 +46,8 @@ all-read b l i a e f h =
     let w = words-long b e in agree-all l (words b) (λ k j. a k (omega (arith, f))) (f ∙ sym w)
 
 -- all words of a state are written
-pub all-written : (b l : List ℕ) (i : ℕ) → Agree (words b) l i → length b ≡ stateLength → ((j : ℕ) → Fits w8 (getD b j 0)) → length l ≡ stateWords → stateWords ≤ i
-    → b ≡ stateBytes (stateOf l)
+pub all-written : (b l : List ℕ) (i : ℕ) → Agree (words b) l i → length b ≡ stateLength → ((j : ℕ) → Fits w8 (getD b j 0)) → length l ≡ stateWords
+    → stateWords ≤ i → b ≡ stateBytes (stateOf l)
 unfolding Agree
 all-written b l i a e g f h =
     let w = words-long b e in

@@ -10,7 +10,7 @@ use Rattle.numbers.specs.Bytes.{little}
 use Rattle.numbers.specs.Bytes.Laws.{short-is}
 use Rattle.numbers.specs.Rows.{at}
 use Rattle.table.proofs.Cells.{cell-in}
-use Rattle.table.specs.Table.{Table, tableOf, definitionRow, slotRow, nodeRow, branchRow}
+use Rattle.table.specs.Table.{Table, maxRows, rowNumbers, tableOf, definitionRow, slotRow, nodeRow, branchRow}
 use Rattle.table.specs.Bounds.{start-few}
 use Rattle.table.specs.Layout.{blocks, start, owner}
 use Rattle.table.specs.Form.Laws.{header-counts}
@@ -111,12 +111,12 @@ pub wider : (l : List ℕ) → ((i : ℕ) → Fits w32 (getD l i 0)) → (k : �
 wider l f k = record { fits = omega (arith, f k .fits) }
 
 -- a table that has an index is whole
-module _ (b l : List ℕ) (g : Indexed (tableOf b) l) (t k : ℕ) (h : t < 865) (j : k < 12) where
-  pub cell-inside : (t * 12 + k) * 2 < length b
+module _ (b l : List ℕ) (g : Indexed (tableOf b) l) (t k : ℕ) (h : t < maxRows) (j : k < rowNumbers) where
+  pub cell-inside : (t * rowNumbers + k) * 2 < length b
   cell-inside = omega (arith, whole-long b l g)
 
-  pub cell-inside-next : (t * 12 + k) * 2 + 1 < length b
+  pub cell-inside-next : (t * rowNumbers + k) * 2 + 1 < length b
   cell-inside-next = omega (arith, whole-long b l g)
 
-  pub cell-known : (r : ℕ) → r ≡ little (getD b ((t * 12 + k) * 2) 0 ∷ getD b ((t * 12 + k) * 2 + 1) 0 ∷ []) → r ≡ at (tableOf b) t k
-  cell-known r e = cell-in b t k r (short-is b (t * 12 + k) r e (omega (arith, whole-long b l g))) h j
+  pub cell-known : (r : ℕ) → r ≡ little (getD b ((t * rowNumbers + k) * 2) 0 ∷ getD b ((t * rowNumbers + k) * 2 + 1) 0 ∷ []) → r ≡ at (tableOf b) t k
+  cell-known r e = cell-in b t k r (short-is b (t * rowNumbers + k) r e (omega (arith, whole-long b l g))) h j

@@ -9,6 +9,7 @@ ghost use Rattle.table.specs.Index.{startsFrom, startsRoom, ownersFrom, 
 ghost use Rattle.table.specs.Form.{within};
 
 pub mod field;
+pub mod indexing;
 
 // A table is 865 rows of 12 numbers, each of two bytes, and is held in 20,760 bytes.
 pub const MAX_ROWS: usize = 865;

@@ -54,7 +54,8 @@ figures-four m h l =
     let f : m / 10 / 100 ≡ m / 1000 = omega arith in
     rw (figures-more m (omega arith), figures-three (m / 10) (omega arith) (omega arith), e, f)
 
-figures-five : (m : ℕ) → 10000 ≤ m → m < 100000 → figures m ≡ (48 + m / 10000 % 10) ∷ (48 + m / 1000 % 10) ∷ (48 + m / 100 % 10) ∷ (48 + m / 10 % 10) ∷ (48 + m % 10) ∷ []
+figures-five : (m : ℕ) → 10000 ≤ m → m < 100000
+    → figures m ≡ (48 + m / 10000 % 10) ∷ (48 + m / 1000 % 10) ∷ (48 + m / 100 % 10) ∷ (48 + m / 10 % 10) ∷ (48 + m % 10) ∷ []
 figures-five m h l =
     let e : m / 10 / 10 ≡ m / 100 = omega arith in
     let f : m / 10 / 100 ≡ m / 1000 = omega arith in
@@ -171,7 +172,8 @@ last-column x y = cond-self (eqb x y)
 -- ---- what the reader answers
 
 -- the figures of six columns, each read
-pub value-is : (a b c d e f p q r s t u : ℕ) → p ≡ figureOf a → q ≡ figureOf b → r ≡ figureOf c → s ≡ figureOf d → t ≡ figureOf e → u ≡ figureOf f → ((((p * 10 + q) * 10 + r) * 10 + s) * 10 + t) * 10 + u ≡ sizeFrom 0 (six a b c d e f)
+pub value-is : (a b c d e f p q r s t u : ℕ) → p ≡ figureOf a → q ≡ figureOf b → r ≡ figureOf c → s ≡ figureOf d → t ≡ figureOf e → u ≡ figureOf f
+    → ((((p * 10 + q) * 10 + r) * 10 + s) * 10 + t) * 10 + u ≡ sizeFrom 0 (six a b c d e f)
 unfolding sizeFrom
 value-is a b c d e f p q r s t u h i j k l m = rw (h, i, j, k, l, m) (omega arith)
 
@@ -260,7 +262,8 @@ one-reads a b c d e f p h t i j =
     (rw (eqb-true a 32 (z .1), eqb-true b 32 (z .0), eqb-true c 32 (y .0), eqb-true d 32 (x .0), eqb-true e 32 (w .0)) (sym (text-one (f - 48) (omega arith) ∙ rw o))))
 
 module _ (l : List ℕ) (six-long : length l ≡ 6) where
-  pub figure-reads : (p : Bool) → p ≡ blankOf (getD l 0 0) (getD l 1 0) (getD l 2 0) (getD l 3 0) (getD l 4 0) → p ≡ true → 48 ≤ getD l 5 0 → getD l 5 0 ≤ 57 → Value (getD l 5 0 - 48) ≡ readNumber l
+  pub figure-reads : (p : Bool) → p ≡ blankOf (getD l 0 0) (getD l 1 0) (getD l 2 0) (getD l 3 0) (getD l 4 0) → p ≡ true → 48 ≤ getD l 5 0 → getD l 5 0 ≤ 57
+      → Value (getD l 5 0 - 48) ≡ readNumber l
   figure-reads p h t i j = one-reads _ _ _ _ _ _ p h t i j ∙ ap readNumber (sym (six-is l six-long))
 
   pub columns-read : (r : Reading) → r ≡ readNumber (six (getD l 0 0) (getD l 1 0) (getD l 2 0) (getD l 3 0) (getD l 4 0) (getD l 5 0)) → r ≡ readNumber l
@@ -269,8 +272,8 @@ module _ (l : List ℕ) (six-long : length l ≡ 6) where
 -- ---- a field that is laid into a buffer
 
 -- six stores, one after the other
-pub columns-laid : (l : List ℕ) (at a b c d e f : ℕ) (n : Bool) (m : ℕ) → a ≡ letterOf n (m / 100000) (m / 10000) → b ≡ letterOf n (m / 10000) (m / 1000) → c ≡ letterOf n (m / 1000) (m / 100)
-    → d ≡ letterOf n (m / 100) (m / 10) → e ≡ letterOf n (m / 10) 1 → f ≡ 48 + m % 10
+pub columns-laid : (l : List ℕ) (at a b c d e f : ℕ) (n : Bool) (m : ℕ) → a ≡ letterOf n (m / 100000) (m / 10000) → b ≡ letterOf n (m / 10000) (m / 1000)
+    → c ≡ letterOf n (m / 1000) (m / 100) → d ≡ letterOf n (m / 100) (m / 10) → e ≡ letterOf n (m / 10) 1 → f ≡ 48 + m % 10
     → set (set (set (set (set (set l at a) (at + 1) b) (at + 2) c) (at + 3) d) (at + 4) e) (at + 5) f ≡ sets l at (columns n m)
 unfolding columns
 columns-laid l at a b c d e f n m p q r s t u =

@@ -56,9 +56,13 @@ fileText rs = joined (map lineText rs)
 
 -- ---- reading
 
--- the six characters at a line and a column, both counted from 0, of a file of lines of 73 characters
+-- the characters of a line: twelve fields of six and a newline
+abbrev pub lineLength : ℕ
+lineLength = 73
+
+-- the six characters at a line and a column of a file, both counted from 0
 abbrev pub fieldOf : List ℕ → ℕ → ℕ → List ℕ
-fieldOf file line column = take 6 (drop (line * 73 + column * 6) file)
+fieldOf file line column = take 6 (drop (line * lineLength + column * 6) file)
 
 -- what a character counts as a figure: nothing, where it is none
 unfoldable pub figureOf : ℕ → ℕ

@@ -3,8 +3,11 @@ ghost use mathlib.Core.Path.{_≡_};
 ghost use Prim.Native.Nat.{_+_, _*_, _<_, _≤_};
 ghost use lib.ListN.{length};
 ghost use lib.Seq.{sets};
-ghost use Rattle.text.specs.Text.{text, fieldOf, figureOf, sizeFrom, hasMinus, same, readNumber};
+ghost use Rattle.text.specs.Text.{text, lineLength, fieldOf, figureOf, sizeFrom, hasMinus, same, readNumber};
 ghost use Rattle.text.specs.Columns.{six, letterOf, columns, blankOf};
+
+// The characters of a line: twelve fields and a newline.
+pub const LINE: usize = 73;
 
 // What a field holds.
 pub enum Reading {
@@ -14,10 +17,10 @@ pub enum Reading {
 
 // The field at a line and a column, as its bytes in the file.
 pub fn field(file: &[u8], line: usize, column: usize) -> &[u8]
-    requires { ⌜ line * 73 + column * 6 + 6 ≤ length (now file) ⌝ }
+    requires { ⌜ line * lineLength + column * 6 + 6 ≤ length (now file) ⌝ }
     ensures { λ r. ⌜ now r ≡ fieldOf (now (file .entry)) line column ⌝ }
 {
-    let at = line * 73 + column * 6;
+    let at = line * LINE + column * 6;
     let end = at + 6;
     &file[at..end]
 }

@@ -6,17 +6,31 @@ use lib.Dec.{eqb}
 use borrow.Author.Tests.{not-true, not-false, le-leb, lt-leb, eq-eqb, ne-eqb}
 use Rattle.numbers.specs.Rows.{at}
 use Rattle.numbers.specs.Search.{every, first}
-use Rattle.numbers.specs.Search.Laws.{first-more, first-hit}
+use Rattle.numbers.specs.Search.Laws.{every-more, every-not, first-more, first-hit}
 use Rattle.table.specs.Fields as Field
 use Rattle.table.specs.Table.{Table, types, ports, definitionRow, nodeRow, branchRow, parameters, carried}
 use Rattle.table.specs.Layout.{definitionOf, nodeOf, slotType}
+use Rattle.table.specs.Roles.{operand, operandRole}
 use Rattle.table.specs.declared.Role.{Role}
-use Rattle.types.specs.Types.{roleTyped, portTyped, portsTyped, argumentTyped, nodeTyped, branchTyped, rowTyped, typesDisagree}
+use Rattle.types.specs.Types.{roleTyped, portTyped, portsTyped, argumentTyped, nodeTyped, operandTyped, branchTyped, rowTyped, typesDisagree}
 
--- the type t of a port's slot is n
-pub port-read : (tb : Table) (k t n : ℕ) → t ≡ slotType tb 0 k → n ≡ 1 → eqb t n ≡ portTyped tb k
-unfolding portTyped
-port-read tb k t n e f = rw (e, f)
+-- t is the type of a port's slot
+module _ (tb : Table) (k t : ℕ) (e : t ≡ slotType tb 0 k) where
+  port-is : eqb t 1 ≡ portTyped tb k
+  unfolding portTyped
+  port-is = rw e
+
+  pub port-more : every (portTyped tb) k ≡ true → t ≡ 1 → every (portTyped tb) (k + 1) ≡ true
+  port-more f g = every-more (portTyped tb) k (eqb t 1) f port-is (eq-eqb t 1 g)
+
+  pub port-not : (n : ℕ) → (t ≡ 1 → ⊥) → k < n → false ≡ every (portTyped tb) n
+  port-not n g h = every-not (portTyped tb) k n (eqb t 1) port-is (ne-eqb t 1 g) h
+
+-- an operand v of role a, whose slot has type x
+pub operand-is : (tb : Table) (r d k v x u : ℕ) (a : Role) (t : Bool) → t ≡ roleTyped a x u → a ≡ operandRole tb r k → v ≡ operand tb r k → x ≡ slotType tb d v
+    → u ≡ carried tb (slotType tb d (operand tb r 2)) → t ≡ operandTyped tb r d k
+unfolding operandTyped
+operand-is tb r d k v x u a t e f g h i = e ∙ rw (f, h, g, i)
 
 -- the arm of a role
 pub role-arm : (a b : Role) (t u : ℕ) (r : Bool) → a ≡ b → r ≡ roleTyped b t u → r ≡ roleTyped a t u

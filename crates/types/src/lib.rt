@@ -1,12 +1,11 @@
 // Ground 5 over a table whose fields are in range: types that disagree. A row is tested by its kind. Its definition is looked up once and handed down.
 ghost use mathlib.Core.Path.{_≡_};
-ghost use Prim.Native.Nat.{_<_};
 ghost use Rattle.numbers.specs.Search.{every, first};
 ghost use Rattle.table.specs.Table.{tableOf, carried};
 ghost use Rattle.table.specs.Layout.{slotType};
 ghost use Rattle.table.specs.Index.{Indexed};
-ghost use Rattle.table.specs.Roles.{operandCount, operand};
-ghost use Rattle.types.specs.Types.{roleTyped, portTyped, portsTyped, argumentTyped, nodeTyped, operandTyped, branchTyped, rowTyped, typesDisagree};
+ghost use Rattle.table.specs.Roles.{operand};
+ghost use Rattle.types.specs.Types.{roleTyped, portTyped, portsTyped, argumentTyped, nodeTyped, branchTyped, rowTyped, typesDisagree};
 use roles::operand_of;
 use roles::role_of;
 use table::Part;
@@ -36,21 +35,13 @@ fn role_typed(role: Role, t: u32, u: u32) -> bool
     }
 }
 
-// Whether port k is a slot of type 1 of definition 0.
-fn port_typed(table: &[u8], index: &[u32], k: u32) -> bool
-    requires { ⌜ Indexed (tableOf (now table)) (now index) ⌝ }
-    ensures { λ r. ⌜ r ≡ portTyped (tableOf (now (table .entry))) k ⌝ }
-{
-    slot_type(table, index, 0, k) == 1
-}
-
 // Whether each of n ports is a slot of type 1 of definition 0.
 fn each_port_typed(table: &[u8], index: &[u32], n: u32) -> bool
     requires { ⌜ Indexed (tableOf (now table)) (now index) ⌝ }
     ensures { λ r. ⌜ r ≡ every (portTyped (tableOf (now (table .entry)))) n ⌝ }
 {
     for k in 0..n {
-        if !port_typed(table, index, k) {
+        if slot_type(table, index, 0, k) != 1 {
             return false;
         }
     }
@@ -119,20 +110,6 @@ fn node_typed(table: &[u8], index: &[u32], row: usize, d: u32) -> bool
     true
 }
 
-// Whether operand k of the branch in a row fits its role. The branch stands in definition d, and its action's channel carries type u.
-fn operand_typed(table: &[u8], index: &[u32], row: usize, d: u32, u: u32, k: u32) -> bool
-    requires { ⌜ Indexed (tableOf (now table)) (now index) ⌝ }
-    requires { ⌜ u ≡ carried (tableOf (now table)) (slotType (tableOf (now table)) d (operand (tableOf (now table)) row 2)) ⌝ }
-    requires { ⌜ k < operandCount ⌝ }
-    ensures { λ r. ⌜ r ≡ operandTyped (tableOf (now (table .entry))) row d k ⌝ }
-{
-    role_typed(
-        role_of(table, row, k),
-        slot_type(table, index, d, operand_of(table, row, k)),
-        u,
-    )
-}
-
 // Whether all operands of the branch in a row fit their roles. The branch stands in definition d, and its action's channel carries type u.
 fn operands_typed(table: &[u8], index: &[u32], row: usize, d: u32, u: u32) -> bool
     requires { ⌜ Indexed (tableOf (now table)) (now index) ⌝ }
@@ -140,7 +117,8 @@ fn operands_typed(table: &[u8], index: &[u32], row: usize, d: u32, u: u32) -> bo
     ensures { λ r. ⌜ r ≡ branchTyped (tableOf (now (table .entry))) row d ⌝ }
 {
     for k in 0..table::OPERANDS {
-        if !operand_typed(table, index, row, d, u, k) {
+        let t = slot_type(table, index, d, operand_of(table, row, k));
+        if !role_typed(role_of(table, row, k), t, u) {
             return false;
         }
     }

@@ -4,7 +4,7 @@ use mathlib.Core.Path.{_≡_}
 use lib.ListN.{length}
 use borrow.Author.Needs.{needs}
 use Rattle.numbers.specs.Laid.{laid}
-use Rattle.table.specs.Table.{tableOf}
+use Rattle.table.specs.Table.{maxNodes, tableOf}
 use Rattle.flow.specs.Marks.{seed}
 use Rattle.flow.proofs.Begins.{begin-none, begin-more, begin-all}
 use Rattle.flow.proofs.begin.Statement.{statement}
@@ -12,7 +12,7 @@ use Rattle.flow.proofs.begin.Tie as tie
 
 abbrev Inv-loop : tie.InvT-loop
 Inv-loop table index marks₀ count n₀ marks n =
-    (n ≤ count) × (length marks ≡ length marks₀) × (marks ≡ laid (seed (tableOf table)) n 192)
+    (n ≤ count) × (length marks ≡ length marks₀) × (marks ≡ laid (seed (tableOf table)) n maxNodes)
 
 abbrev μ-loop : tie.MeasureT-loop
 μ-loop table index marks₀ count n₀ marks n = count - n

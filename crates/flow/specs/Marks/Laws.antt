@@ -78,90 +78,90 @@ all-start : every (λ p. every (starts p) markCount) markCount ≡ true
 unfolding starts agree bit Rattle.numbers.specs.Search.computing
 all-start = refl
 
-module _ (w k : ℕ) (h : w < 17) (l : k < 17) where
+module _ (w k : ℕ) (h : w < markCount) (l : k < markCount) where
   bit-keep : bit (131071 - 2 ^ w) k ≡ not (eqb k w)
   unfolding keeps
   bit-keep =
-      agree-is (bit (131071 - 2 ^ w) k) (not (eqb k w)) (every-elim (keeps w) 17 k (every-elim (λ x. every (keeps x) 17) 17 w all-keep h) l)
+      agree-is (bit (131071 - 2 ^ w) k) (not (eqb k w)) (every-elim (keeps w) markCount k (every-elim (λ x. every (keeps x) markCount) markCount w all-keep h) l)
 
   bit-start : bit (131072 - 2 ^ w) k ≡ leb w k
   unfolding starts
   bit-start =
-      agree-is (bit (131072 - 2 ^ w) k) (leb w k) (every-elim (starts w) 17 k (every-elim (λ x. every (starts x) 17) 17 w all-start h) l)
+      agree-is (bit (131072 - 2 ^ w) k) (leb w k) (every-elim (starts w) markCount k (every-elim (λ x. every (starts x) markCount) markCount w all-start h) l)
 
 -- ---- all bits
 
 module _ (m k : ℕ) where
-  getD-bits : k < 17 → getD (bits m) k false ≡ bit m k
+  getD-bits : k < markCount → getD (bits m) k false ≡ bit m k
   unfolding bits
-  getD-bits h = getD-tabulate 17 k (bit m) false h
+  getD-bits h = getD-tabulate markCount k (bit m) false h
 
-  getD-beyond : 17 ≤ k → getD (bits m) k false ≡ false
+  getD-beyond : markCount ≤ k → getD (bits m) k false ≡ false
   unfolding bits
-  getD-beyond h = List·getD-eq-default (bits m) false {n = k} (omega (arith, length-tabulate 17 (bit m)))
+  getD-beyond h = List·getD-eq-default (bits m) false {n = k} (omega (arith, length-tabulate markCount (bit m)))
 
 pub bits-or : (a b : ℕ) → bits (bitOr a b) ≡ either (bits a) (bits b)
 unfolding bits either
-bits-or a b = tabulate-cong 17 (bit (bitOr a b)) (λ k. getD (bits a) k false || getD (bits b) k false)
+bits-or a b = tabulate-cong markCount (bit (bitOr a b)) (λ k. getD (bits a) k false || getD (bits b) k false)
     (λ k h. bit-or a b k ∙ rw (getD-bits a k h, getD-bits b k h))
 
 module _ (m w : ℕ) where
   pastMark : ℕ → Bool
   pastMark k = getD (bits m) k false && not (eqb k w)
 
-  one-bit : w < 17 → 1 * 2 ^ w % 4294967296 ≡ 2 ^ w
+  one-bit : w < markCount → 1 * 2 ^ w % 4294967296 ≡ 2 ^ w
   one-bit h = shl-exact 1 w 32 (omega arith) (omega arith) ∙ one-mul (2 ^ w)
 
-  pub bit-room : w < 17 → 65536 ≤ m → 1 * 2 ^ w % 4294967296 ≤ m
+  pub bit-room : w < markCount → 65536 ≤ m → 1 * 2 ^ w % 4294967296 ≤ m
   bit-room h l =
       let p : 2 ^ w ≤ 2 ^ 16 = pow-mono {i = w} {j = 16} (omega arith) in
       rw (one-bit h) (omega arith)
 
-  pub past-within : w < 17 → bits (bitAnd m (131071 - 1 * 2 ^ w % 4294967296)) ≡ pastWrite w (bits m)
+  pub past-within : w < markCount → bits (bitAnd m (131071 - 1 * 2 ^ w % 4294967296)) ≡ pastWrite w (bits m)
   unfolding bits pastWrite pastMark
   past-within h = rw (one-bit h)
-      (tabulate-cong 17 (bit (bitAnd m (131071 - 2 ^ w))) pastMark
+      (tabulate-cong markCount (bit (bitAnd m (131071 - 2 ^ w))) pastMark
       (λ k l. bit-and m (131071 - 2 ^ w) k ∙ rw (bit-keep w k h l, getD-bits m k l)))
 
-  pub past-beyond : 17 ≤ w → bits m ≡ pastWrite w (bits m)
+  pub past-beyond : markCount ≤ w → bits m ≡ pastWrite w (bits m)
   unfolding bits pastWrite pastMark
-  past-beyond h = tabulate-cong 17 (bit m) pastMark (λ k l. rw (getD-bits m k l, ne-eqb k w (λ e. omega arith)) (kept (bit m k)))
+  past-beyond h = tabulate-cong markCount (bit m) pastMark (λ k l. rw (getD-bits m k l, ne-eqb k w (λ e. omega arith)) (kept (bit m k)))
     where
       kept : (b : Bool) → b ≡ (b && true)
       kept true = refl
       kept false = refl
 
 module _ (p : ℕ) where
-  pub from-within : p < 17 → 131072 - 1 * 2 ^ p % 4294967296 ≡ marksFrom p
+  pub from-within : p < markCount → 131072 - 1 * 2 ^ p % 4294967296 ≡ marksFrom p
   unfolding marksFrom
-  from-within h = rw (one-bit 0 p h, lt-ltb p 17 h)
+  from-within h = rw (one-bit 0 p h, lt-ltb p markCount h)
 
-  pub from-beyond : 17 ≤ p → 0 ≡ marksFrom p
+  pub from-beyond : markCount ≤ p → 0 ≡ marksFrom p
   unfolding marksFrom
-  from-beyond h = rw (le-ltb p 17 h)
+  from-beyond h = rw (le-ltb p markCount h)
 
   -- mark p and those above it
-  pub bits-from : bits (marksFrom p) ≡ tabulate 17 (leb p)
+  pub bits-from : bits (marksFrom p) ≡ tabulate markCount (leb p)
   unfolding bits marksFrom
-  bits-from = caseB (ltb p 17)
-      (λ t. rw t (tabulate-cong 17 (bit (131072 - 2 ^ p)) (leb p) (λ k l. bit-start p k (ltb-true p 17 t) l)))
-      (λ f. rw f (tabulate-cong 17 (bit 0) (leb p) (λ k l. bit-none k ∙ sym (lt-leb p k (omega (arith, ltb-false p 17 f))))))
+  bits-from = caseB (ltb p markCount)
+      (λ t. rw t (tabulate-cong markCount (bit (131072 - 2 ^ p)) (leb p) (λ k l. bit-start p k (ltb-true p markCount t) l)))
+      (λ f. rw f (tabulate-cong markCount (bit 0) (leb p) (λ k l. bit-none k ∙ sym (lt-leb p k (omega (arith, ltb-false p markCount f))))))
 
 -- ---- rows of marks
 
-marked-bit : (l : List ℕ) (n k : ℕ) → k < 17 → bit (getD l n 0) k ≡ marked (marksOf l) n k
+marked-bit : (l : List ℕ) (n k : ℕ) → k < markCount → bit (getD l n 0) k ≡ marked (marksOf l) n k
 unfolding marked marksOf
 marked-bit [] n k h = bit-none k
 marked-bit (m ∷ l) zero k h = sym (getD-bits m k h)
 marked-bit (m ∷ l) (suc n) k h = marked-bit l n k h
 
-pub marked-beyond : (l : List ℕ) (n k : ℕ) → 17 ≤ k → false ≡ marked (marksOf l) n k
+pub marked-beyond : (l : List ℕ) (n k : ℕ) → markCount ≤ k → false ≡ marked (marksOf l) n k
 unfolding marked marksOf
 marked-beyond [] n k h = refl
 marked-beyond (m ∷ l) zero k h = sym (getD-beyond m k h)
 marked-beyond (m ∷ l) (suc n) k h = marked-beyond l n k h
 
-pub marked-within : (l : List ℕ) (n k m : ℕ) → m ≡ getD l n 0 → k < 17 → eqb (m / 2 ^ k % 2) 1 ≡ marked (marksOf l) n k
+pub marked-within : (l : List ℕ) (n k m : ℕ) → m ≡ getD l n 0 → k < markCount → eqb (m / 2 ^ k % 2) 1 ≡ marked (marksOf l) n k
 unfolding bit
 marked-within l n k m e h = rw e (marked-bit l n k h)
 

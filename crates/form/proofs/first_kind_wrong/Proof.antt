@@ -3,9 +3,10 @@ use Prim.Native.Nat.{_≤_, _-_}
 use mathlib.Core.Path.{_≡_}
 use borrow.Author.Needs.{needs}
 use Rattle.numbers.specs.Search.{first}
-use Rattle.numbers.specs.Search.Laws.{first-none, first-hit, first-more, first-all}
+use Rattle.numbers.specs.Search.Laws.{first-none, first-all}
 use Rattle.table.specs.Table.{tableOf}
 use Rattle.table.specs.Form.{kindWrong}
+use Rattle.form.proofs.KindsDue.{wrong-hit, wrong-more}
 use Rattle.form.proofs.first_kind_wrong.Statement.{statement}
 use Rattle.form.proofs.first_kind_wrong.Tie as tie
 
@@ -23,8 +24,9 @@ first-kind-wrong-spec =
     μ-loop
     (λ c. (search needs, search first-none))
     (λ c κs. search needs)
-    (λ c. search first-hit)
+    (λ c κs. search needs)
+    (λ c. search wrong-hit)
     (λ c. search needs)
     (λ c. search needs)
-    (λ c. (search needs, search first-more))
+    (λ c. (search needs, search wrong-more))
     (λ c. search first-all))

@@ -13,7 +13,7 @@ use Rattle.numbers.specs.Bytes.{shorts, little}
 use Rattle.numbers.specs.Bytes.Laws.{bytes-fit, length-numbers, short-is, joined-rows, encode-numbers}
 use Rattle.numbers.specs.Laid.{laid}
 use Rattle.numbers.specs.Laid.Laws.{laid-none, zeros-at}
-use Rattle.table.specs.Table.{tableOf}
+use Rattle.table.specs.Table.{maxRows, rowNumbers, tableNumbers, tableLength, tableOf}
 use Rattle.file.specs.File.{fileTable}
 use Rattle.loader.specs.Verdict.{verdict}
 use Rattle.loader.specs.Load.{tableBytes, outcome, afterVerdict, loaded}
@@ -31,18 +31,18 @@ shorts-zero n =
     (λ i h. sym (short-is b i 0 (rw (zeros-at (n * 2) (i * 2), zeros-at (n * 2) (i * 2 + 1))) (omega (arith, length-replicate {A = ℕ} (n * 2) 0)))
     ∙ sym (zeros-at n i))
 
-pub table-zero : (b : List ℕ) (f : ℕ → ℕ) → b ≡ replicate 20760 0 → shorts b ≡ laid f 0 10380
-table-zero b f e = rw e (shorts-zero 10380 ∙ sym (laid-none f 10380))
+pub table-zero : (b : List ℕ) (f : ℕ → ℕ) → b ≡ replicate tableLength 0 → shorts b ≡ laid f 0 tableNumbers
+table-zero b f e = rw e (shorts-zero tableNumbers ∙ sym (laid-none f tableNumbers))
 
-pub table-kept : (b b′ : List ℕ) → b ≡ replicate 20760 0 → length b′ ≡ length b → length b′ ≡ 20760
-table-kept b b′ e h = h ∙ rw e (length-replicate {A = ℕ} 20760 0)
+pub table-kept : (b b′ : List ℕ) → b ≡ replicate tableLength 0 → length b′ ≡ length b → length b′ ≡ tableLength
+table-kept b b′ e h = h ∙ rw e (length-replicate {A = ℕ} tableLength 0)
 
 -- a buffer of the table's length is the bytes of the table that it holds
-pub table-bytes : (b : List ℕ) → length b ≡ 20760 → ((i : ℕ) → Fits w8 (getD b i 0)) → tableBytes (tableOf b) ≡ b
+pub table-bytes : (b : List ℕ) → length b ≡ tableLength → ((i : ℕ) → Fits w8 (getD b i 0)) → tableBytes (tableOf b) ≡ b
 unfolding tableBytes
 table-bytes b h f =
-    let long : length (shorts b) ≤ 865 * 12 = omega (arith, length-numbers 2 b) in
-    rw (joined-rows 865 12 (shorts b), take-all (865 * 12) (shorts b) long)
+    let long : length (shorts b) ≤ maxRows * rowNumbers = omega (arith, length-numbers 2 b) in
+    rw (joined-rows maxRows rowNumbers (shorts b), take-all (maxRows * rowNumbers) (shorts b) long)
     (encode-numbers 2 b (omega arith) (bytes-fit b f))
 
 -- ---- a copy, one element after the other
@@ -62,12 +62,13 @@ module _ (file t t′ : List ℕ) (v : Verdict) (e : v ≡ verdict file) where
   load-refused g l a h = rw (← e, h, a)
 
   module _ (h : v ≡ Sound) where
-    pub load-length : t′ ≡ t → (length t ≡ 20760 → ⊥) → outcome WrongLength t′ ≡ loaded file t
+    pub load-length : t′ ≡ t → (length t ≡ tableLength → ⊥) → outcome WrongLength t′ ≡ loaded file t
     unfolding loaded afterVerdict
-    load-length a k = rw (← e, h, ne-eqb (length t) 20760 k, a)
+    load-length a k = rw (← e, h, ne-eqb (length t) tableLength k, a)
 
-    pub load-done : (b : List ℕ) → t′ ≡ b → (v ≡ Sound → tableOf b ≡ fileTable file) → length t ≡ 20760 → length t′ ≡ length t → ((i : ℕ) → Fits w8 (getD t′ i 0)) → outcome Done t′ ≡ loaded file t
+    pub load-done : (b : List ℕ) → t′ ≡ b → (v ≡ Sound → tableOf b ≡ fileTable file) → length t ≡ tableLength → length t′ ≡ length t
+        → ((i : ℕ) → Fits w8 (getD t′ i 0)) → outcome Done t′ ≡ loaded file t
     unfolding loaded afterVerdict
-    load-done b a k m n f = rw (← e, h, eq-eqb (length t) 20760 m, ← k h, ← a, table-bytes t′ (n ∙ m) f)
+    load-done b a k m n f = rw (← e, h, eq-eqb (length t) tableLength m, ← k h, ← a, table-bytes t′ (n ∙ m) f)
 
 pub ruleset answers = (load-refused, load-length, load-done)

@@ -12,8 +12,8 @@ use Rattle.numbers.specs.Bytes.{shorts}
 use Rattle.numbers.specs.Laid.{laid}
 use Rattle.numbers.specs.Search.{every, first}
 use Rattle.numbers.specs.Search.Laws.{caseB, first-le}
-use Rattle.numbers.specs.Tests.{and-left, and-right}
-use Rattle.table.specs.Table.{Table, tableOf, lineTotal}
+use Rattle.numbers.specs.Tests.{clash, and-left, and-right}
+use Rattle.table.specs.Table.{Table, maxRows, rowNumbers, tableNumbers, tableLength, tableOf, lineTotal}
 use Rattle.table.specs.Form.{headerInRange, kindWrong, sumsAgree}
 use Rattle.table.specs.Form.Laws.{header-counts}
 use Rattle.table.specs.Index.{Indexed, indexOf}
@@ -41,7 +41,7 @@ pub ruleset faults = (at-fault, no-fault)
 
 -- a verdict that names a fault is not the one that finds none
 pub no-sound {ℓ} : {A : Type ℓ} (g : Ground) (l : ℕ) → _≡_ {A = Verdict} (Fault g l) Sound → A
-no-sound g l e = absurd (let z : _≡_ {A = ℕ} 0 1 = cc in let h : ⊥ = omega arith in h)
+no-sound g l e = clash cc
 
 -- ---- ground 3
 
@@ -84,16 +84,16 @@ module _ (file : List ℕ) (q : Bool) (e : q ≡ notLines file) where
   unfolding verdict
   file-lines h = rw (← e, h)
 
-  pub few-lines : q ≡ false → lineCount file ≤ 865
+  pub few-lines : q ≡ false → lineCount file ≤ maxRows
   unfolding notLines
-  few-lines h = leb-true (lineCount file) 865 (and-left _ _ (and-right (leb 1 (lineCount file)) _ (not-false _ (sym e ∙ h))))
+  few-lines h = leb-true (lineCount file) maxRows (and-left _ _ (and-right (leb 1 (lineCount file)) _ (not-false _ (sym e ∙ h))))
 
   module _ (h : q ≡ false) (r : ℕ) (a : r ≡ first (malformed file) (lineCount file)) where
     pub file-field : r < lineCount file → Fault Field (r + 1) ≡ verdict file
     unfolding verdict
     file-field d = rw (← e, h) (at-fault (malformed file) (lineCount file) r a Field _ d)
 
-    module _ (d : lineCount file ≤ r) (b : List ℕ) (f : r ≡ lineCount file → shorts b ≡ laid (numberIn file) (lineCount file * 12) 10380) where
+    module _ (d : lineCount file ≤ r) (b : List ℕ) (f : r ≡ lineCount file → shorts b ≡ laid (numberIn file) (lineCount file * rowNumbers) tableNumbers) where
       pub file-read : tableOf b ≡ fileTable file
       file-read =
           let x : r ≡ lineCount file = omega (arith, first-le (malformed file) (lineCount file)) in
@@ -110,7 +110,7 @@ module _ (tb : Table) where
   unfolding judged
   judged-header n e = caseB (headerInRange tb) (λ t. t) (λ f. no-sound Header 1 (rw f at e))
 
-  pub sound-few : (n : ℕ) (v : Verdict) → n ≡ lineTotal tb → v ≡ judged tb n → v ≡ Sound → n ≤ 865
+  pub sound-few : (n : ℕ) (v : Verdict) → n ≡ lineTotal tb → v ≡ judged tb n → v ≡ Sound → n ≤ maxRows
   sound-few n v a e f =
       let c = header-counts tb (judged-header n (sym e ∙ f)) in omega arith
 
@@ -118,19 +118,20 @@ module _ (tb : Table) where
   sound-indexed l v f e = f e
 
 -- the index of a table in a buffer of the right length
-pub indexed-is : (b l : List ℕ) (h : Bool) → h ≡ headerInRange (tableOf b) → not h ≡ false → l ≡ indexOf (tableOf b) → length b ≡ 20760 → Indexed (tableOf b) l
+pub indexed-is : (b l : List ℕ) (h : Bool) → h ≡ headerInRange (tableOf b) → not h ≡ false → l ≡ indexOf (tableOf b) → length b ≡ tableLength
+    → Indexed (tableOf b) l
 indexed-is b l h e f g k = record { counts = header-good (tableOf b) h e f; entries = g; whole = long-whole b k }
 
 module _ (b : List ℕ) where
-  pub accept-length : (length b ≡ 20760 → ⊥) → false ≡ accepted b
+  pub accept-length : (length b ≡ tableLength → ⊥) → false ≡ accepted b
   unfolding accepted
-  accept-length h = rw (ne-eqb (length b) 20760 h)
+  accept-length h = rw (ne-eqb (length b) tableLength h)
 
-  module _ (h : length b ≡ 20760) (n : ℕ) (v : Verdict) (a : n ≡ lineTotal (tableOf b)) (e : v ≡ judged (tableOf b) n) where
+  module _ (h : length b ≡ tableLength) (n : ℕ) (v : Verdict) (a : n ≡ lineTotal (tableOf b)) (e : v ≡ judged (tableOf b) n) where
     pub accept-fault : (g : Ground) (l : ℕ) → v ≡ Fault g l → false ≡ accepted b
     unfolding accepted acceptable isSound
-    accept-fault g l f = rw (eq-eqb (length b) 20760 h, ← a, ← e, f)
+    accept-fault g l f = rw (eq-eqb (length b) tableLength h, ← a, ← e, f)
 
-    pub accept-rest : (z : Bool) → v ≡ Sound → z ≡ every (restZero (tableOf b)) 865 → z ≡ accepted b
+    pub accept-rest : (z : Bool) → v ≡ Sound → z ≡ every (restZero (tableOf b)) maxRows → z ≡ accepted b
     unfolding accepted acceptable isSound
-    accept-rest z f g = rw (eq-eqb (length b) 20760 h, ← a, ← e, f) g
+    accept-rest z f g = rw (eq-eqb (length b) tableLength h, ← a, ← e, f) g

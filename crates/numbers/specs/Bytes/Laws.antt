@@ -72,7 +72,8 @@ pub number-past : (w : ℕ) (b : List ℕ) (i : ℕ) → length b / w ≤ i → 
 number-past w b i h = sym (List·getD-eq-default (numbersOf w b) 0 (omega (arith, length-numbers w b)))
 
 -- w stores make a number
-pub numbers-put : (w : ℕ) (b : List ℕ) (i : ℕ) (vs : List ℕ) (v : ℕ) → length vs ≡ w → little vs ≡ v → i < length b / w → numbersOf w (sets b (i * w) vs) ≡ set (numbersOf w b) i v
+pub numbers-put : (w : ℕ) (b : List ℕ) (i : ℕ) (vs : List ℕ) (v : ℕ) → length vs ≡ w → little vs ≡ v → i < length b / w
+    → numbersOf w (sets b (i * w) vs) ≡ set (numbersOf w b) i v
 unfolding numbersOf
 numbers-put w b i vs v e g h =
     rw (length-sets b (i * w) vs, rows-sets (length b / w) w b i vs e h (div-mul-le-self (length b) w), ← g) (map-set little (rows (length b / w) w b) i vs)
@@ -166,7 +167,8 @@ pub short-is : (b : List ℕ) (i r : ℕ) → r ≡ little (getD b (i * 2) 0 ∷
 short-is b i r e h =
     rw (number-in 2 b i h, drop-cons b (i * 2) 0 (omega arith), drop-cons b (suc (i * 2)) 0 (omega arith), ← add-one (i * 2)) e
 
-pub word-is : (b : List ℕ) (i r : ℕ) → r ≡ little (getD b (i * 4) 0 ∷ getD b (i * 4 + 1) 0 ∷ getD b (i * 4 + 2) 0 ∷ getD b (i * 4 + 3) 0 ∷ []) → i < length b / 4 → r ≡ getD (words b) i 0
+pub word-is : (b : List ℕ) (i r : ℕ) → r ≡ little (getD b (i * 4) 0 ∷ getD b (i * 4 + 1) 0 ∷ getD b (i * 4 + 2) 0 ∷ getD b (i * 4 + 3) 0 ∷ [])
+    → i < length b / 4 → r ≡ getD (words b) i 0
 word-is b i r e h =
     let e′ = rw (add-one (i * 4), add-two (i * 4), add-three (i * 4)) at e in
     rw (number-in 4 b i h, drop-cons b (i * 4) 0 (omega arith), drop-cons b (suc (i * 4)) 0 (omega arith), drop-cons b (suc (suc (i * 4))) 0 (omega arith), drop-cons b (suc (suc (suc (i * 4)))) 0 (omega arith)) e′
@@ -174,7 +176,8 @@ word-is b i r e h =
 pub short-put : (b : List ℕ) (i p q v : ℕ) → little (p ∷ q ∷ []) ≡ v → i < length b / 2 → shorts (set (set b (i * 2) p) (i * 2 + 1) q) ≡ set (shorts b) i v
 short-put b i p q v e h = rw (add-one (i * 2)) (numbers-put 2 b i (p ∷ q ∷ []) v refl e h)
 
-pub word-put : (b : List ℕ) (i p q r s v : ℕ) → little (p ∷ q ∷ r ∷ s ∷ []) ≡ v → i < length b / 4 → words (set (set (set (set b (i * 4) p) (i * 4 + 1) q) (i * 4 + 2) r) (i * 4 + 3) s) ≡ set (words b) i v
+pub word-put : (b : List ℕ) (i p q r s v : ℕ) → little (p ∷ q ∷ r ∷ s ∷ []) ≡ v → i < length b / 4
+    → words (set (set (set (set b (i * 4) p) (i * 4 + 1) q) (i * 4 + 2) r) (i * 4 + 3) s) ≡ set (words b) i v
 word-put b i p q r s v e h = rw (add-one (i * 4), add-two (i * 4), add-three (i * 4)) (numbers-put 4 b i (p ∷ q ∷ r ∷ s ∷ []) v refl e h)
 
 pub short-bytes : (v : ℕ) → v < 65536 → little (v % 256 ∷ v / 256 ∷ []) ≡ v

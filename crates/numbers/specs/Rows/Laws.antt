@@ -6,7 +6,7 @@ use mathlib.Core.Path.{_≡_, refl, _∙_, ap}
 use mathlib.Core.List.{List, [], _∷_, _++_}
 use mathlib.Core.Logic.{_≢_}
 use lib.ListN.{length, getD, set, take, drop, List·getD-eq-default, length-take, length-drop}
-use lib.Seq.{getD-take, getD-drop, drop-drop, take-at, drop-at, take-set-lt, take-set-le, drop-set-lt, drop-set-add, set-out, set-getD, getD-set-same, getD-set-other, sets, sets-eq}
+use lib.Seq.{getD-take, getD-drop, drop-drop, take-at, drop-at, take-set-lt, take-set-le, drop-set-lt, drop-set-add, set-out, set-set, set-getD, getD-set-same, getD-set-other, sets, sets-eq}
 use Rattle.numbers.specs.Rows.{rows, at, put}
 
 pub rows-none : (w : ℕ) (l : List ℕ) → rows 0 w l ≡ []
@@ -96,6 +96,10 @@ pub put-out : (n w : ℕ) (l : List ℕ) (t k v : ℕ) → t < n → w ≤ k →
 put-out n w l t k v h j =
     let e : length (getD (rows n w l) t []) ≤ k = rw (row-in n w l t h) (omega (arith, length-take w (drop (t * w) l))) in
     rw (set-out (getD (rows n w l) t []) k v e) (set-getD (rows n w l) t [])
+
+-- a store into a row that was stored whole
+pub put-put : (r : List (List ℕ)) (t k v : ℕ) (row : List ℕ) → t < length r → put (set r t row) t k v ≡ set r t (set row k v)
+put-put r t k v row h = rw (getD-set-same r t row [] h, set-set r t row (set row k v))
 
 -- ---- reads after a store
 

@@ -10,7 +10,7 @@ use lib.Dec.{ltb}
 use lib.ListN.{length, getD}
 use lib.Seq.{ext-getD}
 use borrow.Author.Tests.{lt-ltb, le-ltb, ltb-true, ltb-false, not-true, not-false}
-use Rattle.numbers.specs.Tests.{and-left, and-right}
+use Rattle.numbers.specs.Tests.{clash, and-left, and-right}
 use Rattle.numbers.specs.Search.{every, first, some, sumTo, listFrom, tabulate}
 
 -- a goal by the two values of a test, each with its equation
@@ -20,7 +20,7 @@ caseB false t f = f refl
 
 -- a test that is both true and false
 pub contra {ℓ} : {A : Type ℓ} {b : Bool} → b ≡ true → b ≡ false → A
-contra t f = absurd (let z : _≡_ {A = ℕ} 0 1 = cc in let h : ⊥ = omega arith in h)
+contra t f = clash cc
 
 -- two tests that follow from each other
 pub same-truth : (a b : Bool) → (a ≡ true → b ≡ true) → (b ≡ true → a ≡ true) → a ≡ b

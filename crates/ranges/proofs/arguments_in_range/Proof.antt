@@ -4,9 +4,10 @@ use mathlib.Core.Path.{_≡_}
 use mathlib.Core.Bool.{true}
 use borrow.Author.Needs.{needs}
 use Rattle.numbers.specs.Search.{every}
-use Rattle.numbers.specs.Search.Laws.{every-none, every-passed, every-failed, every-all}
+use Rattle.numbers.specs.Search.Laws.{every-none, every-all}
 use Rattle.table.specs.Table.{tableOf}
 use Rattle.ranges.specs.Ranges.{argumentInRange}
+use Rattle.ranges.proofs.Answers.{argument-more, argument-not}
 use Rattle.ranges.proofs.arguments_in_range.Statement.{statement}
 use Rattle.ranges.proofs.arguments_in_range.Tie as tie
 
@@ -24,9 +25,11 @@ arguments-in-range-spec =
     Inv-loop
     μ-loop
     (λ c. (search needs, search every-none))
+    (λ c. search needs)
+    (λ c. search needs)
     (λ c κs. search needs)
-    (λ c. search every-failed)
+    (λ c. search argument-not)
     (λ c. search needs)
     (λ c. search needs)
-    (λ c. (search needs, search every-passed))
+    (λ c. (search needs, search argument-more))
     (λ c. search every-all))

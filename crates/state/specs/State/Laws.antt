@@ -71,7 +71,8 @@ module _ (b : List ℕ) where
   unfolding stateOf withMark
   mark-kept i v h = rw (set-out (take markWords b) i v (omega (arith, length-take markWords b)))
 
-  pub thread-put : (b′ : List ℕ) (t k v : ℕ) → b′ ≡ set b (markWords + t * threadWords + k) v → t < maxThreads → k < threadWords → stateOf b′ ≡ withThread (stateOf b) t (set (thread (stateOf b) t) k v)
+  pub thread-put : (b′ : List ℕ) (t k v : ℕ) → b′ ≡ set b (markWords + t * threadWords + k) v → t < maxThreads → k < threadWords
+      → stateOf b′ ≡ withThread (stateOf b) t (set (thread (stateOf b) t) k v)
   unfolding stateOf withThread
   thread-put b′ t k v e h j =
       let f : markWords + t * threadWords + k ≡ markWords + (t * threadWords + k) = omega arith in
@@ -87,7 +88,8 @@ module _ (b : List ℕ) where
   unfolding stateOf withThread
   thread-row-kept t k v h = rw (put-row-out maxThreads threadWords (drop markWords b) t k v h)
 
-  pub channel-put : (b′ : List ℕ) (t k v : ℕ) → b′ ≡ set b (channelsFrom + t * channelWords + k) v → t < maxChannels → k < channelWords → stateOf b′ ≡ withChannel (stateOf b) t (set (channel (stateOf b) t) k v)
+  pub channel-put : (b′ : List ℕ) (t k v : ℕ) → b′ ≡ set b (channelsFrom + t * channelWords + k) v → t < maxChannels → k < channelWords
+      → stateOf b′ ≡ withChannel (stateOf b) t (set (channel (stateOf b) t) k v)
   unfolding stateOf withChannel
   channel-put b′ t k v e h j =
       let f : channelsFrom + t * channelWords + k ≡ channelsFrom + (t * channelWords + k) = omega arith in

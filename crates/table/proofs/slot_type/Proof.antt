@@ -1,3 +1,4 @@
+use Rattle.table.proofs.Arms.{slot-type-is}
 use borrow.Author.Needs.{needs}
 use Rattle.table.proofs.slot_type.Statement.{statement}
 use Rattle.table.proofs.slot_type.Tie as tie
@@ -12,4 +13,4 @@ slot-type-spec =
     (λ c κs. search needs)
     (λ c. search needs)
     (λ c κs. search needs)
-    (λ c. (cc, search needs)))
+    (λ c. (search slot-type-is, search needs)))

@@ -12,11 +12,12 @@ use lib.ListN.{length, getD, take, drop, replicate, drop-of-length-le, length-ap
 use lib.Seq.{length-take-le, take-at, drop-append-add, take-append-le, drop-append-le, drop-drop, take-take, getD-at, getD-drop, getD-take, drop-cons}
 use borrow.Author.Tests.{lt-ltb, le-ltb, ltb-true, ltb-false, le-leb, eq-eqb, ne-eqb, eqb-true}
 use Rattle.numbers.specs.Search.Laws.{caseB, contra}
+use Rattle.numbers.specs.Tests.{clash}
 use Rattle.numbers.specs.Bytes.{joined}
 use Rattle.numbers.specs.Rows.{at}
 use Rattle.text.specs.declared.Reading.{Reading}
 use Rattle.text.specs.declared.Reading.the-variants.{Value, Wrong}
-use Rattle.text.specs.Text.{figuresBy, figures, negative, size, signed, numeral, rightJustified, text, lineText, fileText, fieldOf, figureOf, sizeFrom, hasMinus, patternIn, same, readNumber}
+use Rattle.text.specs.Text.{figuresBy, figures, negative, size, signed, numeral, rightJustified, text, lineText, fileText, lineLength, fieldOf, figureOf, sizeFrom, hasMinus, patternIn, same, readNumber}
 
 -- ---- figures
 
@@ -198,7 +199,7 @@ module _ (f : List ℕ) (v : ℕ) where
       (λ t. let e : _≡_ {A = Reading} (Value (patternIn f)) (Value v) = rw t at h in
       let p : patternIn f ≡ v = cc in
       (rw p at (pattern-fits f), rw p at (same-true f (text (patternIn f)) t)))
-      (λ n. let e : _≡_ {A = Reading} Wrong (Value v) = rw n at h in absurd (let z : _≡_ {A = ℕ} 0 1 = cc in omega arith))
+      (λ n. let e : _≡_ {A = Reading} Wrong (Value v) = rw n at h in clash cc)
 
   pub text-reads : v < 65536 → f ≡ text v → readNumber f ≡ Value v
   text-reads h e = rw e (reads-text v h)
@@ -206,7 +207,7 @@ module _ (f : List ℕ) (v : ℕ) where
 module _ (f : List ℕ) where
   -- what is wrong is the text of no number
   pub reads-wrong : readNumber f ≡ Wrong → (v : ℕ) → v < 65536 → f ≡ text v → ⊥
-  reads-wrong h v l e = let k = text-reads f v l e in let z : _≡_ {A = ℕ} 0 1 = cc in omega arith
+  reads-wrong h v l e = let k = text-reads f v l e in clash cc
 
   -- a field that is the text of no number is read as wrong
   pub wrong-reads : ((v : ℕ) → v < 65536 → f ≡ text v → ⊥) → readNumber f ≡ Wrong
@@ -230,7 +231,8 @@ module _ {A : Type 0} (f : A → List ℕ) (w : ℕ) (d : A) where
       ∙ omega (arith, h 0 (omega arith), length-joined l (λ i k. h (suc i) (omega arith)))
 
   -- each piece is found again
-  pub joined-piece : (l : List A) → ((i : ℕ) → i < length l → length (f (getD l i d)) ≡ w) → (i : ℕ) → i < length l → take w (drop (i * w) (joined (map f l))) ≡ f (getD l i d)
+  pub joined-piece : (l : List A) → ((i : ℕ) → i < length l → length (f (getD l i d)) ≡ w) → (i : ℕ) → i < length l
+      → take w (drop (i * w) (joined (map f l))) ≡ f (getD l i d)
   unfolding joined
   joined-piece [] h i k = absurd (omega arith)
   joined-piece (a ∷ l) h zero k = rw (zero-mul w) (take-at (f a) (joined (map f l)) w (h 0 (omega arith)))
@@ -239,7 +241,8 @@ module _ {A : Type 0} (f : A → List ℕ) (w : ℕ) (d : A) where
       rw (e, drop-append-add (f a) (joined (map f l)) (i * w)) (joined-piece l (λ j m. h (suc j) (omega arith)) i (omega arith))
 
   -- a list whose pieces are those of the parts is the parts, joined
-  pub joined-whole : (l : List A) (b : List ℕ) → length b ≡ length l * w → ((i : ℕ) → i < length l → take w (drop (i * w) b) ≡ f (getD l i d)) → b ≡ joined (map f l)
+  pub joined-whole : (l : List A) (b : List ℕ) → length b ≡ length l * w → ((i : ℕ) → i < length l → take w (drop (i * w) b) ≡ f (getD l i d))
+      → b ≡ joined (map f l)
   unfolding joined
   joined-whole [] [] e h = refl
   joined-whole [] (x ∷ b) e h = absurd (omega arith)
@@ -264,7 +267,7 @@ module _ (row : List ℕ) (twelve : length row ≡ 12) where
   length-fields : length (joined (map text row)) ≡ 72
   length-fields = length-joined text 6 0 row (λ i h. length-text (getD row i 0)) ∙ omega arith
 
-  pub length-line : length (lineText row) ≡ 73
+  pub length-line : length (lineText row) ≡ lineLength
   unfolding lineText
   length-line = length-append (joined (map text row)) (10 ∷ []) ∙ omega (arith, length-fields)
 
@@ -284,50 +287,52 @@ module _ (row : List ℕ) (twelve : length row ≡ 12) where
   line-end = getD-at (joined (map text row)) 10 [] 0 72 length-fields
 
   -- a line with these fields and a newline is the row's
-  pub line-is : (b : List ℕ) → length b ≡ 73 → ((j : ℕ) → j < 12 → take 6 (drop (j * 6) b) ≡ text (getD row j 0)) → getD b 72 0 ≡ 10 → b ≡ lineText row
+  pub line-is : (b : List ℕ) → length b ≡ lineLength → ((j : ℕ) → j < 12 → take 6 (drop (j * 6) b) ≡ text (getD row j 0)) → getD b 72 0 ≡ 10 → b ≡ lineText row
   unfolding lineText
   line-is b e h n =
       let p : take 72 b ≡ joined (map text row) = joined-whole text 6 0 row (take 72 b) (length-take 72 b ∙ omega arith) front in
-      let q : drop 72 b ≡ 10 ∷ [] = drop-cons b 72 0 (omega arith) ∙ ap (λ (x : ℕ). x ∷ drop 73 b) n ∙ ap (λ (l : List ℕ). 10 ∷ l) (drop-of-length-le b {i = 73} (omega arith)) in
+      let q : drop 72 b ≡ 10 ∷ [] = drop-cons b 72 0 (omega arith) ∙ ap (λ (x : ℕ). x ∷ drop lineLength b) n ∙ ap (λ (l : List ℕ). 10 ∷ l) (drop-of-length-le b {i = lineLength} (omega arith)) in
       sym (take-append-drop 72 b) ∙ rw (p, q)
     where
       front : (j : ℕ) → j < length row → take 6 (drop (j * 6) (take 72 b)) ≡ text (getD row j 0)
       front j k = rw (part-of-front (j * 6) 6 72 b (omega arith)) (h j (omega arith))
 
   -- a line whose fields are read as the numbers of a row is the text of the row
-  pub line-reads : (b : List ℕ) → length b ≡ 73 → ((j : ℕ) → j < 12 → readNumber (take 6 (drop (j * 6) b)) ≡ Value (getD row j 0)) → getD b 72 0 ≡ 10 → b ≡ lineText row
+  pub line-reads : (b : List ℕ) → length b ≡ lineLength → ((j : ℕ) → j < 12 → readNumber (take 6 (drop (j * 6) b)) ≡ Value (getD row j 0)) → getD b 72 0 ≡ 10
+      → b ≡ lineText row
   line-reads b e h n = line-is b e (λ j k. reads-value (take 6 (drop (j * 6) b)) (getD row j 0) (h j k) .1) n
 
 -- ---- a file
 
 -- a field inside the file has six characters
-pub length-field : (b r : List ℕ) (line column : ℕ) → r ≡ fieldOf b line column → line * 73 + column * 6 + 6 ≤ length b → length r ≡ 6
+pub length-field : (b r : List ℕ) (line column : ℕ) → r ≡ fieldOf b line column → line * lineLength + column * 6 + 6 ≤ length b → length r ≡ 6
 length-field b r line column e h =
     ap length e
-    ∙ length-take-le 6 (drop (line * 73 + column * 6) b) (omega (arith, length-drop (line * 73 + column * 6) b))
+    ∙ length-take-le 6 (drop (line * lineLength + column * 6) b) (omega (arith, length-drop (line * lineLength + column * 6) b))
 
 module _ (b : List ℕ) (i : ℕ) where
   -- the fields of a line of the file are the file's
-  pub field-in-line : (j : ℕ) → j < 12 → take 6 (drop (j * 6) (take 73 (drop (i * 73) b))) ≡ fieldOf b i j
-  field-in-line j h = rw (part-of-front (j * 6) 6 73 (drop (i * 73) b) (omega arith), drop-drop (j * 6) (i * 73) b)
+  pub field-in-line : (j : ℕ) → j < 12 → take 6 (drop (j * 6) (take lineLength (drop (i * lineLength) b))) ≡ fieldOf b i j
+  field-in-line j h = rw (part-of-front (j * 6) 6 lineLength (drop (i * lineLength) b) (omega arith), drop-drop (j * 6) (i * lineLength) b)
 
-  pub end-in-line : getD (take 73 (drop (i * 73) b)) 72 0 ≡ getD b (i * 73 + 72) 0
-  end-in-line = rw (getD-take 73 (drop (i * 73) b) 72 0 (omega arith), getD-drop (i * 73) b 72 0)
+  pub end-in-line : getD (take lineLength (drop (i * lineLength) b)) 72 0 ≡ getD b (i * lineLength + 72) 0
+  end-in-line = rw (getD-take lineLength (drop (i * lineLength) b) 72 0 (omega arith), getD-drop (i * lineLength) b 72 0)
 
 -- a file with these lines is that of the rows
-pub file-is : (rs : List (List ℕ)) (b : List ℕ) → length b ≡ length rs * 73 → ((i : ℕ) → i < length rs → take 73 (drop (i * 73) b) ≡ lineText (getD rs i [])) → b ≡ fileText rs
+pub file-is : (rs : List (List ℕ)) (b : List ℕ) → length b ≡ length rs * lineLength
+    → ((i : ℕ) → i < length rs → take lineLength (drop (i * lineLength) b) ≡ lineText (getD rs i [])) → b ≡ fileText rs
 unfolding fileText
-file-is rs b e h = joined-whole lineText 73 [] rs b e h
+file-is rs b e h = joined-whole lineText lineLength [] rs b e h
 
 module _ (rs : List (List ℕ)) (twelve : (i : ℕ) → i < length rs → length (getD rs i []) ≡ 12) where
-  pub length-file : length (fileText rs) ≡ length rs * 73
+  pub length-file : length (fileText rs) ≡ length rs * lineLength
   unfolding fileText
-  length-file = length-joined lineText 73 [] rs (λ i h. length-line (getD rs i []) (twelve i h))
+  length-file = length-joined lineText lineLength [] rs (λ i h. length-line (getD rs i []) (twelve i h))
 
   -- the lines of a file are its rows'
-  pub file-line : (i : ℕ) → i < length rs → take 73 (drop (i * 73) (fileText rs)) ≡ lineText (getD rs i [])
+  pub file-line : (i : ℕ) → i < length rs → take lineLength (drop (i * lineLength) (fileText rs)) ≡ lineText (getD rs i [])
   unfolding fileText
-  file-line i h = joined-piece lineText 73 [] rs (λ k l. length-line (getD rs k []) (twelve k l)) i h
+  file-line i h = joined-piece lineText lineLength [] rs (λ k l. length-line (getD rs k []) (twelve k l)) i h
 
   -- the fields of a file are the texts of its numbers
   pub file-field : (i j : ℕ) → i < length rs → j < 12 → fieldOf (fileText rs) i j ≡ text (at rs i j)
@@ -337,16 +342,17 @@ module _ (rs : List (List ℕ)) (twelve : (i : ℕ) → i < length rs → length
   pub prints-read : (i j : ℕ) → i < length rs → j < 12 → at rs i j < 65536 → readNumber (fieldOf (fileText rs) i j) ≡ Value (at rs i j)
   prints-read i j h k l = rw (file-field i j h k) (reads-text (at rs i j) l)
 
-  pub prints-end : (i : ℕ) → i < length rs → getD (fileText rs) (i * 73 + 72) 0 ≡ 10
+  pub prints-end : (i : ℕ) → i < length rs → getD (fileText rs) (i * lineLength + 72) 0 ≡ 10
   prints-end i h = sym (end-in-line (fileText rs) i) ∙ rw (file-line i h) (line-end (getD rs i []) (twelve i h))
 
   -- a file whose fields are read as the rows' numbers is the rows' print
-  pub read-prints : (b : List ℕ) → length b ≡ length rs * 73 → ((i j : ℕ) → i < length rs → j < 12 → readNumber (fieldOf b i j) ≡ Value (at rs i j)) → ((i : ℕ) → i < length rs → getD b (i * 73 + 72) 0 ≡ 10) → b ≡ fileText rs
+  pub read-prints : (b : List ℕ) → length b ≡ length rs * lineLength → ((i j : ℕ) → i < length rs → j < 12 → readNumber (fieldOf b i j) ≡ Value (at rs i j))
+      → ((i : ℕ) → i < length rs → getD b (i * lineLength + 72) 0 ≡ 10) → b ≡ fileText rs
   read-prints b e h n = file-is rs b e line
     where
-      line : (i : ℕ) → i < length rs → take 73 (drop (i * 73) b) ≡ lineText (getD rs i [])
+      line : (i : ℕ) → i < length rs → take lineLength (drop (i * lineLength) b) ≡ lineText (getD rs i [])
       line i k =
-          line-reads (getD rs i []) (twelve i k) (take 73 (drop (i * 73) b))
-          (length-take 73 (drop (i * 73) b) ∙ omega (arith, length-drop (i * 73) b))
+          line-reads (getD rs i []) (twelve i k) (take lineLength (drop (i * lineLength) b))
+          (length-take lineLength (drop (i * lineLength) b) ∙ omega (arith, length-drop (i * lineLength) b))
           (λ j l. rw (field-in-line b i j l) (h i j k l))
           (end-in-line b i ∙ n i k)

@@ -4,9 +4,10 @@ use mathlib.Core.Path.{_≡_}
 use mathlib.Core.Bool.{true}
 use borrow.Author.Needs.{needs}
 use Rattle.numbers.specs.Search.{every}
-use Rattle.numbers.specs.Search.Laws.{every-none, every-passed, every-failed, every-all}
+use Rattle.numbers.specs.Search.Laws.{every-none, every-all}
 use Rattle.table.specs.Table.{tableOf}
 use Rattle.types.specs.Types.{portTyped}
+use Rattle.types.proofs.Answers.{port-more, port-not}
 use Rattle.types.proofs.each_port_typed.Statement.{statement}
 use Rattle.types.proofs.each_port_typed.Tie as tie
 
@@ -25,8 +26,8 @@ each-port-typed-spec =
     μ-loop
     (λ c. (search needs, search every-none))
     (λ c κs. search needs)
-    (λ c. search every-failed)
+    (λ c. search port-not)
     (λ c. search needs)
     (λ c. search needs)
-    (λ c. (search needs, search every-passed))
+    (λ c. (search needs, search port-more))
     (λ c. search every-all))

@@ -1,0 +1,2 @@
+-- What the proofs of `table::indexing` use.
+pub mod Laying
