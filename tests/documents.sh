@@ -22,7 +22,7 @@ function_is_there() {
         crate='*'
     fi
     # shellcheck disable=SC2086 # the star stands for any crate
-    grep -qE "fn $name\(" crates/$crate/src/lib.rt
+    grep -qE "fn $name\(" crates/$crate/src/*.rt
 }
 
 wrong_answer_is_there() {
