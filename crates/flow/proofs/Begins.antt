@@ -55,12 +55,13 @@ module _ (tb : Table) where
   pub begin-none : (l : List ℕ) → l ≡ replicate maxNodes 0 → l ≡ laid (seed tb) 0 maxNodes
   begin-none l e = e ∙ sym (laid-none (seed tb) maxNodes)
 
+  pub begin-more : (l l′ : List ℕ) (n s : ℕ) → l′ ≡ set l n s → l ≡ laid (seed tb) n maxNodes → s ≡ seed tb n → n < maxNodes
+      → l′ ≡ laid (seed tb) (n + 1) maxNodes
+  begin-more l l′ n s f e i h = rw (add-one n, f, e, i) (laid-put (seed tb) maxNodes n h)
+
   module _ (x : List ℕ) (g : Indexed tb x) where
-    pub begin-more : (l l′ : List ℕ) (n c : ℕ) → l ≡ laid (seed tb) n maxNodes → l′ ≡ set l n (seed tb n) → c ≡ nodes tb → n < c
-        → l′ ≡ laid (seed tb) (n + 1) maxNodes
-    begin-more l l′ n c e f q h =
-        let o = header-counts tb (g .counts) in
-        rw (add-one n, f, e) (laid-put (seed tb) maxNodes n (omega arith))
+    pub count-few : (c : ℕ) → c ≡ nodes tb → c ≤ maxNodes
+    count-few c q = let o = header-counts tb (g .counts) in omega arith
 
     pub begin-all : (l : List ℕ) (n c : ℕ) → l ≡ laid (seed tb) n maxNodes → c ≡ nodes tb → n ≤ c → c ≤ n → marksOf l ≡ beginning tb
     unfolding marksOf beginning

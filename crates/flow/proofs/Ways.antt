@@ -21,6 +21,10 @@ use Rattle.flow.specs.Flow.Laws.{length-flow}
 use Rattle.flow.specs.Flow.{Marks, markCount, slotWritten, pastWrite, arrive, beginning, branchFollowed, branchesFollowed, flowTo, flow}
 use Rattle.flow.specs.Marks.{bits, marksOf}
 
+-- the first node of the definition d of node n
+pub first-node-is : (tb : Table) (n d s : ℕ) → d ≡ definitionOf tb n → s ≡ start tb Nodes d → s ≡ start tb Nodes (definitionOf tb n)
+first-node-is tb n d s e f = f ∙ rw e
+
 -- ---- the slot that a branch writes
 
 module _ (tb : Table) (r : ℕ) (a : Role) (t : Bool) (e : a ≡ operandRole tb r 2) (f : t ≡ writes a) where

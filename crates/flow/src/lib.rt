@@ -2,7 +2,7 @@
 // to a node meet in one `|`.
 ghost use mathlib.Core.Path.{_≡_};
 ghost use Prim.Native.Nat.{_+_, _-_, _<_};
-ghost use lib.ListN.{set, replicate};
+ghost use lib.ListN.{replicate};
 ghost use Rattle.table.specs.Table.{maxNodes, tableOf, nodes, branchRow};
 ghost use Rattle.table.specs.Layout.{start, definitionOf};
 ghost use Rattle.table.specs.Index.{Indexed};
@@ -92,14 +92,6 @@ fn seed_of(table: &[u8], index: &[u32], n: u32) -> u32
     0
 }
 
-// Node n gets the marks that it begins with.
-fn begin_at(table: &[u8], index: &[u32], n: u32, marks: &mut [u32])
-    requires { ⌜ Indexed (tableOf (now table)) (now index) ⌝ }
-    ensures { λ _. ⌜ now (marks .exit) ≡ set (now (marks .entry)) n (seed (tableOf (now (table .entry))) n) ⌝ }
-{
-    numbers::put_cell(marks, n as usize, seed_of(table, index, n));
-}
-
 // All nodes get the marks that they begin with; no path begins past the last node, and the numbers there stay 0.
 fn begin(table: &[u8], index: &[u32], marks: &mut [u32])
     requires { ⌜ Indexed (tableOf (now table)) (now index) ⌝ }
@@ -108,7 +100,7 @@ fn begin(table: &[u8], index: &[u32], marks: &mut [u32])
 {
     let count = table::cell(table, 0, field::NODES);
     for n in 0..count {
-        begin_at(table, index, n, marks);
+        numbers::put_cell(marks, n as usize, seed_of(table, index, n));
     }
 }
 

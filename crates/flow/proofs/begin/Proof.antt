@@ -6,13 +6,13 @@ use borrow.Author.Needs.{needs}
 use Rattle.numbers.specs.Laid.{laid}
 use Rattle.table.specs.Table.{maxNodes, tableOf}
 use Rattle.flow.specs.Marks.{seed}
-use Rattle.flow.proofs.Begins.{begin-none, begin-more, begin-all}
+use Rattle.flow.proofs.Begins.{begin-none, begin-more, count-few, begin-all}
 use Rattle.flow.proofs.begin.Statement.{statement}
 use Rattle.flow.proofs.begin.Tie as tie
 
 abbrev Inv-loop : tie.InvT-loop
 Inv-loop table index marks₀ count n₀ marks n =
-    (n ≤ count) × (length marks ≡ length marks₀) × (marks ≡ laid (seed (tableOf table)) n maxNodes)
+    (n ≤ count) × (count ≤ maxNodes) × (length marks ≡ length marks₀) × (marks ≡ laid (seed (tableOf table)) n maxNodes)
 
 abbrev μ-loop : tie.MeasureT-loop
 μ-loop table index marks₀ count n₀ marks n = count - n
@@ -24,10 +24,12 @@ begin-spec =
     Inv-loop
     μ-loop
     (λ c κs. search needs)
-    (λ c. search (begin-none, needs))
+    (λ c. search (begin-none, count-few, needs))
+    (λ c. search needs)
+    (λ c κs. search needs)
     (λ c κs. search needs)
     (λ c. search needs)
     (λ c. search needs)
-    (λ c. (search needs, search needs, search begin-more))
+    (λ c. (search needs, search, search needs, begin-more _ (c .before .before .before .before .before .before .loop .marks) _ (c .before .before .before .before .before .before .loop .n) _ (c .before .before .put-cell .ensures) (search) (search) (search needs)))
     (λ c. search needs)
     (λ c. search begin-all))
