@@ -12,7 +12,7 @@ use borrow.Author.Tests.{ltb-true, ltb-false, lt-ltb, le-ltb, eqb-true, eqb-fals
 use Rattle.numbers.specs.Search.{tabulate}
 use Rattle.numbers.specs.Search.Laws.{caseB, getD-tabulate, length-tabulate, is-tabulate}
 use Rattle.table.specs.Table.{Table}
-use Rattle.state.specs.State.{State, thread, status}
+use Rattle.state.specs.State.{maxChannels, State, thread, status}
 use Rattle.threads.specs.Threads.{offersMarked, withHeld}
 use Rattle.marking.specs.Marking.{portsTo, comes, markedIf, knownIf}
 
@@ -24,23 +24,17 @@ module _ (l : List Bool) (i : ℕ) where
   pub set-past : length l ≤ i → l ≡ set l i true
   set-past h = sym (set-out l i true h)
 
--- note_channels
-pub channels-noted : (tb : Table) (row : List ℕ) (came : Bool) (k k₁ : List Bool) → k₁ ≡ withHeld tb row k → came ≡ true → k₁ ≡ knownIf came tb row k
-unfolding knownIf
-channels-noted tb row came k k₁ e f = rw f e
+-- visit: x is whether thread t comes, and y what is answered
+pub came-so : (x y z : Bool) → x ≡ z → x ≡ y → y ≡ z
+came-so x y z e f = sym f ∙ e
 
-pub none-noted : (tb : Table) (row : List ℕ) (came : Bool) (k : List Bool) → came ≡ false → k ≡ knownIf came tb row k
-unfolding knownIf
-none-noted tb row came k f = rw f
-
--- mark_thread
-pub thread-marked : (m m₁ : List Bool) (t : ℕ) (came : Bool) → m₁ ≡ set m t true → came ≡ true → m₁ ≡ markedIf came m t
+pub thread-marked : (m m₁ : List Bool) (t : ℕ) → m₁ ≡ set m t true → m₁ ≡ markedIf true m t
 unfolding markedIf
-thread-marked m m₁ t came e f = rw f e
+thread-marked m m₁ t e = e
 
-pub none-marked : (m : List Bool) (t : ℕ) (came : Bool) → came ≡ false → m ≡ markedIf came m t
-unfolding markedIf
-none-marked m t came f = rw f
+pub channels-known : (tb : Table) (row : List ℕ) (k k₁ : List Bool) → k₁ ≡ withHeld tb row k → k₁ ≡ knownIf true tb row k
+unfolding knownIf
+channels-known tb row k k₁ e = e
 
 -- joins_now: x is whether thread t is marked, y its status
 module _ (tb : Table) (s : State) (m k : List Bool) (t : ℕ) (x : Bool) (e : x ≡ getD m t false) where
@@ -60,7 +54,7 @@ module _ (tb : Table) (s : State) (m k : List Bool) (t : ℕ) (x : Bool) (e : x 
 pub ruleset joining = (joined-before, joins-ready, joins-offering)
 
 -- know_ports
-pub ports-none : (k : List Bool) → k ≡ replicate 128 false → k ≡ portsTo 0
+pub ports-none : (k : List Bool) → k ≡ replicate maxChannels false → k ≡ portsTo 0
 unfolding portsTo
 ports-none k e =
     e ∙ is-tabulate (replicate 128 false) 128 (λ c. ltb c 0) false (length-replicate {A = Bool} 128 false)

@@ -1,6 +1,6 @@
 // Marks the enabled threads of a state, in rounds over all threads. Which threads are enabled stands in specs/Enabled.antt.
 ghost use mathlib.Core.Path.{_≡_};
-ghost use mathlib.Core.Bool.{true, false, _||_};
+ghost use mathlib.Core.Bool.{true, false};
 ghost use Prim.Native.Nat.{_+_, _≤_};
 ghost use lib.ListN.{getD, set, replicate};
 ghost use Rattle.numbers.specs.Count.{bit};
@@ -26,32 +26,6 @@ fn set_mark(list: &mut [bool], i: usize)
 {
     if i < list.len() {
         list[i] = true;
-    }
-}
-
-// The channels that thread t holds become known, if it came.
-fn note_channels(
-    table: &[u8],
-    index: &[u32],
-    state: &[u32; state::WORDS],
-    t: u32,
-    came: bool,
-    known: &mut [bool; state::CHANNELS as usize],
-)
-    requires { ⌜ Indexed (tableOf (now table)) (now index) ⌝ }
-    ensures { λ _. ⌜ now (known .exit) ≡ knownIf came (tableOf (now (table .entry))) (thread (stateOf (now (state .entry))) t) (now (known .entry)) ⌝ }
-{
-    if came {
-        engine::mark_held(table, index, state, t, known);
-    }
-}
-
-// Thread t is marked, if it came.
-fn mark_thread(marks: &mut [bool; state::THREADS as usize], t: u32, came: bool)
-    ensures { λ _. ⌜ now (marks .exit) ≡ markedIf came (now (marks .entry)) t ⌝ }
-{
-    if came {
-        set_mark(marks, t as usize);
     }
 }
 
@@ -90,20 +64,12 @@ fn visit(
     ensures { λ r. ⌜ now (marks .exit) ≡ markedIf r (now (marks .entry)) t ⌝ }
     ensures { λ r. ⌜ now (known .exit) ≡ knownIf r (tableOf (now (table .entry))) (thread (stateOf (now (state .entry))) t) (now (known .entry)) ⌝ }
 {
-    let came = joins_now(table, index, state, t, marks, known);
-    mark_thread(marks, t, came);
-    note_channels(table, index, state, t, came, known);
-    came
-}
-
-// Whether one of two is so.
-fn either(a: bool, b: bool) -> bool
-    ensures { λ r. ⌜ r ≡ (a || b) ⌝ }
-{
-    if a {
+    if joins_now(table, index, state, t, marks, known) {
+        set_mark(marks, t as usize);
+        engine::mark_held(table, index, state, t, known);
         return true;
     }
-    b
+    false
 }
 
 // One round over the threads. Answers whether it marked one; where it did not, none is left to be marked.
@@ -122,8 +88,7 @@ fn round(
 {
     let mut changed = false;
     for t in 0..state::THREADS {
-        let came = visit(table, index, state, t, marks, known);
-        changed = either(changed, came);
+        changed = changed | visit(table, index, state, t, marks, known);
     }
     changed
 }

@@ -3,7 +3,7 @@
 use Prim.Native.Nat.{_≤_, _-_}
 use mathlib.Core.Path.{_≡_}
 use Rattle.table.specs.Table.{tableOf}
-use Rattle.state.specs.State.{stateOf}
+use Rattle.state.specs.State.{maxThreads, stateOf}
 use Rattle.rules.specs.Holding.{settled}
 use Rattle.collector.specs.Freeing.{collectedTo, takenTo}
 use Rattle.collector.specs.Freeing.Laws.{freed-all, freed-more, counted-none, counted-more, counted-all, counted-fits}
@@ -14,7 +14,7 @@ use Rattle.collector.proofs.take_unmarked.Tie as tie
 
 abbrev Inv-loop : tie.InvT-loop
 Inv-loop table index state₀ marks count₀ t₀ state count t =
-    (t ≤ 64) × (stateOf state ≡ collectedTo (tableOf table) (stateOf state₀) t) × (count ≡ takenTo (tableOf table) (stateOf state₀) t)
+    (t ≤ maxThreads) × (stateOf state ≡ collectedTo (tableOf table) (stateOf state₀) t) × (count ≡ takenTo (tableOf table) (stateOf state₀) t)
     × (settled (tableOf table) (stateOf state) ≡ stateOf state)
 
 abbrev μ-loop : tie.MeasureT-loop

@@ -11,13 +11,11 @@ use Rattle.numbers.specs.Count.{bit}
 use Rattle.numbers.specs.Search.{sumTo}
 use Rattle.numbers.specs.Search.Laws.{caseB, contra, sum-none, sum-suc, getD-tabulate}
 use Rattle.numbers.specs.Tests.{parts}
-use Rattle.table.specs.Table.{Table, ports}
-use Rattle.state.specs.State.{State, maxThreads, thread, inUse, isReady, withChannels}
+use Rattle.table.specs.Table.{Table}
+use Rattle.state.specs.State.{State, maxThreads, thread, inUse, withChannels}
 use Rattle.rules.specs.Holding.{settled}
 use Rattle.rules.specs.Start.{freeRow}
-use Rattle.rules.specs.Offers.{offers}
-use Rattle.rules.specs.declared.Direction.{Direction}
-use Rattle.marking.specs.Enabled.{nobody, Enabled, is-ready, by-bench, enabledSet}
+use Rattle.marking.specs.Enabled.{nobody, Enabled, enabledSet}
 use Rattle.marking.specs.Enabled.Laws.{enabled-in, enabled-iff}
 use Rattle.collector.specs.Collect.{taken, remaining, collected, takenCount}
 
@@ -46,13 +44,6 @@ module _ (tb : Table) (s : State) where
   stays-enabled t u k =
       let m = getD (enabledSet tb s nobody) t false in
       enabled-iff tb s nobody t .0 (caseB m (λ y. y) (λ n. contra (rw (u, n)) k))
-
-  -- neither a ready thread nor one with an offer on a port is taken
-  pub ready-stays : (t : ℕ) → t < maxThreads → isReady (thread s t) ≡ true → taken tb s t ≡ false
-  ready-stays t l r = enabled-stays t (is-ready l r)
-
-  pub port-stays : (t : ℕ) → t < maxThreads → (d : Direction) (c : ℕ) → offers tb (thread s t) d c ≡ true → c < ports tb → taken tb s t ≡ false
-  port-stays t l d c o p = enabled-stays t (by-bench l d c o p)
 
   -- ---- the rows
 

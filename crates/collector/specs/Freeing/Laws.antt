@@ -17,7 +17,7 @@ use Rattle.numbers.specs.Rows.{at}
 use Rattle.numbers.specs.Search.{tabulate}
 use Rattle.numbers.specs.Search.Laws.{caseB, sum-none, sum-suc, sum-more, getD-tabulate, length-tabulate, is-tabulate, tabulate-cong}
 use Rattle.table.specs.Table.{Table}
-use Rattle.state.specs.State.{State, thread, typeIn, withThread, withChannels, withThreads}
+use Rattle.state.specs.State.{maxThreads, State, thread, typeIn, withThread, withChannels, withThreads}
 use Rattle.rules.specs.Holding.{holds, holders, waiters, countOf, channelRow, recount, settled}
 use Rattle.rules.specs.Start.{freeRow}
 use Rattle.marking.specs.Enabled.{nobody, enabledSet}
@@ -37,7 +37,7 @@ free-holds : (tb : Table) (c : ℕ) → bit (holds tb freeRow c) ≡ 0
 unfolding holds bit
 free-holds tb c = refl
 
-module _ (tb : Table) (s : State) (long : length (s .threads) ≡ 64) (t : ℕ) (l : t < 64) where
+module _ (tb : Table) (s : State) (long : length (s .threads) ≡ maxThreads) (t : ℕ) (l : t < maxThreads) where
   fewer-holders : (c : ℕ) → countOf tb (set (s .threads) t freeRow) c ≤ countOf tb (s .threads) c
   unfolding countOf holders
   fewer-holders c =
@@ -58,7 +58,8 @@ module _ (tb : Table) (s : State) (long : length (s .threads) ≡ 64) (t : ℕ) 
 -- ---- one thread after the other
 
 -- a list of values with one of them replaced
-set-tabulate : (f g : ℕ → List ℕ) (n : ℕ) (x : List ℕ) → n < 64 → g n ≡ x → ((k : ℕ) → k < 64 → (k ≡ n → ⊥) → f k ≡ g k) → set (tabulate 64 f) n x ≡ tabulate 64 g
+set-tabulate : (f g : ℕ → List ℕ) (n : ℕ) (x : List ℕ) → n < maxThreads → g n ≡ x → ((k : ℕ) → k < maxThreads → (k ≡ n → ⊥) → f k ≡ g k)
+    → set (tabulate maxThreads f) n x ≡ tabulate maxThreads g
 set-tabulate f g n x l e h =
     is-tabulate (set (tabulate 64 f) n x) 64 g [] (length-set (tabulate 64 f) n x ∙ length-tabulate 64 f)
     (λ k i. caseB (eqb k n)
@@ -66,11 +67,11 @@ set-tabulate f g n x l e h =
     (λ y. getD-set-other (tabulate 64 f) n k x [] (eqb-false k n y) ∙ (getD-tabulate 64 k f [] i ∙ h k i (eqb-false k n y))))
 
 module _ (tb : Table) (s : State) where
-  rows-long : (n : ℕ) → length (rowsTo tb s n .threads) ≡ 64
+  rows-long : (n : ℕ) → length (rowsTo tb s n .threads) ≡ maxThreads
   unfolding rowsTo
   rows-long n = length-tabulate 64 (rowTo tb s n)
 
-  row-here : (n : ℕ) → n < 64 → thread (collectedTo tb s n) n ≡ thread s n
+  row-here : (n : ℕ) → n < maxThreads → thread (collectedTo tb s n) n ≡ thread s n
   unfolding collectedTo rowsTo rowTo settled withChannels
   row-here n l = getD-tabulate 64 n (rowTo tb s n) [] l ∙ rw (le-ltb n n (omega arith))
 
@@ -89,7 +90,7 @@ module _ (tb : Table) (s : State) where
   unfolding rowTo
   row-left n e = rw (e, le-ltb n n (omega arith), lt-ltb n (suc n) (omega arith))
 
-  module _ (n : ℕ) (l : n < 64) where
+  module _ (n : ℕ) (l : n < maxThreads) where
     rows-taken : taken tb s n ≡ true → withThread (rowsTo tb s n) n freeRow ≡ rowsTo tb s (suc n)
     unfolding withThread rowsTo
     rows-taken e =
@@ -117,13 +118,13 @@ module _ (tb : Table) (s : State) where
 -- ---- the laws of the loop
 
 module _ (tb : Table) (s : State) where
-  pub freed-none : length (s .threads) ≡ 64 → settled tb s ≡ s → s ≡ collectedTo tb s 0
+  pub freed-none : length (s .threads) ≡ maxThreads → settled tb s ≡ s → s ≡ collectedTo tb s 0
   unfolding collectedTo rowsTo rowTo
   freed-none long e =
       sym e ∙ ap (λ (y : List (List ℕ)). settled tb (withThreads s y))
       (is-tabulate (s .threads) 64 (rowTo tb s 0) [] long (λ k h. rw (le-ltb k 0 (omega arith))))
 
-  pub freed-all : (s₁ : State) (n : ℕ) → s₁ ≡ collectedTo tb s n → n ≤ 64 → 64 ≤ n → s₁ ≡ collected tb s
+  pub freed-all : (s₁ : State) (n : ℕ) → s₁ ≡ collectedTo tb s n → n ≤ maxThreads → maxThreads ≤ n → s₁ ≡ collected tb s
   unfolding collectedTo rowsTo rowTo collected remaining
   freed-all s₁ n e h i =
       e ∙ ap (λ (y : List (List ℕ)). settled tb (withThreads s y))
@@ -133,7 +134,7 @@ module _ (tb : Table) (s : State) where
   unfolding takenTo
   counted-none = sym (sum-none (λ t. bit (taken tb s t)))
 
-  pub counted-all : (x n : ℕ) → x ≡ takenTo tb s n → n ≤ 64 → 64 ≤ n → x ≡ takenCount tb s
+  pub counted-all : (x n : ℕ) → x ≡ takenTo tb s n → n ≤ maxThreads → maxThreads ≤ n → x ≡ takenCount tb s
   unfolding takenTo takenCount
   counted-all x n e h i = let q : n ≡ 64 = omega arith in rw q at e
 
@@ -144,14 +145,15 @@ module _ (tb : Table) (s : State) where
 
   -- m: the marks, s₁: the state after the threads below n, and s₂ after n too
   module _ (s₁ : State) (m : List Bool) (n : ℕ) where
-    pub freed-more : (s₂ : State) → s₁ ≡ collectedTo tb s n → s₂ ≡ freedBy tb s₁ m n → m ≡ enabledSet tb s nobody → n < 64 → s₂ ≡ collectedTo tb s (n + 1)
+    pub freed-more : (s₂ : State) → s₁ ≡ collectedTo tb s n → s₂ ≡ freedBy tb s₁ m n → m ≡ enabledSet tb s nobody → n < maxThreads
+        → s₂ ≡ collectedTo tb s (n + 1)
     unfolding freedBy collectedTo
     freed-more s₂ e f g l = rw (f, e, leaves-taken tb s n l m g, add-one n) (sym (rows-next tb s n l))
 
     module _ (x r : ℕ) (a : x ≡ takenTo tb s n) (b : r ≡ bit (leaves s₁ m n)) where
-      pub counted-more : s₁ ≡ collectedTo tb s n → m ≡ enabledSet tb s nobody → n < 64 → x + r ≡ takenTo tb s (n + 1)
+      pub counted-more : s₁ ≡ collectedTo tb s n → m ≡ enabledSet tb s nobody → n < maxThreads → x + r ≡ takenTo tb s (n + 1)
       unfolding takenTo
       counted-more e g l = sum-more (λ t. bit (taken tb s t)) n x r a (b ∙ rw (e, leaves-taken tb s n l m g))
 
-      pub counted-fits : n < 64 → Fits w32 (x + r)
+      pub counted-fits : n < maxThreads → Fits w32 (x + r)
       counted-fits l = record { fits = omega (arith, a, b, taken-le n, bit-le (leaves s₁ m n)) }

@@ -101,7 +101,8 @@ module _ (tb : Table) (s : State) (m k : List Bool) (g : Marking tb s m k) where
         (λ y. let q : u ≡ t = eqb-true u t y in rw q here)
         (λ y. getD-set-other m t u true false (eqb-false u t y) ∙ h)
 
-    more-held : (c : ℕ) → c < maxChannels → getD (withHeld tb (thread s t) k) c false ≡ (ltb c (ports tb) || some (λ u. marked (set m t true) u && holds tb (thread s u) c) maxThreads)
+    more-held : (c : ℕ) → c < maxChannels
+        → getD (withHeld tb (thread s t) k) c false ≡ (ltb c (ports tb) || some (λ u. marked (set m t true) u && holds tb (thread s u) c) maxThreads)
     unfolding withHeld
     more-held c i =
         let p : ℕ → Bool = λ u. marked m u && holds tb (thread s u) c in
@@ -151,7 +152,7 @@ or-bit false true = omega arith
 or-bit false false = omega arith
 
 -- nobody is marked at first, and the ports are known
-pub marking-none : (tb : Table) (s : State) (m k : List Bool) → m ≡ replicate 64 false → k ≡ portsTo (ports tb) → Marking tb s m k
+pub marking-none : (tb : Table) (s : State) (m k : List Bool) → m ≡ replicate maxThreads false → k ≡ portsTo (ports tb) → Marking tb s m k
 unfolding portsTo
 marking-none tb s m k e f = rw (e, f) (record {
   all-threads = length-replicate {A = Bool} 64 false;
@@ -163,12 +164,12 @@ marking-none tb s m k e f = rw (e, f) (record {
 -- r: whether thread t comes, and m′, k′ the marks and the known channels after it was visited
 module _ (tb : Table) (s : State) (m k m′ k′ : List Bool) (t : ℕ) (r : Bool) (e : m′ ≡ markedIf r m t) (f : k′ ≡ knownIf r tb (thread s t) k)
     (h : r ≡ comes tb s m k t) where
-  pub marking-more : Marking tb s m k → t < 64 → Marking tb s m′ k′
+  pub marking-more : Marking tb s m k → t < maxThreads → Marking tb s m′ k′
   unfolding markedIf knownIf
   marking-more g l =
       rw (e, f, h) (caseB (comes tb s m k t) (λ y. rw y (marked-more tb s m k g t l y)) (λ y. rw y g))
 
-  unmarked-more : Marking tb s m k → t < 64 → unmarked m′ + bit r ≤ unmarked m
+  unmarked-more : Marking tb s m k → t < maxThreads → unmarked m′ + bit r ≤ unmarked m
   unfolding markedIf bit
   unmarked-more g l =
       rw (e, h) (caseB (comes tb s m k t)
@@ -186,7 +187,7 @@ module _ (tb : Table) (s : State) (m k m′ k′ : List Bool) (t : ℕ) (r : Boo
         (λ y. let i : u ≡ t = eqb-true u t y in rw i n)
         (λ y. g p u (omega (arith, eqb-false u t y))))
 
-    pub fewer-more : (n : ℕ) → Marking tb s m k → t < 64 → unmarked m + bit a ≤ n → unmarked m′ + bit x ≤ n
+    pub fewer-more : (n : ℕ) → Marking tb s m k → t < maxThreads → unmarked m + bit a ≤ n → unmarked m′ + bit x ≤ n
     fewer-more n g l b = let o = or-bit a r in rw j (omega (arith, unmarked-more g l, o))
 
 -- before the first thread, and after the last
@@ -195,7 +196,7 @@ module _ (tb : Table) (s : State) (m k : List Bool) where
   unfolding Still
   still-none t l = absurd (omega arith)
 
-  pub still-all : (a : Bool) (t : ℕ) → (a ≡ false → Still tb s m k t) → a ≡ false → t ≤ 64 → 64 ≤ t → Still tb s m k 64
+  pub still-all : (a : Bool) (t : ℕ) → (a ≡ false → Still tb s m k t) → a ≡ false → t ≤ maxThreads → maxThreads ≤ t → Still tb s m k maxThreads
   still-all a t g e h i = let q : t ≡ 64 = omega arith in rw q at (g e)
 
 pub fewer-none : (m : List Bool) → unmarked m + bit false ≤ unmarked m
@@ -209,7 +210,7 @@ fewer-left x y a r h e = rw e (omega arith)
 
 -- a round that marks nobody ends the marking
 module _ (tb : Table) (s : State) (m k : List Bool) (g : Marking tb s m k) (st : Still tb s m k 64) where
-  unmarked-comes : (t : ℕ) → t < 64 → (isReady (thread s t) || joins tb s nobody m t) ≡ true → marked m t ≡ true
+  unmarked-comes : (t : ℕ) → t < maxThreads → (isReady (thread s t) || joins tb s nobody m t) ≡ true → marked m t ≡ true
   unfolding Still
   unmarked-comes t l e = caseB (marked m t) (λ y. y) (λ n. contra (comes-is tb s m k g t n ∙ e) (st t l))
 
@@ -223,7 +224,7 @@ module _ (tb : Table) (s : State) (m k : List Bool) (g : Marking tb s m k) (st :
       (λ t l y. unmarked-comes t l (rw (begins-ready t y)))
       (λ t l y. unmarked-comes t l (or-second (isReady (thread s t)) (joins tb s nobody m t) y)) e
 
-  set-long : length (enabledSet tb s nobody) ≡ 64
+  set-long : length (enabledSet tb s nobody) ≡ maxThreads
   unfolding enabledSet rounds
   set-long = length-tabulate 64 (joins tb s nobody (rounds tb s nobody 63))
 
@@ -235,9 +236,10 @@ module _ (tb : Table) (s : State) (m k : List Bool) (g : Marking tb s m k) (st :
       (λ y. marked-enabled (enabled-iff tb s nobody u .0 y)))
 
 -- after the last round
-pub marking-end : (tb : Table) (s : State) (m k : List Bool) (a : Bool) → Marking tb s m k → (a ≡ false → Still tb s m k 64) → a ≡ false → m ≡ enabledSet tb s nobody
+pub marking-end : (tb : Table) (s : State) (m k : List Bool) (a : Bool) → Marking tb s m k → (a ≡ false → Still tb s m k 64) → a ≡ false
+    → m ≡ enabledSet tb s nobody
 marking-end tb s m k a g h e = marking-done tb s m k g (h e)
 
 -- before the first
-pub no-rounds : (tb : Table) (s : State) (m k : List Bool) → true ≡ false → Still tb s m k 64
+pub no-rounds : (tb : Table) (s : State) (m k : List Bool) → true ≡ false → Still tb s m k maxThreads
 no-rounds tb s m k e = contra refl e
