@@ -1,6 +1,6 @@
 -- The numbers of an answer in the arms of a `match`. Assumes nothing.
 use Prim.Native.Nat.{ℕ}
-use mathlib.Core.Path.{_≡_, _∙_}
+use mathlib.Core.Path.{_≡_}
 use lib.IntN.{ℤ}
 use mir.Syntax.{w32}
 use mir.Val.{Fits, toZ, ofZ}
@@ -17,11 +17,11 @@ use Rattle.interface.specs.Interface.{stepFields, stepNumbers, runFields
 use Rattle.interface.specs.declared.StepAnswer.{StepAnswer}
 use Rattle.interface.specs.declared.RunAnswer.{RunAnswer}
 
--- what f says of an answer is known in the arm in which the answer is
+-- in an arm of a `match`, where a is b, the value of f is that at b
 pub in-arm : {A B : Type 0} (f : A → B) (r : B) (a b : A) → a ≡ b → r ≡ f b → r ≡ f a
 in-arm f r a b e h = rw e h
 
--- the numbers f of an answer that is refused are those that `fields` makes of the ground's number
+-- where an answer is refused, its numbers are those that `fields` makes of the number of its ground
 pub refused-arm : {A B : Type 0} (f : A → B) (fields : ℕ → B) (refused : Refusal → A) → ((g : Refusal) → f (refused g) ≡ fields (Numbers.refusalNumber g))
     → (r : B) (a : A) (g : Refusal) (n : ℕ) → n ≡ Numbers.refusalNumber g → r ≡ fields n → a ≡ refused g → r ≡ f a
 refused-arm f fields refused same r a g n e h i = rw (i, same g, ← e) h
@@ -30,6 +30,7 @@ refused-arm f fields refused same r a g n e h i = rw (i, same g, ← e) h
 pub signed-back : (x : ℕ) (v : ℤ) → v ≡ toZ w32 x → Fits w32 x → toZ w32 (ofZ w32 v) ≡ toZ w32 x
 signed-back x v e f = rw (e, ofZ-toZ f)
 
+-- the numbers of a step and of a run that are done
 pub step-done : (r : StepAnswer) (a : Stepped) (n : ℕ) (d : Deed) (x y z : ℕ) → r ≡ stepFields 0 n x y z
     → x ≡ Numbers.actNumber d → y ≡ Numbers.branchNumber d → z ≡ Numbers.partnerNumber d → a ≡ Stepped.Done n d → r ≡ stepNumbers a
 unfolding stepNumbers

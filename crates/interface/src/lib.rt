@@ -1,5 +1,5 @@
-// The answers of the exported calls, in the numbers that C sees: the numbers of document 01 for what is answered, a record for each call, and the functions that fill it.
-// An unsigned number stands for the signed one of which it is the 32-bit pattern.
+// The answers of the exported calls, in the numbers that C sees: the numbers of document 01 for what is answered, a record for each call, and the functions
+// that fill it. An unsigned number stands for the signed one of which it is the 32-bit pattern.
 ghost use mathlib.Core.Path.{_≡_};
 ghost use Prim.Native.Nat.{_≤_};
 ghost use Rattle.loader.specs.Verdict.{groundNumber};
