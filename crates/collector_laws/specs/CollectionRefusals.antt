@@ -3,13 +3,13 @@ use Prim.Native.Nat.{ℕ}
 use mathlib.Core.Path.{_≡_, ap}
 use mathlib.Core.Logic.{_↔_}
 use mathlib.Core.List.{List}
+use Rattle.numbers.specs.Tests.{clash}
 use Rattle.table.specs.Table.{tableOf}
 use Rattle.state.specs.State.{view}
 use Rattle.rules.specs.Calls.{Outcome, admission}
 use Rattle.rules.specs.Calls.Laws.{call-refused, call-refusal}
 use Rattle.rules.specs.declared.Refusal.{Refusal}
 use Rattle.rules.specs.declared.Admission.the-variants as Admission
-use Rattle.rules_laws.specs.Codes.{clash}
 use Rattle.collector.specs.Collect.{collectOn, collectCall}
 use Rattle.collector.specs.declared.Collected.{Collected}
 use Rattle.collector.specs.declared.Collected.the-variants as Collected

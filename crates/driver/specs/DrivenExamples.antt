@@ -2,7 +2,7 @@
 use mathlib.Core.Path.{_≡_, refl}
 use mathlib.Core.List.{[], _∷_}
 use mathlib.Core.Logic.{_≢_}
-use Rattle.rules_laws.specs.Codes.{clash}
+use Rattle.numbers.specs.Tests.{clash}
 use Rattle.engine_laws.specs.Lists.{step, take, run}
 use Rattle.guarantee.specs.Claim.{on, collect}
 use Rattle.driver.specs.Encoding.{callBy, calledBy, writtenFrom}

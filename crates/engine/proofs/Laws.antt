@@ -10,6 +10,7 @@ use mir.Val.{Fits}
 use borrow.Author.Tests.{eq-eqb, ne-eqb, not-true, not-false}
 use Rattle.numbers.specs.Bytes.{words}
 use Rattle.numbers.specs.Bytes.Laws.{bytes-fit}
+use Rattle.numbers.specs.Tests.{clash}
 use Rattle.table.specs.Table.{tableOf}
 use Rattle.table.specs.Index.{Indexed}
 use Rattle.loader.specs.Load.{tableLength, accepted}
@@ -33,7 +34,6 @@ use Rattle.rules.specs.declared.Taken.{Taken}
 use Rattle.rules.specs.declared.Taken.the-variants as Taken
 use Rattle.rules.specs.declared.Ran.{Ran}
 use Rattle.rules.specs.declared.Ran.the-variants as Ran
-use Rattle.rules_laws.specs.Codes.{clash}
 use Rattle.rules_laws.specs.Granted.{Granted}
 use Rattle.rules_laws.specs.Accepted.{granted}
 use Rattle.rules_laws.specs.Shape.Laws.{view-shaped}

@@ -4,6 +4,7 @@ use mathlib.Core.Path.{_≡_, refl, sym, _∙_}
 use mathlib.Core.Logic.{_⊎_, inl, inr, ⊎-elim, _↔_}
 use mathlib.Core.Bool.{true, false}
 use Rattle.numbers.specs.Search.Laws.{caseB}
+use Rattle.numbers.specs.Tests.{clash}
 use Rattle.table.specs.Table.{Table}
 use Rattle.state.specs.State.{State, thread, standsAt}
 use Rattle.rules.specs.Moves.{move, perform}
@@ -16,7 +17,6 @@ use Rattle.rules.specs.declared.Refusal.the-variants as Ground
 use Rattle.rules.specs.declared.Deed.{Deed}
 use Rattle.rules.specs.declared.Stepped.{Stepped}
 use Rattle.rules.specs.declared.Stepped.the-variants as Stepped
-use Rattle.rules_laws.specs.Codes.{clash}
 use Rattle.engine.specs.Numbers.{refusalNumber}
 use Rattle.engine_laws.specs.Entry.{atEntry}
 

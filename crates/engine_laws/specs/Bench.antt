@@ -8,6 +8,7 @@ use lib.Dec.{ltb}
 use borrow.Author.Tests.{ltb-true, ltb-false, lt-ltb, le-ltb, ne-eqb}
 use Rattle.numbers.specs.Search.{first}
 use Rattle.numbers.specs.Search.Laws.{caseB, first-below, first-void}
+use Rattle.numbers.specs.Tests.{clash}
 use Rattle.table.specs.Table.{Table, ports}
 use Rattle.state.specs.State.{State, maxThreads, thread}
 use Rattle.rules.specs.Offers.{offers, offeringBranch, answers, answering, partnerOf}
@@ -23,7 +24,6 @@ use Rattle.rules.specs.declared.Given.{Given}
 use Rattle.rules.specs.declared.Given.the-variants as Given
 use Rattle.rules.specs.declared.Taken.{Taken}
 use Rattle.rules.specs.declared.Taken.the-variants as Taken
-use Rattle.rules_laws.specs.Codes.{clash}
 use Rattle.engine.specs.Numbers.{refusalNumber}
 use Rattle.engine_laws.specs.Entry.{atEntry}
 

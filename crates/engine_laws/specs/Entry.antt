@@ -8,7 +8,7 @@ use lib.Dec.{eqb}
 use lib.ListN.{length}
 use borrow.Author.Tests.{eqb-true, eq-eqb}
 use Rattle.numbers.specs.Search.Laws.{caseB, contra}
-use Rattle.numbers.specs.Tests.{and-left, and-right}
+use Rattle.numbers.specs.Tests.{and-left, and-right, clash}
 use Rattle.table.specs.Table.{tableOf}
 use Rattle.loader.specs.Load.{tableLength, accepted}
 use Rattle.state.specs.State.{stateLength, view}
@@ -18,7 +18,6 @@ use Rattle.rules.specs.Calls.Laws.{call-answer, call-refusal}
 use Rattle.rules.specs.declared.Refusal.{Refusal}
 use Rattle.rules.specs.declared.Refusal.the-variants as Ground
 use Rattle.rules.specs.declared.Admission.the-variants as Admission
-use Rattle.rules_laws.specs.Codes.{clash}
 use Rattle.engine.specs.Numbers.{refusalNumber}
 
 -- both buffers have their lengths: 20760 bytes for a table, 6156 for a state

@@ -11,6 +11,7 @@ use lib.Dec.{ltb}
 use lib.ListN.{getD}
 use borrow.Author.Tests.{ltb-true, ltb-false}
 use Rattle.numbers.specs.Search.Laws.{caseB, contra}
+use Rattle.numbers.specs.Tests.{clash}
 use Rattle.table.specs.Table.{Table, tableOf}
 use Rattle.loader.specs.Load.{accepted}
 use Rattle.state.specs.State.{State, maxThreads, view, stateBytes, turn, thread, standsAt, isReady, withMark}
@@ -33,7 +34,6 @@ use Rattle.rules.specs.declared.Ran.{Ran}
 use Rattle.rules.specs.declared.Ran.the-variants as Ran
 use Rattle.next_rows.specs.Around.{next-ready-in, around-none}
 use Rattle.calls.specs.Course.{last-turn}
-use Rattle.rules_laws.specs.Codes.{clash}
 use Rattle.rules_laws.specs.Accepted.{granted}
 use Rattle.rules_laws.specs.Shape.Laws.{view-bytes}
 use Rattle.rules_laws.specs.Soundness.{Sound}

@@ -7,6 +7,7 @@ use mathlib.Core.Bool.{true, false}
 use mathlib.Core.List.{List}
 use lib.ListN.{getD}
 use Rattle.numbers.specs.Search.Laws.{caseB}
+use Rattle.numbers.specs.Tests.{clash}
 use Rattle.table.specs.Table.{Table, tableOf, ports}
 use Rattle.state.specs.State.{State, view}
 use Rattle.rules.specs.Calls.{Outcome, startAdmission, admission, startOn, startCall, canStep, stepOn, stepCall, giveOn, giveCall, takeOn, takeCall, runOn, runCall}
@@ -23,7 +24,6 @@ use Rattle.rules.specs.declared.Given.the-variants as Given
 use Rattle.rules.specs.declared.Taken.the-variants as Taken
 use Rattle.rules.specs.declared.Ran.{Ran}
 use Rattle.rules.specs.declared.Ran.the-variants as Ran
-use Rattle.rules_laws.specs.Codes.{clash}
 use Rattle.engine.specs.Numbers.{refusalNumber}
 use Rattle.engine_laws.specs.Entry.{Admitted, atEntry, own-ground, entry-ground, start-not-state}
 use Rattle.engine_laws.specs.Lacking.{Takes, NoThreadRow, NoChannelRow, lacks-thread-iff, lacks-channel-iff}

@@ -5,7 +5,7 @@ use mathlib.Core.Bool.{true}
 use mathlib.Core.List.{List}
 use lib.ListN.{length, getD}
 use borrow.Author.Tests.{eqb-true}
-use Rattle.numbers.specs.Tests.{parts}
+use Rattle.numbers.specs.Tests.{parts, clash}
 use Rattle.table.specs.Table.{tableOf}
 use Rattle.loader.specs.Load.{tableLength, accepted}
 use Rattle.state.specs.State.{stateLength, view, stateBytes}
@@ -21,7 +21,6 @@ use Rattle.rules.specs.declared.Given.the-variants as Given
 use Rattle.rules.specs.declared.Taken.the-variants as Taken
 use Rattle.rules.specs.declared.Ran.the-variants as Ran
 use Rattle.rules_laws.specs.Granted.{Granted}
-use Rattle.rules_laws.specs.Codes.{clash}
 use Rattle.rules_laws.specs.Accepted.{granted}
 use Rattle.rules_laws.specs.Shape.Laws.{view-bytes}
 use Rattle.rules_laws.specs.Soundness.{Sound}

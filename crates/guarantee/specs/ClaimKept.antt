@@ -9,6 +9,7 @@ use lib.Dec.{ltb}
 use lib.ListN.{getD, List·getD-eq-default}
 use borrow.Author.Tests.{ltb-true, ltb-false}
 use Rattle.numbers.specs.Search.Laws.{caseB}
+use Rattle.numbers.specs.Tests.{clash}
 use Rattle.table.specs.Table.{tableOf}
 use Rattle.loader.specs.Load.{accepted}
 use Rattle.state.specs.State.{maxThreads, view, thread, inUse}
@@ -16,7 +17,6 @@ use Rattle.rules.specs.Calls.{admission}
 use Rattle.rules.specs.declared.Refusal.the-variants as Ground
 use Rattle.rules.specs.declared.Admission.the-variants as Admission
 use Rattle.rules_laws.specs.Granted.{Granted}
-use Rattle.rules_laws.specs.Codes.{clash}
 use Rattle.rules_laws.specs.Accepted.{granted}
 use Rattle.rules_laws.specs.Soundness.{Sound}
 use Rattle.engine.specs.Numbers.{refusalNumber}

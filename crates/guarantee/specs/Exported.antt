@@ -14,6 +14,7 @@ use mir.Val.{toZ, ofZ}
 use mir.Facts.{toZ-pos, ofZ-toZ}
 use borrow.Author.Tests.{eqb-true}
 use Rattle.numbers.specs.Search.Laws.{caseB}
+use Rattle.numbers.specs.Tests.{clash}
 use Rattle.file.specs.File.{fileTable}
 use Rattle.loader.specs.Verdict.{groundNumber, verdict}
 use Rattle.loader.specs.Load as Load
@@ -36,7 +37,6 @@ use Rattle.rules.specs.declared.Taken.{Taken}
 use Rattle.rules.specs.declared.Taken.the-variants as Taken
 use Rattle.rules.specs.declared.Ran.{Ran}
 use Rattle.rules.specs.declared.Ran.the-variants as Ran
-use Rattle.rules_laws.specs.Codes.{clash}
 use Rattle.engine.specs.Numbers.{refusalNumber}
 use Rattle.engine.specs.Numbers.Laws.{ground-range, same-number}
 use Rattle.engine_laws.specs.Lists.{step, give, take, run, after, RefusedWith}

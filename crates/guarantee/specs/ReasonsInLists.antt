@@ -12,7 +12,7 @@ use mir.Syntax.{w32}
 use mir.Val.{toZ}
 use mir.Facts.{toZ-pos}
 use borrow.Author.Tests.{ltb-true}
-use Rattle.numbers.specs.Tests.{parts}
+use Rattle.numbers.specs.Tests.{parts, clash}
 use Rattle.state.specs.State.{maxThreads, view}
 use Rattle.rules.specs.Calls.{canStep, runCall}
 use Rattle.rules.specs.declared.Refusal.{Refusal}
@@ -24,7 +24,6 @@ use Rattle.rules.specs.declared.Reason.{Reason}
 use Rattle.rules.specs.declared.Reason.the-variants.{AllDone, NoneReady, LackedThread, LackedChannel}
 use Rattle.rules.specs.declared.Ran.{Ran}
 use Rattle.rules.specs.declared.Ran.the-variants as Ran
-use Rattle.rules_laws.specs.Codes.{clash}
 use Rattle.engine.specs.Numbers.{refusalNumber, reasonNumber, heldUpNumber}
 use Rattle.engine_laws.specs.Refusals.{step-thread-row-iff, step-channel-row-iff}
 use Rattle.engine_laws.specs.Reasons.{turnPast, due, Idle, dueAnswer, afterTurns, leftBy, RunEnds, run-ends}

@@ -11,6 +11,7 @@ use borrow.Author.Tests.{ltb-true, ltb-false, lt-ltb, eqb-true}
 use Rattle.numbers.specs.Rows.{at}
 use Rattle.numbers.specs.Search.{every, tabulate}
 use Rattle.numbers.specs.Search.Laws.{caseB, contra, every-elim, length-tabulate, getD-tabulate}
+use Rattle.numbers.specs.Tests.{clash}
 use Rattle.table.specs.Table.{Table, definitions, ports, parameters}
 use Rattle.table.specs.Layout.{start, slotType}
 use Rattle.table.specs.declared.Part.the-variants.{Nodes}
@@ -24,7 +25,6 @@ use Rattle.rules.specs.declared.Stepped.the-variants as Stepped
 use Rattle.rules.specs.declared.Reason.the-variants.{AllDone, NoneReady, LackedThread, LackedChannel}
 use Rattle.rules.specs.declared.Ran.the-variants as Ran
 use Rattle.offers.specs.Apart.{Apart}
-use Rattle.rules_laws.specs.Codes.{clash}
 use Rattle.rules_laws.specs.Granted.{Granted}
 use Rattle.rules_laws.specs.Reading.Laws.{offers-elim}
 use Rattle.rules_laws.specs.Shape.{Shaped}

@@ -8,6 +8,7 @@ use mathlib.Core.Bool.{true}
 use mathlib.Core.List.{[], _∷_}
 use mathlib.Core.Option.{none}
 use Rattle.numbers.specs.Search.{tabulate}
+use Rattle.numbers.specs.Tests.{clash}
 use Rattle.table.specs.Table.{Table, tableOf}
 use Rattle.loader_laws.specs.PrintedFile.{filledUp}
 use Rattle.state.specs.State.{State, view, thread, isReady}
@@ -27,7 +28,6 @@ use Rattle.published.specs.Syntax.{end, waiting}
 use Rattle.published.specs.Agents as Agents
 use Rattle.published.specs.Agents.{refers, Thread}
 use Rattle.published.specs.Rules.{Reaches, Nothing}
-use Rattle.published.specs.Bindings.{clash}
 use Rattle.published.specs.Fired.{by-new, by-passing, fired, Turns}
 use Rattle.published.specs.Whole.{WholeTurn}
 use Rattle.published_laws.specs.Readable.{readable}

@@ -13,6 +13,7 @@ use Rattle.numbers.specs.Count.{bit}
 use Rattle.numbers.specs.Count.Laws.{bit-le}
 use Rattle.numbers.specs.Search.{sumTo}
 use Rattle.numbers.specs.Search.Laws.{caseB, sum-none, sum-suc}
+use Rattle.numbers.specs.Tests.{clash}
 use Rattle.text.specs.Text.{figuresBy, figures, numeral, rightJustified, text}
 use Rattle.table.specs.Table.{Table, nodes}
 use Rattle.table.specs.Layout.{branchCount}
@@ -40,7 +41,6 @@ use Rattle.rules.specs.declared.Turn.{Turn}
 use Rattle.rules.specs.declared.Turn.the-variants.{Went, Stopped}
 use Rattle.engine.specs.Numbers.{actNumber, branchNumber, partnerNumber, reasonNumber, heldUpNumber}
 use Rattle.rules_laws.specs.Granted.{Granted}
-use Rattle.rules_laws.specs.Codes.{clash}
 use Rattle.rules_laws.specs.Accepted.{granted}
 use Rattle.rules_laws.specs.Passed.{judged-passed}
 use Rattle.next_rows.specs.Around.{next-ready-in}

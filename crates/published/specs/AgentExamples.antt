@@ -9,11 +9,11 @@ use mathlib.Core.List.{List, [], _∷_}
 use mathlib.Core.Option.{none, some}
 use lib.ListN.{length}
 use Rattle.numbers.specs.Search.Laws.{contra}
+use Rattle.numbers.specs.Tests.{clash}
 use Rattle.published.specs.Syntax.{Guard, always, Process, choice, nothing, branch, wait, Prefix, output, input, andWait, waiting, someWait, onlyWaits}
 use Rattle.published.specs.Agents.{_∈_, channel, number, Env, look, bind, holds, Commitment, gives, takes, Thread, thread, Channels, Agent, agent, nth}
 use Rattle.published.specs.Rules.{Rearranged, swapped, Acts, send, out, recv, Reduces, acts, exchange, stays, goes, Reaches, Nothing}
 use Rattle.published.specs.Enabling.{Enabled, active}
-use Rattle.published.specs.Bindings.{clash}
 use Rattle.published.specs.Choices.{BySum, ByProcess, Of, acts-of, Alike, same-end, other-name, other-input, other-output, settled-choice, commits}
 use Rattle.published.specs.ProductLaws.{same-order, in-rearranged, turned-back}
 use Rattle.published.specs.Orders.{same-length}

@@ -9,12 +9,9 @@ use mathlib.Core.Option.{Option, none, some}
 use lib.ListN.{length}
 use borrow.Author.Tests.{eqb-true, eq-eqb}
 use Rattle.numbers.specs.Search.Laws.{contra}
+use Rattle.numbers.specs.Tests.{clash}
 use Rattle.marking.specs.Enabled.Laws.{or-elim, or-second}
 use Rattle.published.specs.Agents.{Value, channel, number, Env, look, bind, refers, mentions, Thread, knows}
-
--- two constructors that differ are not equal: an equation of them gives one of 0 and 1
-pub clash : {A : Type 0} → _≡_ {A = ℕ} 0 1 → A
-clash e = absurd (let h : ⊥ = omega arith in h)
 
 -- ---- a binding
 

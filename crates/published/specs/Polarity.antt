@@ -6,10 +6,10 @@ use mathlib.Core.Logic.{inl, inr, ⊎-elim, _≢_}
 use mathlib.Core.Bool.{Bool}
 use mathlib.Core.List.{List, [], _∷_, _++_}
 use lib.ListN.{length}
+use Rattle.numbers.specs.Tests.{clash}
 use Rattle.published.specs.Syntax.{Process}
 use Rattle.published.specs.Agents.{_∈_, bind, Commitment, gives, takes, Thread, thread, Agent, nth}
 use Rattle.published.specs.Rules.{Rearranged, none-left, same-first, swapped, twice, Acts, step, new, spawn, next, call, inert, send, out, recv, inn, more, Reclaims, reclaim, Sticks, stuck, Reduces, par, acts, reclaims, sticks, exchange, Reaches, stays, goes, Nothing, Ours, skip, assigns, zeros}
-use Rattle.published.specs.Bindings.{clash}
 use Rattle.published.specs.ProductLaws.{in-either, in-rearranged, turned-round, nth-in}
 
 -- no output commitment of the one thread is on a channel of an input commitment of the other

@@ -11,8 +11,8 @@ use lib.Seq.{getD-append-seam}
 use borrow.Author.Tests.{ltb-true, ltb-false}
 use Rattle.numbers.specs.Search.{tabulate}
 use Rattle.numbers.specs.Search.Laws.{caseB, same-truth, getD-tabulate, length-tabulate}
+use Rattle.numbers.specs.Tests.{clash}
 use Rattle.table.specs.Table.{Table, ports}
-use Rattle.rules_laws.specs.Codes.{clash}
 use Rattle.published.specs.Syntax.{Process, waiting}
 use Rattle.published.specs.Agents.{Value, channel, Env, look, bind, refers, mentions, thread, knows}
 use Rattle.published.specs.Bindings.{knows-iff}

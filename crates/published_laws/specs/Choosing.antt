@@ -7,6 +7,7 @@ use mathlib.Core.Bool.{false}
 use lib.Dec.{ltb}
 use borrow.Author.Tests.{ne-eqb}
 use Rattle.numbers.specs.Search.Laws.{caseB, contra, first-below}
+use Rattle.numbers.specs.Tests.{clash}
 use Rattle.table.specs.Table.{Table}
 use Rattle.table.specs.Layout.{branchCount}
 use Rattle.state.specs.State.{State, maxThreads, maxChannels, thread, standsAt}
@@ -14,7 +15,6 @@ use Rattle.rules.specs.Program.{branchAt, nextOf, fieldB}
 use Rattle.rules.specs.Offers.{offersAt, offeringBranch, answers, answering, partnerOf}
 use Rattle.rules.specs.declared.Direction.{Direction}
 use Rattle.rules.specs.declared.Partner.the-variants.{Nobody, At}
-use Rattle.rules_laws.specs.Codes.{clash}
 use Rattle.rules_laws.specs.Chosen.{partner-answers, nobody-answers}
 use Rattle.published.specs.Syntax.{Process}
 use Rattle.published.specs.Agents.{_∈_}

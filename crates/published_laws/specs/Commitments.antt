@@ -8,6 +8,7 @@ use mathlib.Core.List.{List, [], _∷_}
 use lib.Dec.{eqb}
 use borrow.Author.Tests.{eqb-true, eqb-false}
 use Rattle.numbers.specs.Search.Laws.{caseB}
+use Rattle.numbers.specs.Tests.{clash}
 use Rattle.table.specs.Table.{Table}
 use Rattle.table.specs.Layout.{branchCount}
 use Rattle.state.specs.State.{maxChannels, standsAt, slotOf, isWaiting}
@@ -17,7 +18,6 @@ use Rattle.rules.specs.declared.Direction.{Direction}
 use Rattle.rules.specs.declared.Direction.the-variants.{Out, In}
 use Rattle.rules.specs.declared.Act.{Act}
 use Rattle.rules.specs.declared.Act.the-variants.{Tau, Meeting, New, Spawn, Assignment}
-use Rattle.rules_laws.specs.Codes.{clash}
 use Rattle.rules_laws.specs.Reading.Laws.{offers-intro}
 use Rattle.published.specs.Syntax.{Process}
 use Rattle.published.specs.Agents.{_∈_, Commitment, gives, takes, channelOf}

@@ -7,6 +7,7 @@ use mathlib.Core.Bool.{true, false}
 use mathlib.Core.List.{List, [], _∷_}
 use mathlib.Core.Option.{Option, none, some}
 use lib.ListN.{length, getD}
+use Rattle.numbers.specs.Tests.{clash}
 use Rattle.table.specs.Table.{Table, tableOf, ports}
 use Rattle.loader.specs.Load.{accepted}
 use Rattle.state.specs.State.{stateLength, view, thread}
@@ -19,7 +20,6 @@ use Rattle.rules.specs.declared.Given.{Given}
 use Rattle.rules.specs.declared.Given.the-variants as Given
 use Rattle.rules.specs.declared.Taken.{Taken}
 use Rattle.rules.specs.declared.Taken.the-variants as Taken
-use Rattle.rules_laws.specs.Codes.{clash}
 use Rattle.engine_laws.specs.Bench.{give-met, take-met}
 use Rattle.engine_laws.specs.Buffers.{SoundBuffer}
 use Rattle.engine_laws.specs.SoundCalls.{start-done, start-sound, start-view}

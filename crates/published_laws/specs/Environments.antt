@@ -13,6 +13,7 @@ use borrow.Author.Tests.{ltb-true, ltb-false, lt-ltb, eqb-true, eqb-false, eq-eq
 use Rattle.numbers.specs.Rows.{at}
 use Rattle.numbers.specs.Search.{tabulate}
 use Rattle.numbers.specs.Search.Laws.{caseB, contra, same-truth, getD-tabulate, length-tabulate, tabulate-cong, is-tabulate}
+use Rattle.numbers.specs.Tests.{clash}
 use Rattle.table.specs.Fields as Field
 use Rattle.table.specs.Table.{Table, slotCount}
 use Rattle.table.specs.Layout.{branchCount, definitionOf, slotType}
@@ -22,7 +23,6 @@ use Rattle.rules.specs.Program.{wrappedSum, wrappedDifference, branchAt, fieldB
 use Rattle.rules.specs.Holding.{holds}
 use Rattle.rules.specs.declared.Act.the-variants.{Assignment}
 use Rattle.rules_laws.specs.Granted.{Granted}
-use Rattle.rules_laws.specs.Codes.{clash}
 use Rattle.rules_laws.specs.Reading.Laws.{holds-elim, holds-intro}
 use Rattle.rules_laws.specs.Soundness.{SlotSound, spare, number, unfilled, filled, RowSound}
 use Rattle.rules_laws.specs.Onward.{own-slot}

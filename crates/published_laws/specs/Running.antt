@@ -8,7 +8,7 @@ use lib.ListN.{getD}
 use borrow.Author.Tests.{ltb-true}
 use Rattle.numbers.specs.Search.{tabulate}
 use Rattle.numbers.specs.Search.Laws.{tabulate-cong}
-use Rattle.numbers.specs.Tests.{parts}
+use Rattle.numbers.specs.Tests.{parts, clash}
 use Rattle.table.specs.Table.{Table, tableOf, ports}
 use Rattle.loader.specs.Load.{accepted}
 use Rattle.state.specs.State.{maxThreads, view, thread, standsAt, isReady}
@@ -27,7 +27,6 @@ use Rattle.rules.specs.declared.Deed.{Deed}
 use Rattle.rules.specs.declared.Reason.{Reason}
 use Rattle.rules.specs.declared.Ran.the-variants as Ran
 use Rattle.rules_laws.specs.Granted.{Granted}
-use Rattle.rules_laws.specs.Codes.{clash}
 use Rattle.rules_laws.specs.Accepted.{granted}
 use Rattle.rules_laws.specs.Soundness.{Sound}
 use Rattle.rules_laws.specs.Lasting.{step-on-kept, give-on-kept, take-on-kept}

@@ -7,6 +7,7 @@ use mathlib.Core.Bool.{true}
 use mathlib.Core.List.{List, []}
 use lib.ListN.{set, length-set}
 use lib.Seq.{getD-set-same}
+use Rattle.numbers.specs.Tests.{clash}
 use Rattle.table.specs.Table.{Table}
 use Rattle.table.specs.Layout.{branchCount}
 use Rattle.state.specs.State.{State, maxThreads, thread, standsAt, isReady, withMark, withThread, withChannels}
@@ -22,7 +23,6 @@ use Rattle.rules.specs.declared.Move.{Move}
 use Rattle.rules.specs.declared.Move.the-variants.{Ends, Calls, Waits, Goes, Creates, Spawns, Meets, LacksThread, LacksChannel}
 use Rattle.rules.specs.declared.Stepped.the-variants as Stepped
 use Rattle.rules.specs.declared.Deed.{Deed}
-use Rattle.rules_laws.specs.Codes.{clash}
 use Rattle.rules_laws.specs.Reading.Laws.{ready-used}
 use Rattle.rules_laws.specs.Soundness.{Orderly}
 use Rattle.rules_laws.specs.Chosen.{Chosen, chosen}

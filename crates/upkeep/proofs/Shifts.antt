@@ -5,9 +5,10 @@ use native.Mathlib.Numerals.{add-one}
 use mathlib.Core.Path.{_≡_, refl, _∙_}
 use mathlib.Core.List.{List, [], _∷_}
 use lib.ListN.{length, getD, set}
-use lib.Seq.{set-out, set-set, getD-set-same}
+use lib.Seq.{set-out}
 use Rattle.numbers.specs.Count.{bit}
 use Rattle.numbers.specs.Rows.{at}
+use Rattle.numbers.specs.Rows.Laws.{put-put}
 use Rattle.numbers.specs.Signed.{sum, difference}
 use Rattle.table.specs.Table.{Table}
 use Rattle.state.specs.State.{State, stateOf, stateWords, minusOne, thread, channel, isWaiting, withChannel, withChannels, maxChannels, rowSlots}
@@ -25,10 +26,6 @@ held-row : (ty n w : ℕ) → (n ≡ 0 → ⊥) → ty ∷ n ∷ w ∷ [] ≡ ch
 unfolding channelRow
 held-row ty zero w h = absurd (h refl)
 held-row ty (suc n) w h = refl
-
--- a store in a row that was stored in
-put-put : (chs : List (List ℕ)) (c k v : ℕ) (r : List ℕ) → c < length chs → set (set chs c r) c (set (getD (set chs c r) c []) k v) ≡ set chs c (set r k v)
-put-put chs c k v r h = rw (getD-set-same chs c r [] h, set-set chs c r (set r k v))
 
 module _ (b : List ℕ) (c n w : ℕ) (s₁ s₂ : State) (e : length b ≡ stateWords) (h : c < maxChannels) where
   pub counts-put : (n ≡ 0 → ⊥) → s₁ ≡ withChannel (stateOf b) c (set (channel (stateOf b) c) 1 n) → s₂ ≡ withChannel s₁ c (set (channel s₁ c) 2 w)

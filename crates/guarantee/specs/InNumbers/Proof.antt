@@ -15,6 +15,7 @@ use Rattle.numbers.specs.Count.{bit}
 use Rattle.numbers.specs.Count.Laws.{bit-le}
 use Rattle.numbers.specs.Search.{sumTo}
 use Rattle.numbers.specs.Search.Laws.{caseB, contra, sum-none, sum-suc}
+use Rattle.numbers.specs.Tests.{clash}
 use Rattle.table.specs.Table.{Table, tableOf}
 use Rattle.loader.specs.Load.{accepted}
 use Rattle.loader_laws.specs.Yields.{loaded-small, loaded-accepted}
@@ -37,7 +38,6 @@ use Rattle.rules.specs.declared.Taken.{Taken}
 use Rattle.rules.specs.declared.Taken.the-variants as Taken
 use Rattle.rules.specs.declared.Ran.{Ran}
 use Rattle.rules.specs.declared.Ran.the-variants as Ran
-use Rattle.rules_laws.specs.Codes.{clash}
 use Rattle.engine.specs.Numbers.{refusalNumber, partnerNumber}
 use Rattle.engine.specs.Numbers.Laws.{ground-range}
 use Rattle.rules_laws.specs.Reading.Laws.{waiting-used}

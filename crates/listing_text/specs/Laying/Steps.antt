@@ -11,6 +11,7 @@ use Rattle.numbers.specs.Rows.{at}
 use Rattle.numbers.specs.Bytes.{joined}
 use Rattle.numbers.specs.Search.{tabulate}
 use Rattle.numbers.specs.Search.Laws.{caseB, tabulate-none, tabulate-suc}
+use Rattle.numbers.specs.Tests.{clash}
 use Rattle.table.specs.Table.{Table}
 use Rattle.state.specs.State.{State, maxThreads, thread, standsAt}
 use Rattle.rules.specs.Holding.{settled}
@@ -23,7 +24,6 @@ use Rattle.rules.specs.declared.Reason.{Reason}
 use Rattle.rules.specs.declared.Reason.the-variants.{AllDone, NoneReady}
 use Rattle.rules.specs.declared.Turn.{Turn}
 use Rattle.rules.specs.declared.Turn.the-variants.{Went, Stopped}
-use Rattle.rules_laws.specs.Codes.{clash}
 use Rattle.rules_laws.specs.Soundness.{Sound}
 use Rattle.rules_laws.specs.Soundness.Laws.{sound-settled}
 use Rattle.turns.specs.Made.Laws.{next-turn}

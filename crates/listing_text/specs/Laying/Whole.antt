@@ -14,6 +14,7 @@ use Rattle.numbers.specs.Bytes.{joined}
 use Rattle.numbers.specs.Bytes.Laws.{bytes-fit}
 use Rattle.numbers.specs.Search.{tabulate}
 use Rattle.numbers.specs.Search.Laws.{caseB, tabulate-none, tabulate-suc}
+use Rattle.numbers.specs.Tests.{clash}
 use Rattle.table.specs.Table.{Table, tableOf}
 use Rattle.table.specs.Index.{Indexed}
 use Rattle.file.specs.File.{fileTable}
@@ -37,7 +38,6 @@ use Rattle.rules.specs.declared.Stepped.the-variants as Stepped
 use Rattle.engine.specs.Numbers.{actNumber, branchNumber, partnerNumber}
 use Rattle.rules_laws.specs.Granted.{Granted}
 use Rattle.rules_laws.specs.Accepted.{granted}
-use Rattle.rules_laws.specs.Codes.{clash}
 use Rattle.rules_laws.specs.Soundness as Sound
 use Rattle.rules_laws.specs.Started.{started-sound}
 use Rattle.collector.specs.Collect.{taken}

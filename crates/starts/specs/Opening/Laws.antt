@@ -7,10 +7,10 @@ use mathlib.Core.Bool.{_&&_}
 use mathlib.Core.List.{List, [], _∷_}
 use lib.Dec.{ltb}
 use lib.ListN.{length, getD, set, replicate, length-replicate}
-use lib.Seq.{getD-set-same, set-set}
 use borrow.Author.Tests.{lt-ltb, le-ltb}
 use Rattle.numbers.specs.Count.{bit}
 use Rattle.numbers.specs.Rows.{at}
+use Rattle.numbers.specs.Rows.Laws.{put-put}
 use Rattle.numbers.specs.Search.{tabulate}
 use Rattle.numbers.specs.Search.Laws.{caseB, getD-tabulate, tabulate-cong}
 use Rattle.table.specs.Table.{Table, ports}
@@ -47,10 +47,6 @@ freed-all b s₁ t e h i =
 pub ruleset freeing = (freed-none, freed-more, freed-all)
 
 -- ---- open_ports
-
--- a store in a row that was stored in
-put-put : (chs : List (List ℕ)) (c k v : ℕ) (r : List ℕ) → c < length chs → set (set chs c r) c (set (getD (set chs c r) c []) k v) ≡ set chs c (set r k v)
-put-put chs c k v r h = rw (getD-set-same chs c r [] h, set-set chs c r (set r k v))
 
 pub row-put : (b : List ℕ) (c ty n : ℕ) (s₁ s₂ s₃ : State) → length b ≡ stateWords → c < maxChannels
     → s₁ ≡ withChannel (stateOf b) c (set (channel (stateOf b) c) 0 ty)
