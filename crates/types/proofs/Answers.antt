@@ -26,6 +26,17 @@ module _ (tb : Table) (k t : ℕ) (e : t ≡ slotType tb 0 k) where
   pub port-not : (n : ℕ) → (t ≡ 1 → ⊥) → k < n → false ≡ every (portTyped tb) n
   port-not n g h = every-not (portTyped tb) k n (eqb t 1) port-is (ne-eqb t 1 g) h
 
+-- argument i of a call of definition c is slot a, of type x, and its parameter has type y
+pub argument-is : (tb : Table) (r d i c a x y : ℕ) → c ≡ at tb r Field.callee → a ≡ at tb r (Field.arguments + i) → x ≡ slotType tb d a → y ≡ slotType tb c i
+    → eqb x y ≡ argumentTyped tb r d i
+unfolding argumentTyped
+argument-is tb r d i c a x y e f g h = rw (g, f, h, e)
+
+-- the channel of a branch is its operand v, of type t, which carries u
+pub carried-is : (tb : Table) (r d v t u : ℕ) → v ≡ operand tb r 2 → t ≡ slotType tb d v → u ≡ at tb t Field.carried
+    → u ≡ carried tb (slotType tb d (operand tb r 2))
+carried-is tb r d v t u e f g = g ∙ rw (f, e)
+
 -- an operand v of role a, whose slot has type x
 pub operand-is : (tb : Table) (r d k v x u : ℕ) (a : Role) (t : Bool) → t ≡ roleTyped a x u → a ≡ operandRole tb r k → v ≡ operand tb r k → x ≡ slotType tb d v
     → u ≡ carried tb (slotType tb d (operand tb r 2)) → t ≡ operandTyped tb r d k

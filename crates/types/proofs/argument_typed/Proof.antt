@@ -1,10 +1,9 @@
 use borrow.Author.Needs.{needs}
+use Rattle.types.proofs.Answers.{argument-is}
 use Rattle.types.proofs.argument_typed.Statement.{statement}
 use Rattle.types.proofs.argument_typed.Tie as tie
-use Rattle.types.specs.Types.{argumentTyped}
 
 pub argument-typed-spec : {M : Type 1} → statement M
-unfolding argumentTyped
 argument-typed-spec =
     tie.close
     (tie.spec
@@ -13,4 +12,4 @@ argument-typed-spec =
     (λ c κs. search needs)
     (λ c κs. search needs)
     (λ c κs. search needs)
-    (λ c. cc))
+    (λ c. search argument-is))

@@ -1,4 +1,5 @@
 use borrow.Author.Needs.{needs}
+use Rattle.types.proofs.Answers.{carried-is}
 use Rattle.types.proofs.branch_typed.Statement.{statement}
 use Rattle.types.proofs.branch_typed.Tie as tie
 
@@ -10,5 +11,5 @@ branch-typed-spec =
     (λ c κs. search needs)
     (λ c. search needs)
     (λ c κs. search needs)
-    (λ c κs. (search needs, cc))
+    (λ c κs. (search needs, search carried-is))
     (λ c. search needs))
