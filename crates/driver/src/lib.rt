@@ -1,14 +1,14 @@
 // Works a whole list of calls, which lies in a buffer, by the functions that C calls, and lays their answers into another buffer. What it ensures follows
 // from the contracts of those functions alone: a contract that says less, or something else, leaves it unproved.
 ghost use mathlib.Core.Path.{_≡_};
-ghost use Prim.Native.Nat.{_<_, _+_, _*_, _/_, _%_};
-ghost use lib.ListN.{length, set};
+ghost use Prim.Native.Nat.{_<_};
+ghost use lib.ListN.{set};
 ghost use mir.Syntax.{w32};
 ghost use mir.Val.{ofZ};
 ghost use Rattle.numbers.specs.Bytes.{words};
 ghost use Rattle.engine_laws.specs.Lists.{step as Step, give as Give, take as Take, run as Run};
 ghost use Rattle.guarantee.specs.Claim.{on, collect as Collect, afterAny, afterList};
-ghost use Rattle.driver.specs.Encoding.{pattern, pattern-small, callBy, callAt, callsOf, answerTo, answersTo, wordsOf, writtenFrom};
+ghost use Rattle.driver.specs.Encoding.{pattern, pattern-small, callBy, callsOf, answerTo, answersTo, wordsOf, writtenFrom};
 
 // The numbers of an answer in their order: the refusal, then those that the call has, then 0.
 pub struct Answer {
@@ -123,20 +123,6 @@ fn put_answer(answers: &mut [u8], i: usize, answer: Answer)
     put_number(answers, i + 4, answer.fifth);
 }
 
-// Works the call of record i, and lays its answer as record i of the answers.
-fn work_record(table: &[u8], state: &mut [u8], calls: &[u8], answers: &mut [u8], i: usize)
-    requires { ⌜ i < length (now calls) / 12 ⌝ }
-    ensures { λ _. ⌜ now (state .exit) ≡ afterAny (now (table .entry)) (now (state .entry)) (callAt (words (now (calls .entry))) i) ⌝ }
-    ensures { λ _. ⌜ words (now (answers .exit)) ≡ writtenFrom (words (now (answers .entry))) (i * 5)
-        (wordsOf (answerTo (now (table .entry)) (now (state .entry)) (callAt (words (now (calls .entry))) i))) ⌝ }
-{
-    let code = numbers::word_at(calls, i * 3);
-    let argument = numbers::word_at(calls, i * 3 + 1);
-    let number = numbers::word_at(calls, i * 3 + 2);
-    let answer = work_call(table, state, code, argument, number);
-    put_answer(answers, i * 5, answer);
-}
-
 // Works the calls in `calls`, in turn, and lays their answers into `answers`, as far as it goes. A call is a record of twelve bytes, three words with the
 // lowest byte first: which call, its thread, port or number of steps, and the number given; an answer is a record of twenty.
 #[no_mangle]
@@ -146,6 +132,10 @@ pub extern "C" fn driver_work_list(table: &[u8], state: &mut [u8], calls: &[u8],
         (answersTo (now (table .entry)) (now (state .entry)) (callsOf (now (calls .entry)))) ⌝ }
 {
     for i in 0..calls.len() / 12 {
-        work_record(table, state, calls, answers, i);
+        let code = numbers::word_at(calls, i * 3);
+        let argument = numbers::word_at(calls, i * 3 + 1);
+        let number = numbers::word_at(calls, i * 3 + 2);
+        let answer = work_call(table, state, code, argument, number);
+        put_answer(answers, i * 5, answer);
     }
 }

@@ -175,20 +175,6 @@ answer-put a b b₁ b₂ b₃ b₄ b₅ i e₁ e₂ e₃ e₄ e₅ f₁ f₂ f�
       handed (words b) (words b₁) i i (a .refusal) e₁ refl f₁,
     )
 
--- ---- one record
-
-module _ (table ws b : List ℕ) (i code x v : ℕ) where
-  pub record-left : (b₁ : List ℕ) → b₁ ≡ afterAny table b (callBy code x v) → code ≡ getD ws (i * 3) 0 → x ≡ getD ws (i * 3 + 1) 0 → v ≡ getD ws (i * 3 + 2) 0
-      → b₁ ≡ afterAny table b (callAt ws i)
-  unfolding callAt
-  record-left b₁ e f g h = e ∙ rw (f, g, h)
-
-  pub record-answer : (a a₁ : List ℕ) (r : Answer) → words a₁ ≡ writtenFrom (words a) (i * 5) (wordsOf r) → r ≡ answerTo table b (callBy code x v)
-      → code ≡ getD ws (i * 3) 0 → x ≡ getD ws (i * 3 + 1) 0 → v ≡ getD ws (i * 3 + 2) 0
-      → words a₁ ≡ writtenFrom (words a) (i * 5) (wordsOf (answerTo table b (callAt ws i)))
-  unfolding callAt
-  record-answer a a₁ r e q f g h = e ∙ rw (q, f, g, h)
-
 -- ---- a list of records
 
 called-next : (ws : List ℕ) (i : ℕ) → i < length ws / 3 → calledBy (drop (i * 3) ws) ≡ callAt ws i ∷ calledBy (drop (i * 3 + 3) ws)
@@ -232,10 +218,24 @@ module _ (calls : List ℕ) where
     unfolding restFrom
     left-first b = refl
 
-    pub left-next : (b b₁ z : List ℕ) (i : ℕ) → b₁ ≡ afterAny table b (callAt (words calls) i) → afterList table b (restFrom i) ≡ z
-        → i < length calls / 12 → afterList table b₁ (restFrom (i + 1)) ≡ z
-    unfolding afterList
-    left-next b b₁ z i e f h = rw e (ap (afterList table b) (sym (rest-next i h)) ∙ f)
+    -- the call of record i was made, by the three words that were read
+    module _ (b b₁ : List ℕ) (i code x v : ℕ) (made : b₁ ≡ afterAny table b (callBy code x v)) (f : code ≡ getD (words calls) (i * 3) 0)
+        (g : x ≡ getD (words calls) (i * 3 + 1) 0) (h : v ≡ getD (words calls) (i * 3 + 2) 0) (l : i < length calls / 12) where
+      rest-is : restFrom i ≡ callBy code x v ∷ restFrom (i + 1)
+      unfolding callAt
+      rest-is = rw (f, g, h) (rest-next i l)
+
+      pub left-next : (z : List ℕ) → afterList table b (restFrom i) ≡ z → afterList table b₁ (restFrom (i + 1)) ≡ z
+      unfolding afterList
+      left-next z e = rw made (ap (afterList table b) (sym rest-is) ∙ e)
+
+      pub answers-next : (a a₁ z : List ℕ) (r : Answer) → words a₁ ≡ writtenFrom (words a) (i * 5) (wordsOf r) → r ≡ answerTo table b (callBy code x v)
+          → writtenFrom (words a) (i * 5) (answersTo table b (restFrom i)) ≡ z
+          → writtenFrom (words a₁) ((i + 1) * 5) (answersTo table b₁ (restFrom (i + 1))) ≡ z
+      unfolding writtenFrom wordsOf answersTo
+      answers-next a a₁ z r w q e =
+          let k : (i + 1) * 5 ≡ suc (suc (suc (suc (suc (i * 5))))) = omega arith in
+          rw (made, w, q, k) (ap (λ ks. writtenFrom (words a) (i * 5) (answersTo table b ks)) (sym rest-is) ∙ e)
 
     pub left-last : (b z : List ℕ) (i : ℕ) → afterList table b (restFrom i) ≡ z → length calls / 12 ≤ i → b ≡ z
     unfolding afterList
@@ -244,15 +244,6 @@ module _ (calls : List ℕ) where
     pub answers-first : (b a : List ℕ) → writtenFrom (words a) (0 * 5) (answersTo table b (restFrom 0)) ≡ writtenFrom (words a) 0 (answersTo table b (callsOf calls))
     unfolding restFrom
     answers-first b a = refl
-
-    pub answers-next : (b b₁ a a₁ z : List ℕ) (i : ℕ) → b₁ ≡ afterAny table b (callAt (words calls) i)
-        → words a₁ ≡ writtenFrom (words a) (i * 5) (wordsOf (answerTo table b (callAt (words calls) i)))
-        → writtenFrom (words a) (i * 5) (answersTo table b (restFrom i)) ≡ z → i < length calls / 12
-        → writtenFrom (words a₁) ((i + 1) * 5) (answersTo table b₁ (restFrom (i + 1))) ≡ z
-    unfolding writtenFrom wordsOf answersTo
-    answers-next b b₁ a a₁ z i e g f h =
-        let q : (i + 1) * 5 ≡ suc (suc (suc (suc (suc (i * 5))))) = omega arith in
-        rw (e, g, q) (ap (λ ks. writtenFrom (words a) (i * 5) (answersTo table b ks)) (sym (rest-next i h)) ∙ f)
 
     pub answers-last : (b a z : List ℕ) (i : ℕ) → writtenFrom (words a) (i * 5) (answersTo table b (restFrom i)) ≡ z → length calls / 12 ≤ i → words a ≡ z
     unfolding writtenFrom answersTo
