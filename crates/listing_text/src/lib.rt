@@ -9,7 +9,6 @@ ghost use Rattle.table.specs.Index.{Indexed};
 ghost use Rattle.loader.specs.Load.{accepted};
 ghost use Rattle.state.specs.State.{stateOf};
 ghost use Rattle.rules.specs.Holding.{settled};
-ghost use Rattle.rules.specs.Start.{started};
 ghost use Rattle.rules.specs.Calls.{turned, takeTurn, courseOf};
 ghost use Rattle.rules_laws.specs.Granted.{Granted};
 ghost use Rattle.rules_laws.specs.Soundness.{Sound};
@@ -123,22 +122,7 @@ fn list_end(
     listing_lines::list_gone(out, end, &before, state)
 }
 
-// The run from the state with which the table starts, below the heading. Answers the length of all of it.
-fn list_run(table: &[u8], index: &[u32], state: &mut [u32; state::WORDS], out: &mut [u8]) -> usize
-    requires { ⌜ Indexed (tableOf (now table)) (now index) ⌝ }
-    requires { ⌜ Granted (tableOf (now table)) ⌝ }
-    requires { ⌜ Sound (tableOf (now table)) (stateOf (now state)) ⌝ }
-    requires { ⌜ stateOf (now state) ≡ started (tableOf (now table)) ⌝ }
-    requires { ⌜ length (now out) ≡ longest ⌝ }
-    ensures { λ r. ⌜ r ≡ length (runLines (tableOf (now (table .entry)))) ⌝ }
-    ensures { λ _. ⌜ now (out .exit) ≡ sets (now (out .entry)) 0 (runLines (tableOf (now (table .entry)))) ⌝ }
-{
-    listing_lines::put_heading(out);
-    let run = list_steps(table, index, state, out);
-    list_end(table, index, state, out, run)
-}
-
-// The listing of an accepted table. Answers its length.
+// The listing of an accepted table: the heading, the run from the state with which the table starts, and what follows it. Answers its length.
 fn list_table(table: &[u8], out: &mut [u8]) -> usize
     requires { ⌜ accepted (now table) ≡ true ⌝ }
     requires { ⌜ length (now out) ≡ longest ⌝ }
@@ -149,7 +133,9 @@ fn list_table(table: &[u8], out: &mut [u8]) -> usize
     let mut state = [0u32; state::WORDS];
     loader::accept(table, &mut index);
     starts::write_started(table, &index, &mut state);
-    list_run(table, &index, &mut state, out)
+    listing_lines::put_heading(out);
+    let run = list_steps(table, &index, &mut state, out);
+    list_end(table, &index, &mut state, out, run)
 }
 
 // The listing of a file, at the front of a buffer. Answers how many characters it has; what stands behind them in the buffer stays.

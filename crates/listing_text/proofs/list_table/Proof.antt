@@ -1,4 +1,4 @@
-use Rattle.listing_text.specs.Laying.Whole.{accepted-indexed, accepted-grants, accepted-starts}
+use Rattle.listing_text.specs.Laying.Whole.{accepted-indexed, accepted-grants, accepted-starts, sound-settled, run-few, run-long, run-laid}
 use borrow.Author.Needs.{needs}
 use Rattle.listing_text.proofs.list_table.Statement.{statement}
 use Rattle.listing_text.proofs.list_table.Tie as tie
@@ -11,7 +11,10 @@ list-table-spec =
     (λ c κs. search needs)
     (λ c. search needs)
     (λ c κs. accepted-indexed _ (search) _ (c .before .before .before .accept .result) (c .before .before .before .accept .ensures .0) (c .before .before .before .accept .ensures .1))
+    (λ c κs. search needs)
     (λ c. search needs)
-    (λ c κs. (accepted-indexed _ (search) _ (c .before .before .before .before .before .before .before .accept .result) (c .before .before .before .before .before .before .before .accept .ensures .0) (c .before .before .before .before .before .before .before .accept .ensures .1), (search accepted-grants, (search accepted-starts, (search, search needs)))))
+    (λ c κs. (accepted-indexed _ (search) _ (c .before .before .before .before .before .before .before .before .before .before .before .accept .result) (c .before .before .before .before .before .before .before .before .before .before .before .accept .ensures .0) (c .before .before .before .before .before .before .before .before .before .before .before .accept .ensures .1), (search accepted-grants, (search accepted-starts, search needs))))
     (λ c. search needs)
-    (λ c. search needs))
+    (λ c κs. (accepted-indexed _ (search) _ (c .before .before .before .before .before .before .before .before .before .before .before .before .before .before .before .before .before .accept .result) (c .before .before .before .before .before .before .before .before .before .before .before .before .before .before .before .before .before .accept .ensures .0) (c .before .before .before .before .before .before .before .before .before .before .before .before .before .before .before .before .before .accept .ensures .1), (search sound-settled, (search run-few, search needs))))
+    (λ c. search needs)
+    (λ c. (search run-long, search run-laid)))
