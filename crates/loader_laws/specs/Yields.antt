@@ -14,7 +14,7 @@ use Rattle.numbers.specs.Rows.Laws.{length-rows, length-row, at-in}
 use Rattle.numbers.specs.Bytes.{shorts, joined}
 use Rattle.numbers.specs.Bytes.Laws.{length-numbers, length-encode, encode-below, encode-numbers, numbers-encode, numbers-fit, joined-rows, rows-joined}
 use Rattle.numbers.specs.Search.Laws.{caseB, contra, every-elim, every-intro, length-tabulate, getD-tabulate}
-use Rattle.numbers.specs.Tests.{and-left, and-right}
+use Rattle.numbers.specs.Tests.{and-left, and-right, clash}
 use Rattle.table.specs.Table.{Table, maxRows, rowNumbers, tableOf, lineTotal}
 use Rattle.table.specs.Form.{headerInRange}
 use Rattle.table.specs.Form.Laws.{header-counts}
@@ -196,11 +196,10 @@ YieldsBytes b = (file : List ℕ) × (t : List ℕ) × Characters file × (loade
 
 after-done : (v : Verdict) (file t b : List ℕ) → afterVerdict v file t ≡ outcome Done b → (v ≡ Sound) × (tableBytes (fileTable file) ≡ b)
 unfolding afterVerdict
-after-done (Fault g l) file t b e = absurd (let a : _≡_ {A = Loaded} (FileRefused g l) Done = ap (λ (o : Outcome). o .answer) e in let z : _≡_ {A = ℕ} 0 1 = cc in let h : ⊥ = omega arith in h)
+after-done (Fault g l) file t b e = let a : _≡_ {A = Loaded} (FileRefused g l) Done = ap (λ (o : Outcome). o .answer) e in clash cc
 after-done Sound file t b e = caseB (eqb (length t) tableLength)
     (λ y. let q : outcome Done (tableBytes (fileTable file)) ≡ outcome Done b = rw y at e in (refl, ap (λ (o : Outcome). o .table) q))
-    (λ y. absurd (let q : outcome WrongLength t ≡ outcome Done b = rw y at e in
-    let a : _≡_ {A = Loaded} WrongLength Done = ap (λ (o : Outcome). o .answer) q in let z : _≡_ {A = ℕ} 0 1 = cc in let h : ⊥ = omega arith in h))
+    (λ y. let q : outcome WrongLength t ≡ outcome Done b = rw y at e in let a : _≡_ {A = Loaded} WrongLength Done = ap (λ (o : Outcome). o .answer) q in clash cc)
 
 -- a file in order loads into every buffer of the table's length, whatever it held
 pub sound-loads : (file t : List ℕ) → verdict file ≡ Sound → length t ≡ tableLength → loaded file t ≡ outcome Done (tableBytes (fileTable file))

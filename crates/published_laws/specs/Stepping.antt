@@ -10,6 +10,7 @@ use lib.Dec.{ltb, eqb}
 use borrow.Author.Tests.{ltb-true, ltb-false, eqb-true, eqb-false, not-true}
 use Rattle.numbers.specs.Search.{first}
 use Rattle.numbers.specs.Search.Laws.{caseB, contra, first-passes, first-below}
+use Rattle.numbers.specs.Tests.{clash}
 use Rattle.table.specs.Table.{Table, parameters}
 use Rattle.table.specs.Layout.{branchCount}
 use Rattle.state.specs.State.{State, maxThreads, maxChannels, threadMark, channelMark, thread, standsAt, inUse, isReady, typeIn}
@@ -177,7 +178,7 @@ Plain tb row LacksThread = ⊥
 Plain tb row LacksChannel = ⊥
 
 tau-assignment : {A : Type 0} (a : Act) → a ≡ Tau → a ≡ Assignment → A
-tau-assignment a p q = absurd (let z : _≡_ {A = ℕ} 0 1 = cc in let h : ⊥ = omega arith in h)
+tau-assignment a p q = clash cc
 
 module _ (tb : Table) (g : Granted tb) (rd : Readable tb) (s : State) (ok : Sound tb s) (t : ℕ) (l : t < maxThreads) (ready : isReady (thread s t) ≡ true)
     (b : Thread) (bn : Bench tb b) where

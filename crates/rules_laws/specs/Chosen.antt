@@ -8,7 +8,7 @@ use mathlib.Core.Logic.{_⊎_, inl, inr, _≢_}
 use lib.Dec.{ltb}
 use borrow.Author.Tests.{ltb-false, eqb-true, eq-eqb, ne-eqb, not-true, not-false}
 use Rattle.numbers.specs.Search.Laws.{caseB, contra, first-below}
-use Rattle.numbers.specs.Tests.{parts}
+use Rattle.numbers.specs.Tests.{parts, clash}
 use Rattle.table.specs.Table.{Table}
 use Rattle.table.specs.Layout.{branchCount}
 use Rattle.state.specs.State.{State, maxThreads, maxChannels, threadMark, channelMark, thread, standsAt, slotOf, inUse, isWaiting, typeIn}
@@ -95,7 +95,7 @@ module _ (tb : Table) (s : State) (t : ℕ) where
 -- ---- partners
 
 at-differs : (u j : ℕ) {A : Type 0} → At u j ≡ Nobody → A
-at-differs u j e = absurd (let z : _≡_ {A = ℕ} 0 1 = cc in let h : ⊥ = omega arith in h)
+at-differs u j e = clash cc
 
 module _ (tb : Table) (row : List ℕ) (d : Direction) (c j : ℕ) (e : offersAt tb row d c j ≡ true) where
   offered-act : actOf tb (branchAt tb (standsAt row) j) ≡ Meeting d

@@ -11,7 +11,7 @@ use lib.ListN.{length}
 use borrow.Author.Tests.{ltb-true, lt-ltb, eqb-true, eq-eqb, not-false}
 use Rattle.numbers.specs.Search.{first}
 use Rattle.numbers.specs.Search.Laws.{caseB, contra, first-void}
-use Rattle.numbers.specs.Tests.{and-left, and-right}
+use Rattle.numbers.specs.Tests.{and-left, and-right, clash}
 use Rattle.table.specs.Table.{nodes, nodeRow, lineTotal}
 use Rattle.table.specs.Form.{headerInRange, kindWrong, sumsAgree}
 use Rattle.ranges.specs.Ranges.{outOfRange}
@@ -159,10 +159,10 @@ module _ (file : List ℕ) where
   )
     where
       done-refused : _≡_ {A = Loaded} Done (FileRefused g l) → ⊥
-      done-refused q = let z : _≡_ {A = ℕ} 0 1 = cc in omega arith
+      done-refused q = clash cc
 
       length-refused : _≡_ {A = Loaded} WrongLength (FileRefused g l) → ⊥
-      length-refused q = let z : _≡_ {A = ℕ} 0 1 = cc in omega arith
+      length-refused q = clash cc
   refused-answer (Fault h m) t g l = (λ e. let p : h ≡ g = cc in let q : m ≡ l = cc in rw (p, q), λ e. let p : h ≡ g = cc in let q : m ≡ l = cc in rw (p, q))
 
   -- a file is refused on ground g with line l exactly when g is the lowest ground on which it is refused, and l its first line

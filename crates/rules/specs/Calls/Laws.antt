@@ -1,7 +1,6 @@
 -- What an admission lets through; which calls on a state leave it as it was; and that a call on buffers answers and leaves what the call on the state
 -- says. Assumes nothing.
 use Prim.Native.Nat.{ℕ, _<_}
-use native.Mathlib.Omega.{arith}
 use mathlib.Core.Path.{_≡_, refl, sym, _∙_, ap}
 use mathlib.Core.Logic.{_≢_, _↔_}
 use mathlib.Core.Bool.{Bool, true, false, cond}
@@ -10,7 +9,7 @@ use lib.Dec.{ltb, eqb}
 use lib.ListN.{length, getD}
 use borrow.Author.Tests.{eqb-true}
 use Rattle.numbers.specs.Search.Laws.{caseB}
-use Rattle.numbers.specs.Tests.{and-left, and-right}
+use Rattle.numbers.specs.Tests.{and-left, and-right, clash}
 use Rattle.table.specs.Table.{Table, tableOf, ports}
 use Rattle.loader.specs.Load.{tableLength, accepted}
 use Rattle.state.specs.State.{State, stateLength, view, stateBytes, thread, standsAt}
@@ -33,7 +32,7 @@ use Rattle.rules.specs.declared.Taken.the-variants as Taken
 
 -- a call that is refused is not admitted
 pub not-admitted {ℓ} : {P : Type ℓ} (r : Refusal) → Refused r ≡ Admitted → P
-not-admitted r e = absurd (let z : _≡_ {A = ℕ} 0 1 = cc in let h : ⊥ = omega arith in h)
+not-admitted r e = clash cc
 
 -- ---- what is admitted
 
