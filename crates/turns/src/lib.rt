@@ -9,7 +9,7 @@ ghost use Rattle.table.specs.Index.{Indexed};
 ghost use Rattle.state.specs.State.{maxThreads, maxChannels, stateOf, thread, isReady};
 ghost use Rattle.rules.specs.Holding.{settled};
 ghost use Rattle.rules.specs.Moves.{move, metByBench};
-ghost use Rattle.rules.specs.Calls.{stepAnswer, turnBy};
+ghost use Rattle.rules.specs.Calls.{stepAnswer, reasonFor, turnBy};
 ghost use Rattle.rules.specs.declared.Move.the-variants.{Ends, Calls, Creates, Spawns, Meets};
 ghost use Rattle.rules_laws.specs.Granted.{Granted};
 ghost use Rattle.rules_laws.specs.Soundness.{Sound};
@@ -214,20 +214,28 @@ pub fn step_answer(node: u32, m: Move) -> Stepped
     }
 }
 
-// What a move of thread t comes to in a run: the thread went, or the run ends since a row is lacking.
+// Why a run ends where the step of thread t is refused: a row is lacking, or there was no thread to step.
+fn reason_for(t: u32, ground: Refusal) -> Reason
+    ensures { λ r. ⌜ r ≡ reasonFor t ground ⌝ }
+{
+    match ground {
+        Refusal::Length => Reason::NoneReady,
+        Refusal::Table => Reason::NoneReady,
+        Refusal::State => Reason::NoneReady,
+        Refusal::Thread => Reason::NoneReady,
+        Refusal::Port => Reason::NoneReady,
+        Refusal::ThreadRow => Reason::LackedThread(t),
+        Refusal::ChannelRow => Reason::LackedChannel(t),
+    }
+}
+
+// What a move of thread t comes to in a run, by the answer that its step would get; the node does not matter.
 fn turn_by(t: u32, m: Move) -> Turn
     ensures { λ r. ⌜ r ≡ turnBy t m ⌝ }
 {
-    match m {
-        Move::Ends => Turn::Went,
-        Move::Calls => Turn::Went,
-        Move::Waits => Turn::Went,
-        Move::Goes(_) => Turn::Went,
-        Move::Creates(_, _) => Turn::Went,
-        Move::Spawns(_, _) => Turn::Went,
-        Move::Meets(_, _, _) => Turn::Went,
-        Move::LacksThread => Turn::Stopped(Reason::LackedThread(t)),
-        Move::LacksChannel => Turn::Stopped(Reason::LackedChannel(t)),
+    match step_answer(0, m) {
+        Stepped::Done(_, _) => Turn::Went,
+        Stepped::Refused(ground) => Turn::Stopped(reason_for(t, ground)),
     }
 }
 

@@ -9,11 +9,15 @@ use Rattle.rules.specs.Holding.{settled}
 use Rattle.rules.specs.Moves.{oneUp, move, written, perform}
 use Rattle.rules.specs.declared.Move.{Move}
 use Rattle.rules.specs.declared.Move.the-variants.{Ends, Calls, Waits, Goes, Creates, Spawns, Meets, LacksThread, LacksChannel}
-use Rattle.rules.specs.Calls.{stepAnswer, nextReady, pastTurn, turnFor, turnBy, Turned, turned, turnEnd, takeTurn}
+use Rattle.rules.specs.Calls.{stepAnswer, nextReady, pastTurn, reasonFor, turnFor, turnBy, Turned, turned, turnEnd, takeTurn}
+use Rattle.rules.specs.declared.Refusal.{Refusal}
+use Rattle.rules.specs.declared.Deed.{Deed}
 use Rattle.rules.specs.declared.Stepped.{Stepped}
+use Rattle.rules.specs.declared.Stepped.the-variants.{Done, Refused}
+use Rattle.rules.specs.declared.Reason.{Reason}
 use Rattle.rules.specs.declared.Reason.the-variants.{NoneReady}
 use Rattle.rules.specs.declared.Turn.{Turn}
-use Rattle.rules.specs.declared.Turn.the-variants.{Stopped}
+use Rattle.rules.specs.declared.Turn.the-variants.{Went, Stopped}
 use Rattle.next_rows.specs.Around.{next-ready-in}
 use Rattle.rules_laws.specs.Decided.{spawns-free}
 use Rattle.rules_laws.specs.Granted.{Granted}
@@ -71,8 +75,17 @@ module _ (tb : Table) (s : State) (whole : settled tb s ≡ s) (t : ℕ) where
 pub answer-arm : (r : Stepped) (n : ℕ) (m k : Move) → m ≡ k → r ≡ stepAnswer n k → r ≡ stepAnswer n m
 answer-arm r n m k e f = rw e f
 
-pub turn-arm : (r : Turn) (t : ℕ) (m k : Move) → m ≡ k → r ≡ turnBy t k → r ≡ turnBy t m
-turn-arm r t m k e f = rw e f
+pub reason-arm : (r : Reason) (t : ℕ) (g h : Refusal) → g ≡ h → r ≡ reasonFor t h → r ≡ reasonFor t g
+reason-arm r t g h e f = rw e f
+
+module _ (t : ℕ) (m : Move) (a : Stepped) (e : a ≡ stepAnswer 0 m) where
+  pub went-by : (n : ℕ) (d : Deed) → a ≡ Done n d → Went ≡ turnBy t m
+  unfolding turnBy turnFor
+  went-by n d f = rw (← e, f)
+
+  pub stopped-by : (g : Refusal) (r : Reason) → a ≡ Refused g → r ≡ reasonFor t g → Stopped r ≡ turnBy t m
+  unfolding turnBy turnFor
+  stopped-by g r f h = rw (← e, f, h)
 
 module _ (tb : Table) (s : State) (t : ℕ) (e : t ≡ nextReady s) where
   pub next-turn : (k : Turned) → k ≡ turnEnd tb s t (turnBy t (move tb s t)) → t < maxThreads → k ≡ takeTurn tb s
