@@ -51,7 +51,33 @@ module _ (i c x : ℕ) (e : c ≡ x) where
   unfolding spawning
   spawning-lacks h = rw (← e, le-ltb c 64 h)
 
--- ---- by branch i, in row r of the table: g is its guard and a its act
+-- ---- by the act of a branch
+
+module _ (tb : Table) (s : State) (t i r : ℕ) (a : Act) (e : a ≡ actOf tb r) where
+  pub tau-goes : a ≡ Tau → Goes i ≡ actMove tb s t i (actOf tb r)
+  unfolding actMove
+  tau-goes f = rw (← e, f)
+
+  pub assignment-goes : a ≡ Assignment → Goes i ≡ actMove tb s t i (actOf tb r)
+  unfolding actMove
+  assignment-goes f = rw (← e, f)
+
+  pub new-creates : (m : Move) → a ≡ New → m ≡ creation i (freeChannel s) → m ≡ actMove tb s t i (actOf tb r)
+  unfolding actMove
+  new-creates m f g = rw (← e, f) g
+
+  pub spawn-spawns : (m : Move) → a ≡ Spawn → m ≡ spawning i (freeThread s) → m ≡ actMove tb s t i (actOf tb r)
+  unfolding actMove
+  spawn-spawns m f g = rw (← e, f) g
+
+  pub meeting-meets : (m : Move) (d : Direction) (c k : ℕ) → a ≡ Meeting d → r ≡ branchAt tb (at (s .threads) t 1) i
+      → m ≡ meeting i (partnerOf tb s t (opposite d) c) → c ≡ slotOf (thread s t) k → k ≡ at tb r Field.a → m ≡ actMove tb s t i (actOf tb r)
+  unfolding actMove
+  meeting-meets m d c k f h g j l = rw (← e, f, ← h, ← l, ← j) g
+
+pub ruleset acts = (tau-goes, assignment-goes, new-creates, spawn-spawns, meeting-meets)
+
+-- ---- by a branch
 
 module _ (tb : Table) (s : State) (t i : ℕ) where
   pub branch-row : (r : ℕ) → r ≡ branchRow tb + start tb Branches (at (s .threads) t 1) → r + i ≡ branchAt tb (at (s .threads) t 1) i
@@ -59,32 +85,13 @@ module _ (tb : Table) (s : State) (t i : ℕ) where
   branch-row r e = omega arith
 
   module _ (r : ℕ) (e : r ≡ branchAt tb (at (s .threads) t 1) i) (g : Bool) (h : g ≡ guardHolds tb r (thread s t)) where
-    pub guard-waits : g ≡ false → Waits ≡ branchMove tb s t i
+    pub branch-true : (m : Move) → g ≡ true → m ≡ actMove tb s t i (actOf tb r) → m ≡ branchMove tb s t i
     unfolding branchMove
-    guard-waits k = rw (← e, ← h, k)
+    branch-true m k j = rw (← e, ← h, k) j
 
-    module _ (k : g ≡ true) (a : Act) (f : a ≡ actOf tb r) where
-      pub tau-goes : a ≡ Tau → Goes i ≡ branchMove tb s t i
-      unfolding branchMove actMove
-      tau-goes q = rw (← e, ← h, k, ← f, q)
-
-      pub assignment-goes : a ≡ Assignment → Goes i ≡ branchMove tb s t i
-      unfolding branchMove actMove
-      assignment-goes q = rw (← e, ← h, k, ← f, q)
-
-      module _ (m : Move) where
-        pub new-creates : a ≡ New → m ≡ creation i (freeChannel s) → m ≡ branchMove tb s t i
-        unfolding branchMove actMove
-        new-creates q j = rw (← e, ← h, k, ← f, q) j
-
-        pub spawn-spawns : a ≡ Spawn → m ≡ spawning i (freeThread s) → m ≡ branchMove tb s t i
-        unfolding branchMove actMove
-        spawn-spawns q j = rw (← e, ← h, k, ← f, q) j
-
-        pub meeting-meets : (d : Direction) (c n : ℕ) → a ≡ Meeting d → m ≡ meeting i (partnerOf tb s t (opposite d) c)
-            → c ≡ slotOf (thread s t) n → n ≡ at tb r Field.a → m ≡ branchMove tb s t i
-        unfolding branchMove actMove
-        meeting-meets d c n q j l o = rw (← e, ← h, k, ← f, q, ← e, ← o, ← l) j
+    pub branch-false : g ≡ false → Waits ≡ branchMove tb s t i
+    unfolding branchMove
+    branch-false k = rw (← e, ← h, k)
 
 pub ahead-arm : (r : Bool) (m n : Move) → m ≡ n → r ≡ goesAhead n → r ≡ goesAhead m
 ahead-arm r m n e f = rw e f

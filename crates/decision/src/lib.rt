@@ -6,9 +6,9 @@ ghost use Rattle.table.specs.Layout.{branchCount, start};
 ghost use Rattle.table.specs.declared.Part.the-variants.{Branches};
 ghost use Rattle.table.specs.Index.{Indexed};
 ghost use Rattle.state.specs.State.{stateOf, thread, standsAt};
-ghost use Rattle.rules.specs.Program.{branchAt, opposite};
+ghost use Rattle.rules.specs.Program.{branchAt, actOf, opposite};
 ghost use Rattle.rules.specs.Offers.{partnerOf};
-ghost use Rattle.rules.specs.Moves.{freeThread, freeChannel, meeting, creation, spawning, goesAhead, branchMove, choice, move};
+ghost use Rattle.rules.specs.Moves.{freeThread, freeChannel, meeting, creation, spawning, goesAhead, actMove, branchMove, choice, move};
 ghost use Rattle.next_rows.specs.UsedBelow.{UsedBelow};
 ghost use Rattle.offers.specs.Apart.{Apart};
 use rules::Act;
@@ -62,6 +62,34 @@ fn spawning_move(state: &[u32; state::WORDS], i: u32) -> Move
     Move::LacksThread
 }
 
+// The move of thread t by branch i, in a row, whose guard is true.
+fn act_move(
+    table: &[u8],
+    index: &[u32],
+    state: &[u32; state::WORDS],
+    t: u32,
+    i: u32,
+    row: usize,
+    top: u32,
+) -> Move
+    requires { ⌜ Indexed (tableOf (now table)) (now index) ⌝ }
+    requires { ⌜ UsedBelow (stateOf (now state)) top ⌝ }
+    requires { ⌜ Apart (tableOf (now table)) (stateOf (now state) .threads) ⌝ }
+    requires { ⌜ row ≡ branchAt (tableOf (now table)) (standsAt (thread (stateOf (now state)) t)) i ⌝ }
+    ensures { λ r. ⌜ r ≡ actMove (tableOf (now (table .entry))) (stateOf (now (state .entry))) t i (actOf (tableOf (now (table .entry))) row) ⌝ }
+{
+    match program::act_of(table, index, row) {
+        Act::Tau => Move::Goes(i),
+        Act::Meeting(d) => {
+            let c = program::slot(state, t, table::cell_of(table, index, row, field::A));
+            meeting_move(table, index, state, t, i, d, c, top)
+        }
+        Act::New => creation_move(state, i),
+        Act::Spawn => spawning_move(state, i),
+        Act::Assignment => Move::Goes(i),
+    }
+}
+
 // The move of thread t by branch i, in a row, alone: to wait where the guard is false.
 fn branch_move(
     table: &[u8],
@@ -78,19 +106,10 @@ fn branch_move(
     requires { ⌜ row ≡ branchAt (tableOf (now table)) (standsAt (thread (stateOf (now state)) t)) i ⌝ }
     ensures { λ r. ⌜ r ≡ branchMove (tableOf (now (table .entry))) (stateOf (now (state .entry))) t i ⌝ }
 {
-    if !program::guard_holds(table, index, row, state, t) {
-        return Move::Waits;
+    if program::guard_holds(table, index, row, state, t) {
+        return act_move(table, index, state, t, i, row, top);
     }
-    match program::act_of(table, index, row) {
-        Act::Tau => Move::Goes(i),
-        Act::Meeting(d) => {
-            let c = program::slot(state, t, table::cell_of(table, index, row, field::A));
-            meeting_move(table, index, state, t, i, d, c, top)
-        }
-        Act::New => creation_move(state, i),
-        Act::Spawn => spawning_move(state, i),
-        Act::Assignment => Move::Goes(i),
-    }
+    Move::Waits
 }
 
 // Whether a move by one branch goes ahead.

@@ -106,14 +106,6 @@ module _ (tb : Table) (s : State) (t : ℕ) where
 
   -- ---- what follows
 
-  pub meets-partner : (i u j : ℕ) → move tb s t ≡ Meets i u j → (u < maxThreads) × (u ≢ t)
-  unfolding Says
-  meets-partner i u j e =
-      let h : Says (Meets i u j) = rw e at move-says in
-      let (d, k, f) = h in
-      let (l, o, a, b, g) = partner-in tb s t (opposite d) (slotOf (thread s t) (fieldA tb (rowAt i))) u j f in
-      (l, o)
-
   pub meets-waiting : (i u j : ℕ) → move tb s t ≡ Meets i u j → isWaiting (thread s u) ≡ true
   unfolding Says
   meets-waiting i u j e =

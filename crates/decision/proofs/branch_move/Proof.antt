@@ -1,6 +1,5 @@
-use Rattle.decision.proofs.Choice.{guard-waits, tau-goes, assignment-goes, new-creates, spawn-spawns, meeting-meets}
+use Rattle.decision.proofs.Choice.{branch-true, branch-false}
 use borrow.Author.Needs.{needs}
-use borrow.Author.Tests.{not-true, not-false}
 use Rattle.decision.proofs.branch_move.Statement.{statement}
 use Rattle.decision.proofs.branch_move.Tie as tie
 
@@ -9,20 +8,6 @@ branch-move-spec =
     tie.close
     (tie.spec
     (λ c κs. search needs)
-    (λ c. search (guard-waits, not-true))
     (λ c κs. search needs)
-    (λ c. search needs)
-    (λ c. search needs)
-    (λ c κs. search needs)
-    (λ c κs. search needs)
-    (λ c κs. search needs)
-    (λ c. search needs)
-    (λ c κs. search needs)
-    (λ c. search needs)
-    (λ c κs. search needs)
-    (λ c. search needs)
-    (λ c. search (tau-goes, not-false))
-    (λ c. search (meeting-meets, not-false))
-    (λ c. search (new-creates, not-false))
-    (λ c. search (spawn-spawns, not-false))
-    (λ c. search (assignment-goes, not-false)))
+    (λ c. search (branch-true, branch-false))
+    (λ c. search (branch-true, branch-false)))
