@@ -4,7 +4,7 @@
  * A bench keeps one table and one state. pithread_load writes the table of a procedure file,
  * pithread_start writes the state in which its first thread is about to begin, and the other calls
  * read the table and move the state on. Both are plain bytes: they may be copied, kept in a file
- * and handed over again.
+ * and handed over again. pithread_write makes the procedure file of a table again.
  *
  * What a caller owes. A buffer is a pointer and its length in bytes. The pointer is not null, not
  * even for a length of 0, and so many bytes behind it may be read and, unless they are const,
@@ -123,7 +123,12 @@ enum {
     PITHREAD_NO_THREAD_ROW = 13,
     /* The step would make a channel, and all 128 channel rows are taken. It makes no difference
      * that the step itself would give one up. */
-    PITHREAD_NO_CHANNEL_ROW = 14
+    PITHREAD_NO_CHANNEL_ROW = 14,
+
+    /* A fault of the program that calls: 15, from pithread_write. */
+
+    /* The buffer is shorter than the file that would be written. */
+    PITHREAD_SHORT_BUFFER = 15
 };
 
 /* What a step did. */
@@ -158,6 +163,12 @@ typedef struct {
     int32_t refusal; /* 0, or a ground from 1 to 8 */
     int32_t line;    /* for the grounds 2 to 7 the first line at fault, counted from 1; else 0 */
 } pithread_loaded;
+
+/* The answer of pithread_write. */
+typedef struct {
+    int32_t refusal; /* 0, 8, 9 or 15 */
+    int32_t bytes;   /* how many bytes the file has: PITHREAD_LINE_BYTES for each of its lines */
+} pithread_written;
 
 /* The answer of pithread_start. */
 typedef struct {
@@ -209,6 +220,17 @@ typedef struct {
  * buffer has the wrong length too.
  */
 pithread_loaded pithread_load(const uint8_t *file, size_t file_len, uint8_t *table, size_t table_len);
+
+/*
+ * Writes the procedure file of a table: loading those bytes gives this table again, and the table of
+ * a file gives that file again, byte for byte.
+ *
+ * The table must have PITHREAD_TABLE_BYTES bytes and be one that pithread_load may write. The buffer
+ * for the file may have any length from that of the file on; PITHREAD_MOST_FILE_BYTES are always
+ * enough. The file stands at its front, and the bytes behind the file stay as they were. What was in
+ * the buffer before is not read.
+ */
+pithread_written pithread_write(const uint8_t *table, size_t table_len, uint8_t *file, size_t file_len);
 
 /*
  * All calls below take a table of PITHREAD_TABLE_BYTES bytes, as pithread_load wrote it, and a state

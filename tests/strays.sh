@@ -1,7 +1,7 @@
 #!/usr/bin/env bash
 # Shows that the exported calls are held to the claim by their contracts. In a copy the contract of each call on a state
-# is changed, and its body with it, so that the crate pithread is still proved: two contracts say less, three say
-# something else. The driver has nothing but these contracts, and has to be refused at each of its five calls.
+# and that of the write is changed, and its body with it, so that the crate pithread is still proved: three contracts say
+# less, three say something else. The driver has nothing but these contracts, and has to be refused at each of its calls.
 set -euo pipefail
 root=$(cd "$(dirname "$0")/.." && pwd)
 source "$root/tests/counted.sh"
@@ -129,9 +129,48 @@ pithread-collect-spec =
     (λ c. search left))
 PROOF
 
+# A write that spoils the file which it has written: the contract says nothing of the buffer.
+change 'writtenTo r (now (file .exit)) ≡ writeResult (now (table .entry)) (now (file .entry))' \
+    'r ≡ writeResult (now (table .entry)) (now (file .entry)) .answer'
+change '    let refusal = interface::write_refusal(answer);' \
+    '    numbers::put_short(file, 0, 0);
+    let refusal = interface::write_refusal(answer);'
+cat >"$proofs/pithread_write/Proof.antt" <<'PROOF'
+use Prim.Native.Nat.{ℕ, _≤_}
+use mathlib.Core.Path.{_≡_, ap}
+use mathlib.Core.List.{List}
+use mir.Syntax.{w32}
+use mir.Val.{toZ}
+use Rattle.writer.specs.Write.{outcome, writeCall, refusalNumber, bytesNumber}
+use Rattle.writer.specs.declared.Written.{Written}
+use Rattle.interface.specs.Interface.{WriteResult, writeResult}
+use Rattle.interface.specs.declared.WriteAnswer.{WriteAnswer}
+use Rattle.pithread.proofs.Answered.{bytes-fit, write-answered}
+use borrow.Author.Needs.{needs}
+use Rattle.pithread.proofs.pithread_write.Statement.{statement}
+use Rattle.pithread.proofs.pithread_write.Tie as tie
+
+told : (t b b′ : List ℕ) (a : Written) → outcome a b′ ≡ writeCall t b → (n : ℕ) → n ≡ bytesNumber a → (r : ℕ) → r ≡ refusalNumber a → r ≤ 15
+    → _≡_ {A = WriteAnswer} (record { refusal = toZ w32 r; bytes = toZ w32 n }) (writeResult t b .answer)
+told t b b′ a e n g r f h = ap (λ (w : WriteResult). w .answer) (write-answered t b b′ a e n g r f h)
+
+pub pithread-write-spec : {M : Type 1} → statement M
+pithread-write-spec =
+    tie.close
+    (tie.spec
+    (λ c κs. search needs)
+    (λ c κs. search needs)
+    (λ c κs. search needs)
+    (λ c κs. search needs)
+    (λ c. search needs)
+    (λ c. search bytes-fit)
+    (λ c. search needs)
+    (λ c. search told))
+PROOF
+
 check "the driver is refused with other contracts" refused
 check "the calls themselves are proved with them" proved_there pithread
-for call in step give take run collect; do
+for call in step give take run collect driver_restore; do
     check "it is refused at the call $call" refused_at "$call"
 done
 check "what lays the answers down is proved as before" still_proved put_answer

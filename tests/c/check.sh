@@ -1,6 +1,6 @@
 #!/usr/bin/env bash
-# The interface as a C program meets it: the header, the tests in load.c and cases.c, the stack that the
-# calls take, and the example program.
+# The interface as a C program meets it: the header, the tests in load.c, write.c and cases.c, the stack that
+# the calls take, and the example program.
 set -euo pipefail
 root=$(cd "$(dirname "$0")/../.." && pwd)
 source "$root/tests/counted.sh"
@@ -39,11 +39,15 @@ check "header in C99" header_alone gcc -std=c99 -x c
 check "header in C11" header_alone gcc -std=c11 -x c
 check "header in C++" header_alone g++ -std=c++11 -x c++
 
-check "load.c compiles without a warning" tests/c/build.sh load checks lines
+check "load.c compiles without a warning" tests/c/build.sh load checks lines files
 check "load.c" target/c/load examples
 check "load.c under valgrind" under_valgrind target/c/load examples
 
-check "cases.c compiles without a warning" tests/c/build.sh cases checks lines bench \
+check "write.c compiles without a warning" tests/c/build.sh write checks lines files damages
+check "write.c" target/c/write examples
+check "write.c under valgrind" under_valgrind target/c/write examples
+
+check "cases.c compiles without a warning" tests/c/build.sh cases checks lines bench damages \
     moves meetings rows ports runs refusals sound collections
 check "cases.c" target/c/cases
 check "cases.c under valgrind" under_valgrind target/c/cases

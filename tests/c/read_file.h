@@ -13,7 +13,7 @@ typedef struct {
 
 /* A file of up to `most` bytes, in a buffer of exactly its length (of one byte for an empty file).
  * Of a longer file the first `most` bytes come back. */
-static whole_file read_file(const char *path, size_t most) {
+static inline whole_file read_file(const char *path, size_t most) {
     whole_file file = {NULL, 0};
     FILE *stream = fopen(path, "rb");
     if (stream == NULL) {

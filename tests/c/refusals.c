@@ -5,6 +5,7 @@
 #include "bench.h"
 #include "cases.h"
 #include "checks.h"
+#include "damages.h"
 #include "listing.h"
 
 /* A number that no call takes as a thread or a port. */
@@ -45,11 +46,6 @@ static void wrong_lengths(void) {
     closed(b);
 }
 
-static void put_number(uint8_t *table, size_t place, int value) {
-    table[2 * place] = (uint8_t)(unsigned)value;
-    table[2 * place + 1] = (uint8_t)((unsigned)value >> 8);
-}
-
 /* All calls with this table; then with a state and a number that are wrong too. */
 static void expect_table(const char *what, const bench *b, const uint8_t *table) {
     uint8_t *state = copied(b->state, PITHREAD_STATE_BYTES);
@@ -60,39 +56,10 @@ static void expect_table(const char *what, const bench *b, const uint8_t *table)
     free(state);
 }
 
-/* The listing's table with up to three numbers changed; places count from 0, twelve in a line. */
-typedef struct {
-    const char *what;
-    size_t count;
-    struct {
-        size_t place;
-        int value;
-    } numbers[3];
-} changed;
-
-static const changed damages[] = {
-    {"the header's kind", 1, {{0, 2}}},
-    {"a type too many in the header", 1, {{1, 2}}},
-    {"a type out of range", 1, {{12 + 1, 2}}},
-    {"a negative count of parameters", 1, {{2 * 12 + 1, -1}}},
-    {"a port without a parameter", 1, {{6, 1}}},
-    {"a number set in a channel's slot", 1, {{13 * 12 + 5, 0}}},
-    {"a slot sent that is not written", 3, {{13 * 12 + 4, 0}, {13 * 12 + 5, 0}, {13 * 12 + 6, 0}}},
-    {"a node out of reach", 1, {{12 * 12 + 9, 5}}},
-    {"a branch that leads back", 1, {{13 * 12 + 8, 2}}},
-    {"an unused field", 1, {{15 * 12 + 11, 1}}},
-    {"a number behind the last line", 1, {{16 * 12, 1}}},
-    {"the last number of the table", 1, {{PITHREAD_TABLE_BYTES / 2 - 1, 1}}},
-    {"the last byte of the table", 1, {{PITHREAD_TABLE_BYTES / 2 - 1, 256}}},
-};
-
 static void wrong_tables(void) {
     bench *b = OPENED("tables", listing);
-    for (size_t damage = 0; damage < sizeof damages / sizeof *damages; damage++) {
-        uint8_t *table = copied(b->table, PITHREAD_TABLE_BYTES);
-        for (size_t place = 0; place < damages[damage].count; place++) {
-            put_number(table, damages[damage].numbers[place].place, damages[damage].numbers[place].value);
-        }
+    for (size_t damage = 0; damage < DAMAGES; damage++) {
+        uint8_t *table = damaged(b->table, &damages[damage]);
         expect_table(damages[damage].what, b, table);
         free(table);
     }

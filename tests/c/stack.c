@@ -22,6 +22,7 @@ enum { STACK_BYTES = 262144 };
 static whole_file file;
 static uint8_t table[PITHREAD_TABLE_BYTES];
 static uint8_t state[PITHREAD_STATE_BYTES];
+static uint8_t written[PITHREAD_MOST_FILE_BYTES];
 
 static int32_t nothing(void) {
     return PITHREAD_DONE;
@@ -29,6 +30,10 @@ static int32_t nothing(void) {
 
 static int32_t load(void) {
     return pithread_load(file.bytes, file.length, table, sizeof table).refusal;
+}
+
+static int32_t write_file(void) {
+    return pithread_write(table, sizeof table, written, sizeof written).refusal;
 }
 
 static int32_t start(void) {
@@ -103,6 +108,7 @@ int main(int count, char **words) {
     }
     load(); /* first once to bind what the archive uses of the C library */
     check_stack("load", load, MOST_OF_A_LOAD);
+    check_stack("write", write_file, MOST_OF_OTHERS);
     check_stack("start", start, MOST_OF_OTHERS);
     check_stack("step", step, MOST_OF_OTHERS);
     check_stack("run", run, MOST_OF_OTHERS);

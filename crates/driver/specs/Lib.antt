@@ -1,3 +1,4 @@
 pub mod Encoding
 pub mod Guaranteed
+pub mod Restore
 pub mod DrivenExamples

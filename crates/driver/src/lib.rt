@@ -1,5 +1,5 @@
-// Works a whole list of calls, which lies in a buffer, by the functions that C calls, and lays their answers into another buffer. What it ensures follows
-// from the contracts of those functions alone: a contract that says less, or something else, leaves it unproved.
+// Works a whole list of calls, which lies in a buffer, by the functions that C calls, and lays their answers into another buffer; and writes a table and
+// loads it again. What this ensures follows from the contracts of those functions alone: a contract that says less, or something else, leaves it unproved.
 ghost use mathlib.Core.Path.{_≡_};
 ghost use Prim.Native.Nat.{_<_};
 ghost use lib.ListN.{set};
@@ -8,6 +8,7 @@ ghost use mir.Val.{ofZ};
 ghost use Rattle.numbers.specs.Bytes.{words};
 ghost use Rattle.engine_laws.specs.Lists.{step as Step, give as Give, take as Take, run as Run};
 ghost use Rattle.guarantee.specs.Claim.{on, collect as Collect, afterAny, afterList};
+ghost use Rattle.driver.specs.Restore.{restoredTo, restored as Restored};
 ghost use Rattle.driver.specs.Encoding.{pattern, pattern-small, callBy, callsOf, answerTo, answersTo, wordsOf, writtenFrom};
 
 // The numbers of an answer in their order: the refusal, then those that the call has, then 0.
@@ -138,4 +139,18 @@ pub extern "C" fn driver_work_list(table: &[u8], state: &mut [u8], calls: &[u8],
         let answer = work_call(table, state, code, argument, number);
         put_answer(answers, i * 5, answer);
     }
+}
+
+// Writes the file of a table, and loads what was written as the other table. Answers the refusal of the write or else that of the load.
+#[no_mangle]
+pub extern "C" fn driver_restore(table: &[u8], file: &mut [u8], other: &mut [u8]) -> i32
+    ensures { λ r. ⌜ restoredTo r (now (file .exit)) (now (other .exit)) ≡ Restored (now (table .entry)) (now (file .entry)) (now (other .entry)) ⌝ }
+{
+    let written = pithread::pithread_write(table, file);
+    if written.refusal != 0 {
+        return written.refusal;
+    }
+    let bytes = numbers::pattern(written.bytes) as usize;
+    let loaded = pithread::pithread_load(&file[0..bytes], other);
+    loaded.refusal
 }

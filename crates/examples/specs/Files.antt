@@ -14,11 +14,12 @@ use Rattle.text.specs.Text.{fileText}
 use Rattle.table.specs.Table.{Table, maxRows, rowNumbers, tableOf}
 use Rattle.file.specs.File.{fileTable}
 use Rattle.loader.specs.Verdict.{judged, verdict, isSound}
+use Rattle.loader.specs.Verdict.Laws.{is-sound}
 use Rattle.loader.specs.Load.{tableLength, tableBytes, outcome, loaded, accepted}
 use Rattle.loader.specs.declared.Loaded.the-variants.{Done}
 use Rattle.loader.specs.declared.Verdict.the-variants as Verdict
 use Rattle.loader_laws.specs.PrintedFile.{Printable, filledUp, print-table, print-judged}
-use Rattle.loader_laws.specs.Yields.{is-sound, file-shaped, length-bytes, bytes-hold, sound-loads, file-small, file-accepted}
+use Rattle.loader_laws.specs.Yields.{file-shaped, length-bytes, bytes-hold, sound-loads, file-small, file-accepted}
 use Rattle.rules.specs.Start.{started}
 use Rattle.rules.specs.Calls.{courseOf}
 use Rattle.rules_laws.specs.Granted.{Granted}

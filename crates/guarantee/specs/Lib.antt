@@ -4,4 +4,5 @@ pub mod Later
 pub mod Proof
 pub mod Exported
 pub mod InNumbers
+pub mod WriteInNumbers
 pub mod ReasonsInLists

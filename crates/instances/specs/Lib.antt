@@ -5,6 +5,7 @@ pub mod OfFiles
 pub mod OfMoves
 pub mod OfCollection
 pub mod OfBuffers
+pub mod OfWriting
 pub mod OfReasons
 pub mod OfGuarantee
 pub mod OfTurns

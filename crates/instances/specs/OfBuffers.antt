@@ -90,13 +90,13 @@ empty-refused = length-iff [] [] .1 (λ (a, b). omega arith)
 
 -- ---- ground 9: a table of zeros
 
-abbrev zeroTable : Table
+abbrev pub zeroTable : Table
 zeroTable = replicate 865 (replicate 12 0)
 
-zero-shaped : Yields.Shaped zeroTable
+pub zero-shaped : Yields.Shaped zeroTable
 zero-shaped = record { long = refl; twelve = λ i l. zero-long 865 12 i l; small = λ i k l m. omega (arith, zero-at 865 12 i k) }
 
-zero-refused : acceptable zeroTable ≡ false
+pub zero-refused : acceptable zeroTable ≡ false
 unfolding judging acceptable
 zero-refused = refl
 

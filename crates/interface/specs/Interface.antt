@@ -6,6 +6,8 @@ use mir.Syntax.{w32}
 use mir.Val.{toZ, ofZ}
 use Rattle.loader.specs.Load as Load
 use Rattle.loader.specs.Load.{loaded, refusalNumber, lineNumber}
+use Rattle.writer.specs.Write as Write
+use Rattle.writer.specs.Write.{writeCall}
 use Rattle.state.specs.State.{minusOne}
 use Rattle.rules.specs.Calls.{Outcome, startCall, stepCall, giveCall, takeCall, runCall}
 use Rattle.rules.specs.declared.Started.{Started}
@@ -23,6 +25,7 @@ use Rattle.collector.specs.Collect.{collectCall}
 use Rattle.collector.specs.declared.Collected.{Collected}
 use Rattle.collector.specs.declared.Collected.the-variants as Collected
 use Rattle.interface.specs.declared.LoadAnswer.{LoadAnswer}
+use Rattle.interface.specs.declared.WriteAnswer.{WriteAnswer}
 use Rattle.interface.specs.declared.StartAnswer.{StartAnswer}
 use Rattle.interface.specs.declared.StepAnswer.{StepAnswer}
 use Rattle.interface.specs.declared.GiveAnswer.{GiveAnswer}
@@ -43,6 +46,20 @@ numbered o = loadedTo (record { refusal = pos (refusalNumber (o .answer)); line 
 
 unfoldable pub loadResult : List ℕ → List ℕ → LoadResult
 loadResult file t = numbered (loaded file t)
+
+-- the answer of a write, and the bytes of the buffer for the file
+pub record WriteResult : Type 0 where
+  pub answer : WriteAnswer
+  pub file : List ℕ
+
+abbrev pub writtenTo : WriteAnswer → List ℕ → WriteResult
+writtenTo r b = record { answer = r; file = b }
+
+unfoldable pub writtenNumbers : Write.Outcome → WriteResult
+writtenNumbers o = writtenTo (record { refusal = pos (Write.refusalNumber (o .answer)); bytes = pos (Write.bytesNumber (o .answer)) }) (o .file)
+
+unfoldable pub writeResult : List ℕ → List ℕ → WriteResult
+writeResult table b = writtenNumbers (writeCall table b)
 
 -- ---- the calls on a state: the answer, and the bytes of the state's buffer
 pub record StateResult (A : Type 0) : Type 0 where

@@ -4,6 +4,7 @@ ghost use mathlib.Core.Path.{_≡_};
 ghost use Prim.Native.Nat.{_≤_};
 ghost use Rattle.loader.specs.Verdict.{groundNumber};
 ghost use Rattle.loader.specs.Load.{refusalNumber, lineNumber};
+ghost use Rattle.writer.specs.Write as Write;
 ghost use Rattle.engine.specs.Numbers as Numbers;
 ghost use Rattle.interface.specs.Interface.{startFields, startNumbers, stepFields, stepNumbers, giveFields, giveNumbers};
 ghost use Rattle.interface.specs.Interface.{takeFields, takeNumbers, runFields, runNumbers, collectFields, collectNumbers};
@@ -18,6 +19,7 @@ use rules::Refusal;
 use rules::Started;
 use rules::Stepped;
 use rules::Taken;
+use writer::Written;
 
 // The number of a ground on which a file is refused: 1 to 7.
 pub fn ground_number(ground: Ground) -> u32
@@ -143,6 +145,38 @@ pub fn line_number(answer: Loaded) -> usize
         Loaded::Done => 0,
         Loaded::FileRefused(_, line) => line,
         Loaded::WrongLength => 0,
+    }
+}
+
+// The answer of a write: the refusal, 0 for none, and the bytes of the file, 0 where the call was refused.
+#[repr(C)]
+pub struct WriteAnswer {
+    pub refusal: i32,
+    pub bytes: i32,
+}
+
+// The refusal of a write, 0 for none.
+pub fn write_refusal(answer: Written) -> u32
+    ensures { λ r. ⌜ r ≡ Write.refusalNumber answer ⌝ }
+    ensures { λ r. ⌜ r ≤ 15 ⌝ }
+{
+    match answer {
+        Written::Done(_) => 0,
+        Written::WrongLength => 8,
+        Written::WrongTable => 9,
+        Written::ShortBuffer => 15,
+    }
+}
+
+// The bytes of the file that a write made, 0 for none.
+pub fn bytes_number(answer: Written) -> usize
+    ensures { λ r. ⌜ r ≡ Write.bytesNumber answer ⌝ }
+{
+    match answer {
+        Written::Done(bytes) => bytes,
+        Written::WrongLength => 0,
+        Written::WrongTable => 0,
+        Written::ShortBuffer => 0,
     }
 }
 

@@ -13,11 +13,9 @@ use Rattle.numbers.specs.Rows.{at}
 use Rattle.numbers.specs.Rows.Laws.{length-rows, length-row, at-in}
 use Rattle.numbers.specs.Bytes.{shorts, joined}
 use Rattle.numbers.specs.Bytes.Laws.{length-numbers, length-encode, encode-below, encode-numbers, numbers-encode, numbers-fit, joined-rows, rows-joined}
-use Rattle.numbers.specs.Search.Laws.{caseB, contra, every-elim, every-intro, length-tabulate, getD-tabulate}
+use Rattle.numbers.specs.Search.Laws.{caseB, every-elim, every-intro, length-tabulate, getD-tabulate}
 use Rattle.numbers.specs.Tests.{and-left, and-right, clash}
 use Rattle.table.specs.Table.{Table, maxRows, rowNumbers, tableOf, lineTotal}
-use Rattle.table.specs.Form.{headerInRange}
-use Rattle.table.specs.Form.Laws.{header-counts}
 use Rattle.ranges.specs.Ranges.{unusedFrom, restUnused}
 use Rattle.text.specs.Text.{fileText, fieldOf, readNumber}
 use Rattle.text.specs.Text.Laws.{reads-value, length-joined}
@@ -26,7 +24,7 @@ use Rattle.text.specs.declared.Reading.{Reading}
 use Rattle.text.specs.declared.Reading.the-variants.{Value, Wrong}
 use Rattle.file.specs.File.{lineCount, valueOf, numberAt, fileTable}
 use Rattle.loader.specs.Verdict.{judged, verdict, isSound, restZero, acceptable}
-use Rattle.loader.specs.Verdict.Laws.{no-sound, judged-header}
+use Rattle.loader.specs.Verdict.Laws.{no-sound, is-sound, judged-header, lines-few}
 use Rattle.loader.specs.Load.{tableLength, tableBytes, Outcome, outcome, afterVerdict, loaded, accepted}
 use Rattle.loader.specs.declared.Ground.the-variants.{Total}
 use Rattle.loader.specs.declared.Verdict.{Verdict}
@@ -52,14 +50,6 @@ module _ (tb : Table) (n : ℕ) where
   unfolding judged
   judged-total e = caseB (eqb n (lineTotal tb)) (λ y. eqb-true n (lineTotal tb) y)
       (λ y. no-sound Total 1 (rw (judged-header tb n e, y) at e))
-
-pub is-sound : (v : Verdict) → isSound v ≡ true → v ≡ Sound
-unfolding isSound
-is-sound Sound e = refl
-is-sound (Fault g l) e = contra e refl
-
-lines-few : (tb : Table) → headerInRange tb ≡ true → lineTotal tb ≤ maxRows
-lines-few tb e = let c = header-counts tb e in omega (arith, c .few-types, c .few-definitions, c .few-slots, c .few-nodes, c .few-branches)
 
 -- ---- rows of 0
 

@@ -17,9 +17,13 @@ use Rattle.loader.specs.declared.Verdict.the-variants.{Sound, Fault}
 use Rattle.loader.specs.declared.Loaded.{Loaded}
 use Rattle.loader.specs.declared.Loaded.the-variants.{Done, WrongLength}
 use Rattle.loader_laws.specs.Lowest.{fault-line}
+use Rattle.writer.specs.Write as Write
+use Rattle.writer.specs.Write.{writeCall, bytesNumber}
+use Rattle.writer.specs.Write.Laws.{bytes-few}
+use Rattle.writer.specs.declared.Written.{Written}
 use Rattle.rules.specs.Calls as Calls
 use Rattle.rules.specs.declared.Given.{Given}
-use Rattle.interface.specs.Interface.{loadedTo, numbered, loadResult, result, inNumbers, giveNumbers, giveResult}
+use Rattle.interface.specs.Interface.{loadedTo, numbered, loadResult, writtenTo, writtenNumbers, writeResult, result, inNumbers, giveNumbers, giveResult}
 use Rattle.interface.specs.declared.GiveAnswer.{GiveAnswer}
 
 -- ---- load: every line that loading names is a line of the file, and so fits the interface
@@ -49,6 +53,22 @@ module _ (file t t′ : List ℕ) (a : Loaded) (e : outcome a t′ ≡ loaded fi
         let x : toZ w32 r ≡ pos (refusalNumber a) = toZ-pos w32 {n = r} (omega arith) ∙ ap pos f in
         let y : toZ w32 l ≡ pos (lineNumber a) = toZ-pos w32 {n = l} (omega arith) ∙ ap pos g in
         rw (x, y) (ap numbered e)
+
+-- ---- write: no file is too long for the interface
+
+module _ (t b b′ : List ℕ) (a : Written) (e : Write.outcome a b′ ≡ writeCall t b) (n : ℕ) (g : n ≡ bytesNumber a) where
+  few-bytes : n ≤ 63145
+  few-bytes = rw (g, ap (λ (o : Write.Outcome). o .answer) e) (bytes-few t b)
+
+  pub bytes-fit : SFits w32 (pos n)
+  bytes-fit = record { sfits = omega (arith, few-bytes) }
+
+  pub write-answered : (r : ℕ) → r ≡ Write.refusalNumber a → r ≤ 15 → writtenTo (record { refusal = toZ w32 r; bytes = toZ w32 n }) b′ ≡ writeResult t b
+  unfolding writeResult writtenNumbers
+  write-answered r f h =
+      let x : toZ w32 r ≡ pos (Write.refusalNumber a) = toZ-pos w32 {n = r} (omega arith) ∙ ap pos f in
+      let y : toZ w32 n ≡ pos (bytesNumber a) = toZ-pos w32 {n = n} (omega (arith, few-bytes)) ∙ ap pos g in
+      rw (x, y) (ap writtenNumbers e)
 
 -- ---- the calls on a state
 

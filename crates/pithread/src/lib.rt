@@ -1,7 +1,7 @@
 // The calls that C makes. Numbers and byte buffers go in, numbers come back. Each call makes that of the layer below, and gives its answer in the numbers of
 // document 01.
 ghost use mathlib.Core.Path.{_≡_};
-ghost use Rattle.interface.specs.Interface.{loadedTo, loadResult, result};
+ghost use Rattle.interface.specs.Interface.{loadedTo, loadResult, writtenTo, writeResult, result};
 ghost use Rattle.interface.specs.Interface.{startResult, stepResult, giveResult, takeResult, runResult, collectResult};
 use interface::CollectAnswer;
 use interface::GiveAnswer;
@@ -10,6 +10,7 @@ use interface::RunAnswer;
 use interface::StartAnswer;
 use interface::StepAnswer;
 use interface::TakeAnswer;
+use interface::WriteAnswer;
 
 #[no_mangle]
 pub extern "C" fn pithread_load(file: &[u8], table: &mut [u8]) -> LoadAnswer
@@ -21,6 +22,19 @@ pub extern "C" fn pithread_load(file: &[u8], table: &mut [u8]) -> LoadAnswer
     LoadAnswer {
         refusal: refusal as i32,
         line: line as i32,
+    }
+}
+
+#[no_mangle]
+pub extern "C" fn pithread_write(table: &[u8], file: &mut [u8]) -> WriteAnswer
+    ensures { λ r. ⌜ writtenTo r (now (file .exit)) ≡ writeResult (now (table .entry)) (now (file .entry)) ⌝ }
+{
+    let answer = writer::write(table, file);
+    let refusal = interface::write_refusal(answer);
+    let bytes = interface::bytes_number(answer);
+    WriteAnswer {
+        refusal: refusal as i32,
+        bytes: bytes as i32,
     }
 }
 

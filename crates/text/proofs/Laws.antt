@@ -272,17 +272,23 @@ module _ (l : List ℕ) (six-long : length l ≡ 6) where
 -- ---- a field that is laid into a buffer
 
 -- six stores, one after the other
-pub columns-laid : (l : List ℕ) (at a b c d e f : ℕ) (n : Bool) (m : ℕ) → a ≡ letterOf n (m / 100000) (m / 10000) → b ≡ letterOf n (m / 10000) (m / 1000)
-    → c ≡ letterOf n (m / 1000) (m / 100) → d ≡ letterOf n (m / 100) (m / 10) → e ≡ letterOf n (m / 10) 1 → f ≡ 48 + m % 10
-    → set (set (set (set (set (set l at a) (at + 1) b) (at + 2) c) (at + 3) d) (at + 4) e) (at + 5) f ≡ sets l at (columns n m)
-unfolding columns
-columns-laid l at a b c d e f n m p q r s t u =
+six-laid : (l : List ℕ) (at a b c d e f : ℕ) → set (set (set (set (set (set l at a) (at + 1) b) (at + 2) c) (at + 3) d) (at + 4) e) (at + 5) f ≡ sets l at (six a b c d e f)
+six-laid l at a b c d e f =
     let e1 : at + 1 ≡ suc at = omega arith in
     let e2 : at + 2 ≡ suc (suc at) = omega arith in
     let e3 : at + 3 ≡ suc (suc (suc at)) = omega arith in
     let e4 : at + 4 ≡ suc (suc (suc (suc at))) = omega arith in
     let e5 : at + 5 ≡ suc (suc (suc (suc (suc at)))) = omega arith in
-    rw (e1, e2, e3, e4, e5, p, q, r, s, t, u)
+    rw (e1, e2, e3, e4, e5)
+
+pub columns-laid : (l : List ℕ) (at a b c d e f : ℕ) (n : Bool) (m : ℕ) → a ≡ letterOf n (m / 100000) (m / 10000) → b ≡ letterOf n (m / 10000) (m / 1000)
+    → c ≡ letterOf n (m / 1000) (m / 100) → d ≡ letterOf n (m / 100) (m / 10) → e ≡ letterOf n (m / 10) 1 → f ≡ 48 + m % 10
+    → set (set (set (set (set (set l at a) (at + 1) b) (at + 2) c) (at + 3) d) (at + 4) e) (at + 5) f ≡ sets l at (columns n m)
+unfolding columns
+columns-laid l at a b c d e f n m p q r s t u = six-laid l at a b c d e f ∙ rw (p, q, r, s, t, u)
+
+pub figure-laid : (l : List ℕ) (at v : ℕ) → v < 10 → set (set (set (set (set (set l at 32) (at + 1) 32) (at + 2) 32) (at + 3) 32) (at + 4) 32) (at + 5) (48 + v) ≡ sets l at (text v)
+figure-laid l at v h = six-laid l at 32 32 32 32 32 (48 + v) ∙ rw (text-one v h)
 
 module _ (l l₁ : List ℕ) (at v : ℕ) where
   pub text-laid : v ≤ 32767 → l₁ ≡ sets l at (columns false v) → l₁ ≡ sets l at (text v)

@@ -176,11 +176,29 @@ fn put_columns(buffer: &mut [u8], at: usize, negative: bool, size: u32)
     buffer[at + 5] = (48 + size % 10) as u8;
 }
 
-// The field of the number with the pattern v, laid into a buffer from a place on.
+// One figure after five blanks, laid into a buffer from a place on.
+fn put_figure(buffer: &mut [u8], at: usize, v: u16)
+    requires { ⌜ at + 6 ≤ length (now buffer) ⌝ }
+    requires { ⌜ v < 10 ⌝ }
+    ensures { λ _. ⌜ now (buffer .exit) ≡ sets (now (buffer .entry)) at (text v) ⌝ }
+{
+    buffer[at] = 32;
+    buffer[at + 1] = 32;
+    buffer[at + 2] = 32;
+    buffer[at + 3] = 32;
+    buffer[at + 4] = 32;
+    buffer[at + 5] = (48 + v) as u8;
+}
+
+// The field of the number with the pattern v, laid into a buffer from a place on. Most fields are one figure, which is laid at once.
 pub fn put_field(buffer: &mut [u8], at: usize, v: u16)
     requires { ⌜ at + 6 ≤ length (now buffer) ⌝ }
     ensures { λ _. ⌜ now (buffer .exit) ≡ sets (now (buffer .entry)) at (text v) ⌝ }
 {
+    if v < 10 {
+        put_figure(buffer, at, v);
+        return;
+    }
     if v <= 32767 {
         put_columns(buffer, at, false, v as u32);
         return;

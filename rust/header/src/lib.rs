@@ -114,6 +114,8 @@ numbers! {
     NO_THREAD_ROW: i32 = 13;
     /// The step would make a channel, and all channel rows are taken.
     NO_CHANNEL_ROW: i32 = 14;
+    /// The buffer is shorter than the file that would be written.
+    SHORT_BUFFER: i32 = 15;
 
     /// A step: the thread came to its end.
     ENDED: i32 = 0;
@@ -144,6 +146,14 @@ answers! {
         refusal,
         /// For the grounds 2 to 7 the first line at fault, counted from 1; else 0.
         line,
+    }
+
+    /// The answer of a write.
+    Written {
+        /// 0, 8, 9 or 15.
+        refusal,
+        /// How many bytes the file has: [`LINE_BYTES`] for each of its lines.
+        bytes,
     }
 
     /// The answer of a start.

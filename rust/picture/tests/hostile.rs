@@ -2,39 +2,25 @@
 //! standard error and a status, and nothing on standard output.
 
 use std::ffi::OsStr;
-use std::fs::{self, File};
+use std::fs;
 use std::os::unix::ffi::OsStrExt;
-use std::path::{Path, PathBuf};
-use std::process::{Command, Output, Stdio};
+use std::path::Path;
+use std::process::Output;
 
-fn example(name: &str) -> PathBuf {
-    Path::new(env!("CARGO_MANIFEST_DIR")).join("../../examples").join(name)
-}
+use process::{empty_folder, example, full_device, kept, Program};
+
+const PICTURE: Program = Program::new("picture", env!("CARGO_BIN_EXE_picture"));
 
 fn picture(words: &[&OsStr]) -> Output {
-    Command::new(env!("CARGO_BIN_EXE_picture")).args(words).output().expect("the program starts")
+    PICTURE.run(words)
 }
 
 fn words<'a>(path: &'a Path, steps: &'a str, form: &'a str) -> [&'a OsStr; 3] {
     [path.as_os_str(), OsStr::new(steps), OsStr::new(form)]
 }
 
-/// It ends with this status, and its message has these words.
 fn expect(output: Output, status: i32, message: &str) {
-    let said = String::from_utf8_lossy(&output.stderr);
-    assert_eq!(output.status.code(), Some(status), "{said}");
-    assert!(said.starts_with("picture: ") && said.ends_with('\n') && said.lines().count() == 1, "{said}");
-    assert!(said.contains(message), "{said} has no {message}");
-    assert!(output.stdout.is_empty(), "{said}");
-}
-
-/// A file of these bytes, of a name that belongs to the test alone.
-fn kept(name: &OsStr, bytes: &[u8]) -> PathBuf {
-    let folder = Path::new(env!("CARGO_TARGET_TMPDIR")).join("hostile");
-    fs::create_dir_all(&folder).expect("a folder for the files");
-    let path = folder.join(name);
-    fs::write(&path, bytes).expect("the file is written");
-    path
+    PICTURE.expect(&output, status, message);
 }
 
 #[test]
@@ -93,8 +79,9 @@ fn refused_files() {
         ("whole lines, but too many", &right[..73].repeat(866), "is refused, ground 1: "),
         ("one byte too many", &vec![b' '; 63_146], "is refused, ground 1: "),
     ];
+    let folder = empty_folder(env!("CARGO_TARGET_TMPDIR"), "picture-refused");
     for (name, bytes, message) in files {
-        let path = kept(OsStr::new(name), bytes);
+        let path = kept(&folder, OsStr::new(name), bytes);
         for form in ["--svg", "--dot"] {
             expect(picture(&words(&path, "5", form)), 1, message);
         }
@@ -109,7 +96,8 @@ fn a_file_without_an_end() {
 #[test]
 fn a_name_that_is_no_text() {
     let right = fs::read(example("relay.txt")).expect("an example");
-    let path = kept(OsStr::from_bytes(b"<\xff&\n>.txt"), &right);
+    let folder = empty_folder(env!("CARGO_TARGET_TMPDIR"), "picture-names");
+    let path = kept(&folder, OsStr::from_bytes(b"<\xff&\n>.txt"), &right);
     let output = picture(&words(&path, "5", "--svg"));
     let drawn = String::from_utf8(output.stdout).expect("a picture is text");
     assert!(output.status.success(), "{drawn}");
@@ -118,19 +106,12 @@ fn a_name_that_is_no_text() {
 
 #[test]
 fn a_picture_that_cannot_be_written() {
-    let full = File::options().write(true).open("/dev/full").expect("a device that is always full");
-    let output = Command::new(env!("CARGO_BIN_EXE_picture"))
-        .args(words(&example("relay.txt"), "5", "--svg"))
-        .stdout(Stdio::from(full))
-        .output()
-        .expect("the program starts");
+    let mut command = PICTURE.with(&words(&example("relay.txt"), "5", "--svg"));
+    let output = command.stdout(full_device()).output().expect("the program starts");
     expect(output, 2, "the picture cannot be written: ");
 }
 
 #[test]
 fn nobody_reads_what_it_says() {
-    let full =
-        || Stdio::from(File::options().write(true).open("/dev/full").expect("a device that is always full"));
-    let status = Command::new(env!("CARGO_BIN_EXE_picture")).stdout(full()).stderr(full()).status();
-    assert_eq!(status.expect("the program starts").code(), Some(2));
+    PICTURE.expect_status_alone(&[]);
 }

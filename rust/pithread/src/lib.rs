@@ -27,8 +27,9 @@
 //! # Ok::<(), Box<dyn std::error::Error>>(())
 //! ```
 //!
-//! [`Bench`] has buffers of the right lengths and a state that is always sound. The calls on buffers of the
-//! caller's are in [`raw`], the only module with unsafe code.
+//! [`Bench`] has buffers of the right lengths and a state that is always sound. [`Table::write`] makes the
+//! procedure file of a table again. The calls on buffers of the caller's are in [`raw`], the only module with
+//! unsafe code.
 
 mod bench;
 pub mod raw;

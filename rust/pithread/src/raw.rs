@@ -15,11 +15,12 @@
 
 #![allow(unsafe_code)]
 
-pub use pithread_header::{Collected, Given, Loaded, Ran, Started, Stepped, Taken};
+pub use pithread_header::{Collected, Given, Loaded, Ran, Started, Stepped, Taken, Written};
 
 #[link(name = "pithread", kind = "static")]
 extern "C" {
     fn pithread_load(file: *const u8, file_len: usize, table: *mut u8, table_len: usize) -> Loaded;
+    fn pithread_write(table: *const u8, table_len: usize, file: *mut u8, file_len: usize) -> Written;
     fn pithread_start(table: *const u8, table_len: usize, state: *mut u8, state_len: usize) -> Started;
     fn pithread_step(
         table: *const u8,
@@ -54,6 +55,26 @@ extern "C" {
 /// Checks a procedure file and writes its table.
 pub fn load(file: &[u8], table: &mut [u8]) -> Loaded {
     unsafe { pithread_load(file.as_ptr(), file.len(), table.as_mut_ptr(), table.len()) }
+}
+
+/// Writes the procedure file of a table to the front of a buffer, which keeps what it has behind the file.
+///
+/// ```
+/// use pithread::{raw, Table};
+///
+/// let table = Table::load(&std::fs::read("../../examples/first/1.txt")?)?; // three lines of 73 bytes
+/// let mut buffer = [7; 220];
+/// let refused = raw::write(table.as_bytes(), &mut buffer[..218]);
+/// assert_eq!((refused.refusal, refused.bytes), (15, 0));
+/// assert_eq!(buffer, [7; 220]);
+///
+/// let written = raw::write(table.as_bytes(), &mut buffer);
+/// assert_eq!((written.refusal, written.bytes), (0, 219));
+/// assert_eq!(buffer[218..], [b'\n', 7]);
+/// # Ok::<(), Box<dyn std::error::Error>>(())
+/// ```
+pub fn write(table: &[u8], file: &mut [u8]) -> Written {
+    unsafe { pithread_write(table.as_ptr(), table.len(), file.as_mut_ptr(), file.len()) }
 }
 
 /// Writes the state in which thread 0 stands ready at the first node.

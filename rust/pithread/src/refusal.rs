@@ -4,8 +4,8 @@ use std::error::Error;
 use std::fmt;
 
 use pithread_header::{
-    BUFFER_LENGTH, COUNTS, DONE, FIELD, FILE_LENGTH, NO_CHANNEL_ROW, NO_THREAD_ROW, PORT, RANGE, READ, STATE,
-    TABLE, THREAD, TYPES, UNREACHABLE,
+    BUFFER_LENGTH, COUNTS, DONE, FIELD, FILE_LENGTH, NO_CHANNEL_ROW, NO_THREAD_ROW, PORT, RANGE, READ,
+    SHORT_BUFFER, STATE, TABLE, THREAD, TYPES, UNREACHABLE,
 };
 
 /// The ground on which a call was refused. Nothing has changed then.
@@ -69,6 +69,8 @@ pub enum Refusal {
     /// 14: the step would make a channel, and all channel rows are taken. The thread stays as it is and can
     /// be stepped again once a row is free.
     NoChannelRow,
+    /// 15: the buffer is shorter than the file that would be written.
+    ShortBuffer,
 }
 
 impl Refusal {
@@ -91,11 +93,12 @@ impl Refusal {
             PORT => Refusal::Port,
             NO_THREAD_ROW => Refusal::NoThreadRow,
             NO_CHANNEL_ROW => Refusal::NoChannelRow,
-            _ => unreachable!("a ground is a number from 1 to 14"),
+            SHORT_BUFFER => Refusal::ShortBuffer,
+            _ => unreachable!("a ground is a number from 1 to 15"),
         })
     }
 
-    /// The number of the ground, from 1 to 14.
+    /// The number of the ground, from 1 to 15.
     pub fn number(self) -> i32 {
         self.parts().0
     }
@@ -132,6 +135,7 @@ impl Refusal {
             Refusal::Port => (PORT, None, "there is no such port"),
             Refusal::NoThreadRow => (NO_THREAD_ROW, None, "all thread rows are taken"),
             Refusal::NoChannelRow => (NO_CHANNEL_ROW, None, "all channel rows are taken"),
+            Refusal::ShortBuffer => (SHORT_BUFFER, None, "the buffer is shorter than the file"),
         }
     }
 }

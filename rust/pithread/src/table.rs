@@ -2,7 +2,7 @@
 
 use std::fmt;
 
-use pithread_header::{STATE_BYTES, TABLE_BYTES};
+use pithread_header::{LINE_BYTES, STATE_BYTES, TABLE_BYTES};
 
 use crate::{raw, Refusal};
 
@@ -66,9 +66,57 @@ impl Table {
         std::array::from_fn(|field| i16::from_le_bytes(numbers[row * FIELDS + field]))
     }
 
+    /// How many lines the file has.
+    pub fn lines(&self) -> usize {
+        let counts = &self.row(0)[1..6];
+        1 + counts.iter().map(|count| usize::from(count.unsigned_abs())).sum::<usize>()
+    }
+
     /// How many ports the file has. Ports are the channels from 0 on.
     pub fn ports(&self) -> u32 {
         u32::from(self.row(0)[6].unsigned_abs())
+    }
+
+    /// The procedure file of the table. It loads to this table, and the table of a file gives that file
+    /// again, byte for byte.
+    ///
+    /// ```
+    /// use pithread::{Table, FIELDS};
+    ///
+    /// let file = std::fs::read("../../examples/units.txt")?;
+    /// let table = Table::load(&file)?;
+    /// assert_eq!(table.write(), file);
+    ///
+    /// // A table may be edited as bytes. Line 55 has the limit of a guard in its fourth field, 100.
+    /// let mut bytes = table.as_bytes().to_vec();
+    /// let place = 2 * (FIELDS * 54 + 3);
+    /// bytes[place..place + 2].copy_from_slice(&i16::to_le_bytes(-300));
+    /// let edited = Table::from_bytes(&bytes)?.write();
+    /// assert_eq!(edited[73 * 54..][..24], *b"     6     2     2  -300");
+    /// # Ok::<(), Box<dyn std::error::Error>>(())
+    /// ```
+    pub fn write(&self) -> Vec<u8> {
+        let mut file = Vec::new();
+        self.append_to(&mut file);
+        file
+    }
+
+    /// Writes the procedure file behind what the vector has already, which stays.
+    pub fn append_to(&self, bytes: &mut Vec<u8>) {
+        let before = bytes.len();
+        let length = LINE_BYTES * self.lines();
+        bytes.resize(before + length, 0);
+        let written = self.write_into(&mut bytes[before..]);
+        assert_eq!(written, Ok(length), "a table has a file of as many lines as its header counts");
+    }
+
+    /// Writes the procedure file to the front of a buffer, and answers how many bytes it has. The bytes of
+    /// the buffer behind it stay as they were. Refused with ground 15 if the buffer is shorter than the file;
+    /// then all of them do.
+    pub fn write_into(&self, buffer: &mut [u8]) -> Result<usize, Refusal> {
+        let written = raw::write(self.as_bytes(), buffer);
+        Refusal::unless_done(written.refusal, 0)?;
+        Ok(usize::try_from(written.bytes).expect("the length of a file is not negative"))
     }
 }
 

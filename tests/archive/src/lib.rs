@@ -1,6 +1,7 @@
 //! The delivered archive, `libpithread.a`, in the form that all engines of the tests have.
 
 use interface::Engine;
+pub use pithread::raw::write;
 use pithread::raw::{collect, give, load, run, start, step, take};
 
 /// The archive's calls on a table and a state.

@@ -4,19 +4,23 @@
 //! `meetings` behind it prints only what `beside_go.sh` compares.
 
 mod collecting;
+mod files;
 mod loading;
 mod report;
 mod running;
 mod stepping;
 mod timing;
+mod writing;
 
 fn main() {
     if std::env::args().nth(1).is_some_and(|word| word == "meetings") {
         running::report_meetings();
         return;
     }
-    println!("medians of samples taken in turn; speed: the archive's by the reference's");
+    println!("medians of samples taken in turn; speed: the archive's by the reference's;");
+    println!("times: how many times as long the write takes");
     loading::report();
+    writing::report();
     running::report();
     stepping::report();
     collecting::report();

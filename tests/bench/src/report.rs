@@ -26,13 +26,19 @@ impl Unit {
     }
 }
 
+/// The heading of lines that hold the archive against the reference.
 pub fn heading(name: &str, unit: Unit) {
-    let unit = unit.name();
-    println!("\n{name:50}{:>14}{:>14}{:>8}", format!("archive {unit}"), format!("reference {unit}"), "speed");
+    heading_of(name, ["archive", "reference"], unit, "speed");
 }
 
-/// Both figures, and the archive's speed by the reference's.
+/// The heading of lines that hold two sides of these names against each other.
+pub fn heading_of(name: &str, sides: [&str; 2], unit: Unit, ratio: &str) {
+    let [first, second] = sides.map(|side| format!("{side} {}", unit.name()));
+    println!("\n{name:50}{first:>14}{second:>14}{ratio:>8}");
+}
+
+/// Both figures, and the speed of the first by that of the second.
 pub fn line(name: &str, unit: Unit, times: &Times) {
-    let (archive, reference) = (unit.figure(times.archive), unit.figure(times.reference));
-    println!("{name:50}{archive:>14.2}{reference:>14.2}{:>8.2}", times.ratio());
+    let (first, second) = (unit.figure(times.first), unit.figure(times.second));
+    println!("{name:50}{first:>14.2}{second:>14.2}{:>8.2}", times.ratio());
 }

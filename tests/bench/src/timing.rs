@@ -4,31 +4,33 @@ use std::time::Instant;
 
 const SAMPLES: usize = 201;
 
-/// What a piece of work takes, in seconds.
+/// What a piece of work takes on each of two sides, in seconds. The first is the archive and the second the
+/// reference where nothing else is said.
 pub struct Times {
-    pub archive: f64,
-    pub reference: f64,
+    pub first: f64,
+    pub second: f64,
 }
 
 impl Times {
     /// Medians of many samples; each sample is timed as a whole and holds so many pieces of work.
-    pub fn take(pieces: usize, mut archive: impl FnMut(), mut reference: impl FnMut()) -> Times {
-        let (mut first, mut second) = (Vec::new(), Vec::new());
+    pub fn take(pieces: usize, mut first: impl FnMut(), mut second: impl FnMut()) -> Times {
+        let (mut firsts, mut seconds) = (Vec::new(), Vec::new());
         for _ in 0..SAMPLES {
-            first.push(seconds(&mut archive));
-            second.push(seconds(&mut reference));
+            firsts.push(time(&mut first));
+            seconds.push(time(&mut second));
         }
         let each = 1.0 / pieces as f64;
-        Times { archive: median(first) * each, reference: median(second) * each }
+        Times { first: median(firsts) * each, second: median(seconds) * each }
     }
 
-    /// The archive's speed by the reference's: above 1 the archive is the faster.
+    /// The speed of the first by that of the second: above 1 the first is the faster.
     pub fn ratio(&self) -> f64 {
-        self.reference / self.archive
+        self.second / self.first
     }
 }
 
-fn seconds(work: &mut impl FnMut()) -> f64 {
+/// How many seconds some work takes.
+fn time(work: &mut impl FnMut()) -> f64 {
     let start = Instant::now();
     work();
     start.elapsed().as_secs_f64()

@@ -44,6 +44,11 @@ impl Comparison {
         keep(&[file], &format!("{about}: answered {given:?}, {differs}"));
     }
 
+    /// The table after the last load.
+    pub fn table(&self) -> &[u8] {
+        &self.expected
+    }
+
     fn prepare(&mut self, length: usize) {
         if self.before.len() != length {
             self.before = pattern(length).collect();

@@ -1,9 +1,10 @@
-//! What the comparisons share: one load, one call or one listing by both sides, and tallies of what was
-//! met.
+//! What the comparisons share: one load, one write, one call or one listing by both sides, and tallies of
+//! what was met.
 
 mod calls;
 mod collections;
 mod comparison;
+mod examples;
 mod kept;
 mod listings;
 mod lists;
@@ -11,14 +12,17 @@ mod padded;
 mod sequence;
 mod tally;
 mod traffic;
+mod writes;
 
 pub use calls::Calls;
 pub use comparison::{Answer, Comparison};
+pub use examples::examples;
 pub use listings::{Listings, PROGRAM};
 pub use lists::{List, Lists};
 pub use sequence::Sequence;
 pub use tally::Tally;
 pub use traffic::Traffic;
+pub use writes::Writes;
 
 use generate::Random;
 

@@ -3,7 +3,7 @@
 use std::collections::BTreeMap;
 
 use generate::{Layout, Words, WAITING};
-use interface::{Answer, Call, Stepped, BRANCH, CALLED, NOBODY};
+use interface::{Answer, Call, Stepped, Written, BRANCH, CALLED, NOBODY};
 use reference::Fault;
 
 /// Something that was met: what it was, and a number that says more.
@@ -51,6 +51,12 @@ impl Traffic {
                 }
             }
         }
+    }
+
+    /// Counts a write with its answer.
+    pub fn add_write(&mut self, written: &Written) {
+        self.calls += 1;
+        self.note("write", written.refusal);
     }
 
     /// Counts what a step that was done did, by the file and by the state before it.

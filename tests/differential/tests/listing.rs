@@ -1,10 +1,8 @@
 //! The listing program against the reference, on some five hundred files.
 
-use std::fs::{read, read_dir};
 use std::io::{stderr, Write};
-use std::path::Path;
 
-use differential::{for_seeds, Listings, Traffic, PROGRAM};
+use differential::{examples, for_seeds, Listings, Traffic, PROGRAM};
 use generate::{
     any_valid, cases, damaged, procedures, profiled, standstills, text_of, valid, Random, Size, LINE_BYTES,
     LIVELY, MOST_LINES, STILL,
@@ -148,14 +146,9 @@ fn hostile_input() {
 #[test]
 fn the_examples() {
     let Some(mut listed) = Listed::new("the_examples") else { return };
-    let examples = Path::new(env!("CARGO_MANIFEST_DIR")).join("../../examples");
-    for folder in [examples.clone(), examples.join("refused")] {
-        for entry in read_dir(folder).expect("a folder of examples") {
-            let path = entry.expect("an entry of the folder").path();
-            if path.extension().is_some_and(|extension| extension == "txt") {
-                let file = read(&path).expect("an example");
-                listed.compare(&mut Random::new(1), &file, &path.display().to_string());
-            }
+    for folder in ["examples", "examples/refused"] {
+        for (path, file) in examples(folder) {
+            listed.compare(&mut Random::new(1), &file, &path);
         }
     }
     listed.traffic.expect("ground", 1..=7, 1);

@@ -1,9 +1,6 @@
 //! The archive's loading against the reference, on very many files.
 
-use std::fs;
-use std::path::Path;
-
-use differential::{for_seeds, Comparison, Tally};
+use differential::{examples, for_seeds, Comparison, Tally};
 use generate::{
     any_valid, cases, damaged, padded, text_of, valid, File, Random, Size, LINE_BYTES, MOST_LINES,
 };
@@ -170,16 +167,10 @@ fn random_numbers() {
 
 #[test]
 fn examples_are_accepted() {
-    let folder = Path::new(env!("CARGO_MANIFEST_DIR")).join("../../examples");
     let mut comparison = Comparison::new(archive::answer);
-    let mut files = 0;
-    for entry in fs::read_dir(folder).expect("the folder of the examples") {
-        let path = entry.expect("an entry of the folder").path();
-        if path.extension().is_some_and(|extension| extension == "txt") {
-            let text = fs::read(&path).expect("an example");
-            assert_eq!(comparison.compare(&text, "example"), (0, 0), "{}", path.display());
-            files += 1;
-        }
+    let files = examples("examples");
+    for (path, text) in &files {
+        assert_eq!(comparison.compare(text, path), (0, 0), "{path}");
     }
-    assert!(files >= 7);
+    assert!(files.len() >= 7);
 }

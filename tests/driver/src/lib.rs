@@ -12,12 +12,21 @@ extern "C" {
         answers: *mut u8,
         answers_len: usize,
     );
+    fn driver_restore(
+        table: *const u8,
+        table_len: usize,
+        file: *mut u8,
+        file_len: usize,
+        other: *mut u8,
+        other_len: usize,
+    ) -> i32;
 }
+
+// SAFETY, of both calls: each pointer comes with the length of what it points to, no two of the buffers
+// overlap, and no call keeps a pointer.
 
 /// Works the calls of a list in turn on the state, and lays their answers.
 pub fn work_list(table: &[u8], state: &mut [u8], calls: &[u8], answers: &mut [u8]) {
-    // SAFETY: each pointer comes with the length of what it points to, no two of the buffers overlap, and
-    // the call keeps none.
     unsafe {
         driver_work_list(
             table.as_ptr(),
@@ -29,5 +38,20 @@ pub fn work_list(table: &[u8], state: &mut [u8], calls: &[u8], answers: &mut [u8
             answers.as_mut_ptr(),
             answers.len(),
         );
+    }
+}
+
+/// Writes the file of a table and loads what was written as the other table. Answers the refusal of the write
+/// or else that of the load.
+pub fn restore(table: &[u8], file: &mut [u8], other: &mut [u8]) -> i32 {
+    unsafe {
+        driver_restore(
+            table.as_ptr(),
+            table.len(),
+            file.as_mut_ptr(),
+            file.len(),
+            other.as_mut_ptr(),
+            other.len(),
+        )
     }
 }

@@ -1,6 +1,7 @@
 //! Single files with the answer that each must get, group by group.
 
 use crate::file::{text_of, LINE_BYTES, MOST_LINES};
+use crate::tables::TABLE_BYTES;
 
 /// A file and the ground and line of its refusal; 0 and 0 if it loads.
 pub struct Case {
@@ -8,6 +9,25 @@ pub struct Case {
     pub file: Vec<u8>,
     pub ground: i32,
     pub line: i32,
+}
+
+impl Case {
+    /// The table of its numbers, if its file has whole lines of numbers and not too many.
+    pub fn table(&self) -> Option<Vec<u8>> {
+        if self.ground == 1 || self.ground == 2 {
+            return None;
+        }
+        let lines = self.file.chunks(LINE_BYTES);
+        let fields = lines.flat_map(|line| line[..LINE_BYTES - 1].chunks(6));
+        let mut table: Vec<u8> = fields.flat_map(|field| number_of(field).to_le_bytes()).collect();
+        table.resize(TABLE_BYTES, 0);
+        Some(table)
+    }
+}
+
+fn number_of(field: &[u8]) -> i16 {
+    let text = std::str::from_utf8(field).expect("well formed");
+    text.trim_start().parse().expect("well formed")
 }
 
 /// Six characters that are no field.

@@ -1,7 +1,9 @@
-//! A second loader and a second engine, written apart from the proved ones and compared with them.
+//! A second loader, a second writer and a second engine, written apart from the proved ones and compared
+//! with them.
 //!
 //! A file goes through these modules in turn, and each refuses on its own grounds:
 //! `text` (1 and 2), `sections` (3), `ranges` (4), `types` (5), `paths` (6 and 7).
+//! A table goes through the same from `sections` on before `text` writes its file.
 //! The calls on a table and a state, with the grounds from 8 on, are in `engine`.
 
 mod engine;
@@ -14,6 +16,7 @@ mod text;
 mod types;
 
 pub use engine::{collect, fault, give, listing, run, start, step, take, Fault, ENGINE};
+use interface::{Written, BUFFER_LENGTH, SHORT_BUFFER, TABLE};
 
 /// Fields in a line, and numbers in a row of the table.
 pub const FIELDS: usize = 12;
@@ -93,6 +96,30 @@ pub fn answer(file: &[u8], buffer: &mut [u8]) -> (i32, i32) {
         Ok(()) => (0, 0),
         Err(refusal) => (refusal.ground, refusal.line),
     }
+}
+
+/// Writes the file of a table at the front of a buffer, as the archive's call does: the rest of the buffer
+/// stays as it is, and so does all of it when the write is refused.
+pub fn write(table: &[u8], buffer: &mut [u8]) -> Written {
+    match write_file(table, buffer) {
+        Ok(bytes) => Written { refusal: 0, bytes: bytes as i32 },
+        Err(refusal) => Written { refusal, bytes: 0 },
+    }
+}
+
+/// Answers how many bytes the file has, or the ground.
+fn write_file(table: &[u8], buffer: &mut [u8]) -> Result<usize, i32> {
+    if table.len() != TABLE_BYTES {
+        return Err(BUFFER_LENGTH);
+    }
+    let mut rows = no_rows();
+    if check_table(table, &mut rows).is_none() {
+        return Err(TABLE);
+    }
+    let rows = &rows[..sections::line_total(&rows[0])];
+    let room = buffer.get_mut(..rows.len() * LINE_BYTES).ok_or(SHORT_BUFFER)?;
+    text::write(rows, room);
+    Ok(room.len())
 }
 
 /// Whether these bytes are a table that some file loads to.

@@ -1,4 +1,4 @@
-//! From bytes to numbers: grounds 1 and 2.
+//! From bytes to numbers, with grounds 1 and 2, and from numbers to bytes.
 
 use crate::{Refusal, Row, Rows, LINE_BYTES, MOST_LINES};
 
@@ -52,9 +52,40 @@ fn read_field(field: &[u8; FIELD_BYTES]) -> Option<i16> {
     i16::try_from(sign * size).ok()
 }
 
+/// Writes every row as a line into a room of as many lines.
+pub fn write(rows: &[Row], room: &mut [u8]) {
+    let (lines, _) = room.as_chunks_mut::<LINE_BYTES>();
+    for (row, line) in rows.iter().zip(lines) {
+        let (fields, end) = line.as_chunks_mut::<FIELD_BYTES>();
+        for (number, field) in row.iter().zip(fields) {
+            *field = field_of(*number);
+        }
+        end.copy_from_slice(b"\n");
+    }
+}
+
+fn field_of(number: i16) -> [u8; FIELD_BYTES] {
+    // Most numbers have one digit.
+    if let 0..=9 = number {
+        return [b' ', b' ', b' ', b' ', b' ', b'0' + number as u8];
+    }
+    let mut field = [b' '; FIELD_BYTES];
+    let mut first = FIELD_BYTES;
+    let mut left = number.unsigned_abs();
+    while left > 0 {
+        first -= 1;
+        field[first] = b'0' + (left % 10) as u8;
+        left /= 10;
+    }
+    if number < 0 {
+        field[first - 1] = b'-';
+    }
+    field
+}
+
 #[cfg(test)]
 mod tests {
-    use super::read_field;
+    use super::{field_of, read_field};
     use generate::cases::BAD_FIELDS;
 
     #[test]
@@ -63,6 +94,13 @@ mod tests {
             let text = format!("{number:6}");
             let field = text.as_bytes().try_into().expect("six characters");
             assert_eq!(read_field(field), Some(number), "{text:?}");
+        }
+    }
+
+    #[test]
+    fn numbers_are_written() {
+        for number in i16::MIN..=i16::MAX {
+            assert_eq!(field_of(number), format!("{number:6}").as_bytes());
         }
     }
 

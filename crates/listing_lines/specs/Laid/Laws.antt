@@ -4,21 +4,22 @@ use native.Mathlib.Omega.{arith}
 use native.Mathlib.Numerals.{add-one}
 use mathlib.Core.Path.{_≡_, refl, sym, _∙_, ap}
 use mathlib.Core.Bool.{false, not, _&&_}
-use mathlib.Core.List.{List, [], _∷_, _++_, map, append-nil, append-assoc, map-append}
+use mathlib.Core.List.{List, [], _∷_, _++_, map}
 use mir.Syntax.{w32}
 use mir.Val.{Fits}
 use lib.Dec.{eqb}
-use lib.ListN.{length, getD, set, take, drop, length-append}
-use lib.Seq.{sets, sets-eq, take-suc, take-all, take-at, drop-at, take-length, length-take-le}
+use lib.ListN.{length, getD, set, take, length-append}
+use lib.Seq.{sets, take-suc, take-all, length-take-le}
 use borrow.Author.Tests.{eq-eqb, ne-eqb}
 use Rattle.numbers.specs.Rows.{at}
 use Rattle.numbers.specs.Bytes.{joined}
+use Rattle.numbers.specs.Bytes.Laws.{sets-append, joined-snoc}
 use Rattle.numbers.specs.Count.{bit}
 use Rattle.numbers.specs.Count.Laws.{bit-le}
 use Rattle.numbers.specs.Search.{tabulate}
 use Rattle.numbers.specs.Search.Laws.{caseB, sum-none, sum-suc, sum-more, tabulate-none, tabulate-suc}
 use Rattle.text.specs.Text.{text}
-use Rattle.text.specs.Text.Laws.{length-text, length-joined}
+use Rattle.text.specs.Text.Laws.{length-text, length-joined, pieces-more, pieces-closed}
 use Rattle.loader.specs.Verdict.{groundNumber}
 use Rattle.loader.specs.declared.Ground.{Ground}
 use Rattle.state.specs.State.{State, maxThreads, maxChannels, typeIn, thread, standsAt, status, inUse}
@@ -30,33 +31,6 @@ use Rattle.rules.specs.declared.Stepped.the-variants.{Done, Refused}
 use Rattle.engine.specs.Numbers.{actNumber, branchNumber, partnerNumber}
 use Rattle.listing_lines.specs.Lines.{column, line, stepLine, channelsInUse}
 use Rattle.listing_lines.specs.Laid.{columnsTo, inUseTo, goneLine, goneLines}
-
--- ---- stores, one after the other
-
-pub sets-append : (l : List ℕ) (i : ℕ) (xs ys : List ℕ) → sets l i (xs ++ ys) ≡ sets (sets l i xs) (i + length xs) ys
-sets-append l i [] ys = let e : i + 0 ≡ i = omega arith in rw e
-sets-append l i (x ∷ xs) ys =
-    let e : suc i + length xs ≡ i + suc (length xs) = omega arith in
-    sets-append (set l i x) (suc i) xs ys ∙ rw e
-
-joined-append : (rs qs : List (List ℕ)) → joined (rs ++ qs) ≡ joined rs ++ joined qs
-unfolding joined
-joined-append [] qs = refl
-joined-append (r ∷ rs) qs = rw (joined-append rs qs) (sym (append-assoc r (joined rs) (joined qs)))
-
-pub joined-snoc : (rs : List (List ℕ)) (r : List ℕ) → joined (rs ++ (r ∷ [])) ≡ joined rs ++ r
-unfolding joined
-joined-snoc rs r = joined-append rs (r ∷ []) ∙ rw (append-nil r)
-
--- what lies at the front is what was laid there
-pub take-sets : (l vs : List ℕ) → length vs ≤ length l → take (length vs) (sets l 0 vs) ≡ vs
-take-sets l vs h =
-    rw (sets-eq vs l 0 (omega arith)) (take-at vs (drop (0 + length vs) l) (length vs) refl)
-
-pub drop-sets : (l vs : List ℕ) → length vs ≤ length l → drop (length vs) (sets l 0 vs) ≡ drop (length vs) l
-drop-sets l vs h =
-    let e : 0 + length vs ≡ length vs = omega arith in
-    rw (sets-eq vs l 0 (omega arith), e) (drop-at vs (drop (length vs) l) (length vs) refl)
 
 -- ---- bytes
 
@@ -91,32 +65,19 @@ unfolding line
 length-line vs = length-append (joined (map column vs)) (10 ∷ []) ∙ omega (arith, length-columns vs)
 
 -- the columns of the first i numbers, and then the newline
-module _ (vs : List ℕ) where
-  columns-more : (i : ℕ) → i < length vs → columnsTo vs (suc i) ≡ columnsTo vs i ++ column (getD vs i 0)
-  unfolding columnsTo
-  columns-more i h =
-      rw (take-suc vs i 0 h, map-append column (take i vs) (getD vs i 0 ∷ [])) (joined-snoc (map column (take i vs)) (column (getD vs i 0)))
+module _ (vs l : List ℕ) (at : ℕ) where
+  pub line-none : l ≡ sets l at (columnsTo vs 0)
+  unfolding columnsTo joined
+  line-none = refl
 
-  columns-end : (at i : ℕ) → i ≤ length vs → at + length (columnsTo vs i) ≡ at + i * 6
-  unfolding columnsTo
-  columns-end at i h = omega (arith, length-columns (take i vs), length-take-le i vs h)
+  module _ (i : ℕ) (l₁ : List ℕ) (e : l₁ ≡ sets l at (columnsTo vs i)) where
+    pub line-more : (l₂ : List ℕ) → l₂ ≡ sets l₁ (at + i * 6) (text (getD vs i 0 % 65536)) → i < length vs → l₂ ≡ sets l at (columnsTo vs (i + 1))
+    unfolding column columnsTo
+    line-more l₂ f h = pieces-more column 6 0 vs (λ i h. length-column (getD vs i 0)) l at i l₁ e l₂ f h
 
-  module _ (l : List ℕ) (at : ℕ) where
-    pub line-none : l ≡ sets l at (columnsTo vs 0)
-    unfolding columnsTo joined
-    line-none = refl
-
-    module _ (i : ℕ) (l₁ : List ℕ) (e : l₁ ≡ sets l at (columnsTo vs i)) where
-      pub line-more : (l₂ : List ℕ) → l₂ ≡ sets l₁ (at + i * 6) (text (getD vs i 0 % 65536)) → i < length vs → l₂ ≡ sets l at (columnsTo vs (i + 1))
-      unfolding column
-      line-more l₂ f h =
-          f ∙ rw (e, add-one i, columns-more i h, sets-append l at (columnsTo vs i) (column (getD vs i 0)), columns-end at i (omega arith))
-
-      pub line-all : i ≤ length vs → length vs ≤ i → set l₁ (at + length vs * 6) 10 ≡ sets l at (line vs)
-      unfolding line columnsTo
-      line-all h k =
-          let n : i ≡ length vs = omega arith in
-          rw (e, n, sets-append l at (joined (map column vs)) (10 ∷ []), take-length vs, length-columns vs)
+    pub line-all : i ≤ length vs → length vs ≤ i → set l₁ (at + length vs * 6) 10 ≡ sets l at (line vs)
+    unfolding line columnsTo
+    line-all h k = pieces-closed column 6 0 vs (λ i h. length-column (getD vs i 0)) l at i l₁ e k 10
 
 -- ---- channels in use
 

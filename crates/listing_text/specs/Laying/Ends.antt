@@ -5,6 +5,7 @@ use mathlib.Core.Path.{_≡_, _∙_}
 use mathlib.Core.List.{List, [], _∷_, _++_}
 use lib.ListN.{length, length-append}
 use lib.Seq.{sets}
+use Rattle.numbers.specs.Bytes.Laws.{sets-append}
 use Rattle.numbers.specs.Search.Laws.{tabulate-cong}
 use Rattle.table.specs.Table.{Table}
 use Rattle.state.specs.State.{State, maxThreads}
@@ -15,7 +16,7 @@ use Rattle.collector.specs.Collect.{collected, takenCount}
 use Rattle.collector.specs.Collect.Laws.{taken-shows}
 use Rattle.listing_lines.specs.Lines.{line, channelsInUse}
 use Rattle.listing_lines.specs.Laid.{goneLine, goneLines}
-use Rattle.listing_lines.specs.Laid.Laws.{sets-append, length-line}
+use Rattle.listing_lines.specs.Laid.Laws.{length-line}
 use Rattle.listing_text.specs.Listing.{closingLine, takenLine, takenLines}
 use Rattle.listing_text.specs.Laying.{endLines}
 

@@ -9,6 +9,7 @@ use lib.ListN.{length, length-append}
 use lib.Seq.{sets}
 use Rattle.numbers.specs.Rows.{at}
 use Rattle.numbers.specs.Bytes.{joined}
+use Rattle.numbers.specs.Bytes.Laws.{sets-append, joined-snoc}
 use Rattle.numbers.specs.Search.{tabulate}
 use Rattle.numbers.specs.Search.Laws.{caseB, tabulate-none, tabulate-suc}
 use Rattle.numbers.specs.Tests.{clash}
@@ -28,7 +29,7 @@ use Rattle.rules_laws.specs.Soundness.{Sound}
 use Rattle.rules_laws.specs.Soundness.Laws.{sound-settled}
 use Rattle.turns.specs.Made.Laws.{next-turn}
 use Rattle.listing_lines.specs.Lines.{stepLine}
-use Rattle.listing_lines.specs.Laid.Laws.{sets-append, joined-snoc, length-line}
+use Rattle.listing_lines.specs.Laid.Laws.{length-line}
 use Rattle.listing_text.specs.Listing.{maxSteps, turnLine, stepLines}
 use Rattle.listing_text.specs.Laying.{shown, Come, linesTo}
 use Rattle.listing_text.specs.Laying.Turns.{course-none, course-more, course-stopped, course-all}

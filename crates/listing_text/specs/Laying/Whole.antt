@@ -11,7 +11,7 @@ use lib.ListN.{length, getD, take, drop, length-append}
 use lib.Seq.{sets}
 use borrow.Author.Tests.{eq-eqb}
 use Rattle.numbers.specs.Bytes.{joined}
-use Rattle.numbers.specs.Bytes.Laws.{bytes-fit}
+use Rattle.numbers.specs.Bytes.Laws.{bytes-fit, sets-append, joined-snoc, take-sets, drop-sets}
 use Rattle.numbers.specs.Search.{tabulate}
 use Rattle.numbers.specs.Search.Laws.{caseB, tabulate-none, tabulate-suc}
 use Rattle.numbers.specs.Tests.{clash}
@@ -42,7 +42,7 @@ use Rattle.rules_laws.specs.Soundness as Sound
 use Rattle.rules_laws.specs.Started.{started-sound}
 use Rattle.collector.specs.Collect.{taken}
 use Rattle.listing_lines.specs.Lines.{characters, line, heading, stepLine}
-use Rattle.listing_lines.specs.Laid.Laws.{sets-append, joined-snoc, take-sets, drop-sets, length-line}
+use Rattle.listing_lines.specs.Laid.Laws.{length-line}
 use Rattle.listing_text.specs.Listing.{maxSteps, turnLine, stepLines, closingLine, takenLine, takenLines, runLines, listingBy, listing}
 use Rattle.listing_text.specs.Laying.{longest, endLines}
 

@@ -2,7 +2,7 @@
 use Prim.Native.Nat.{ℕ, _+_, _*_, _≤_, _<_}
 use native.Mathlib.Omega.{arith}
 use native.Mathlib.Numerals.{add-one}
-use mathlib.Core.Path.{_≡_, sym, _∙_}
+use mathlib.Core.Path.{_≡_, refl, sym, _∙_}
 use mathlib.Core.Bool.{Bool, true, false, not}
 use mathlib.Core.List.{List}
 use lib.Dec.{leb}
@@ -11,7 +11,7 @@ use borrow.Author.Tests.{lt-ltb, le-ltb, leb-true, eq-eqb, ne-eqb, not-true, not
 use Rattle.numbers.specs.Bytes.{shorts}
 use Rattle.numbers.specs.Laid.{laid}
 use Rattle.numbers.specs.Search.{every, first}
-use Rattle.numbers.specs.Search.Laws.{caseB, first-le}
+use Rattle.numbers.specs.Search.Laws.{caseB, contra, first-le}
 use Rattle.numbers.specs.Tests.{clash, and-left, and-right}
 use Rattle.table.specs.Table.{Table, maxRows, rowNumbers, tableNumbers, tableLength, tableOf, lineTotal}
 use Rattle.table.specs.Form.{headerInRange, kindWrong, sumsAgree}
@@ -42,6 +42,11 @@ pub ruleset faults = (at-fault, no-fault)
 -- a verdict that names a fault is not the one that finds none
 pub no-sound {ℓ} : {A : Type ℓ} (g : Ground) (l : ℕ) → _≡_ {A = Verdict} (Fault g l) Sound → A
 no-sound g l e = clash cc
+
+pub is-sound : (v : Verdict) → isSound v ≡ true → v ≡ Sound
+unfolding isSound
+is-sound Sound e = refl
+is-sound (Fault g l) e = contra e refl
 
 -- ---- ground 3
 
@@ -110,9 +115,15 @@ module _ (tb : Table) where
   unfolding judged
   judged-header n e = caseB (headerInRange tb) (λ t. t) (λ f. no-sound Header 1 (rw f at e))
 
+  pub lines-few : headerInRange tb ≡ true → lineTotal tb ≤ maxRows
+  lines-few e = let c = header-counts tb e in omega arith
+
   pub sound-few : (n : ℕ) (v : Verdict) → n ≡ lineTotal tb → v ≡ judged tb n → v ≡ Sound → n ≤ maxRows
-  sound-few n v a e f =
-      let c = header-counts tb (judged-header n (sym e ∙ f)) in omega arith
+  sound-few n v a e f = rw a (lines-few (judged-header n (sym e ∙ f)))
+
+  pub acceptable-few : acceptable tb ≡ true → lineTotal tb ≤ maxRows
+  unfolding acceptable
+  acceptable-few e = lines-few (judged-header (lineTotal tb) (is-sound (judged tb (lineTotal tb)) (and-left _ _ e)))
 
   pub sound-indexed : (l : List ℕ) (v : Verdict) → (v ≡ Sound → Indexed tb l) → v ≡ Sound → Indexed tb l
   sound-indexed l v f e = f e

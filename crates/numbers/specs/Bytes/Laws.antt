@@ -5,9 +5,9 @@ use native.Mathlib.Nat.{zero-mul, mul-le-mul-right, pow-suc, one-le-pow, mod-add
 use native.Mathlib.Numerals.{add-one, add-two, add-three}
 use native.Mathlib.Decide.{decLt}
 use mathlib.Core.Path.{_≡_, refl, sym, _∙_, ap}
-use mathlib.Core.List.{List, [], _∷_, _++_, map}
+use mathlib.Core.List.{List, [], _∷_, _++_, map, append-nil, append-assoc}
 use lib.ListN.{length, getD, set, take, drop, length-append, length-drop, length-map, List·getD-eq-default, List·getD-map}
-use lib.Seq.{sets, length-sets, getD-drop, length-take-le, take-at, drop-at, take-add, take-all, drop-cons, set-out}
+use lib.Seq.{sets, length-sets, sets-eq, getD-drop, length-take-le, take-at, drop-at, take-add, take-all, drop-cons, set-out}
 use mir.Syntax.{w8}
 use mir.Val.{Fits}
 use Rattle.numbers.specs.Rows.{rows}
@@ -160,6 +160,33 @@ rows-joined w [] f = rows-none w []
 rows-joined w (r ∷ rs) f =
     let e : length r ≡ w = f 0 (omega arith) in
     rw (rows-more (length rs) w (r ++ joined rs), take-at r (joined rs) w e, drop-at r (joined rs) w e, rows-joined w rs (λ t h. f (suc t) (omega arith)))
+
+-- ---- rows and stores, one after the other
+
+pub sets-append : (l : List ℕ) (i : ℕ) (xs ys : List ℕ) → sets l i (xs ++ ys) ≡ sets (sets l i xs) (i + length xs) ys
+sets-append l i [] ys = let e : i + 0 ≡ i = omega arith in rw e
+sets-append l i (x ∷ xs) ys =
+    let e : suc i + length xs ≡ i + suc (length xs) = omega arith in
+    sets-append (set l i x) (suc i) xs ys ∙ rw e
+
+joined-append : (rs qs : List (List ℕ)) → joined (rs ++ qs) ≡ joined rs ++ joined qs
+unfolding joined
+joined-append [] qs = refl
+joined-append (r ∷ rs) qs = rw (joined-append rs qs) (sym (append-assoc r (joined rs) (joined qs)))
+
+pub joined-snoc : (rs : List (List ℕ)) (r : List ℕ) → joined (rs ++ (r ∷ [])) ≡ joined rs ++ r
+unfolding joined
+joined-snoc rs r = joined-append rs (r ∷ []) ∙ rw (append-nil r)
+
+-- what lies at the front is what was laid there
+pub take-sets : (l vs : List ℕ) → length vs ≤ length l → take (length vs) (sets l 0 vs) ≡ vs
+take-sets l vs h =
+    rw (sets-eq vs l 0 (omega arith)) (take-at vs (drop (0 + length vs) l) (length vs) refl)
+
+pub drop-sets : (l vs : List ℕ) → length vs ≤ length l → drop (length vs) (sets l 0 vs) ≡ drop (length vs) l
+drop-sets l vs h =
+    let e : 0 + length vs ≡ length vs = omega arith in
+    rw (sets-eq vs l 0 (omega arith), e) (drop-at vs (drop (length vs) l) (length vs) refl)
 
 -- ---- widths 2 and 4, byte by byte
 

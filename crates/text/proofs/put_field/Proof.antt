@@ -9,6 +9,9 @@ put-field-spec =
     (tie.spec
     (λ c κs. search needs)
     (λ c. search needs)
+    (λ c. search needs)
+    (λ c κs. search needs)
+    (λ c. search needs)
     (λ c. search text-laid)
     (λ c. search needs)
     (λ c κs. search needs)

@@ -4,16 +4,18 @@
 use Prim.Native.Nat.{ℕ, zero, suc, _+_, _-_, _*_, _/_, _%_, _<_, _≤_}
 use native.Mathlib.Omega.{arith}
 use native.Mathlib.Nat.{zero-mul}
+use native.Mathlib.Numerals.{add-one}
 use mathlib.Core.Path.{_≡_, refl, sym, _∙_, ap}
 use mathlib.Core.Bool.{Bool, true, false}
-use mathlib.Core.List.{List, [], _∷_, _++_, map}
+use mathlib.Core.List.{List, [], _∷_, _++_, map, map-append}
 use lib.Dec.{ltb, eqb}
-use lib.ListN.{length, getD, take, drop, replicate, drop-of-length-le, length-append, length-replicate, length-take, length-drop, take-append-drop}
-use lib.Seq.{length-take-le, take-at, drop-append-add, take-append-le, drop-append-le, drop-drop, take-take, getD-at, getD-drop, getD-take, drop-cons}
+use lib.ListN.{length, getD, set, take, drop, replicate, drop-of-length-le, length-append, length-replicate, length-take, length-drop, take-append-drop}
+use lib.Seq.{sets, length-take-le, take-suc, take-all, take-at, drop-append-add, take-append-le, drop-append-le, drop-drop, take-take, getD-at, getD-drop, getD-take, drop-cons}
 use borrow.Author.Tests.{lt-ltb, le-ltb, ltb-true, ltb-false, le-leb, eq-eqb, ne-eqb, eqb-true}
 use Rattle.numbers.specs.Search.Laws.{caseB, contra}
 use Rattle.numbers.specs.Tests.{clash}
 use Rattle.numbers.specs.Bytes.{joined}
+use Rattle.numbers.specs.Bytes.Laws.{sets-append, joined-snoc}
 use Rattle.numbers.specs.Rows.{at}
 use Rattle.text.specs.declared.Reading.{Reading}
 use Rattle.text.specs.declared.Reading.the-variants.{Value, Wrong}
@@ -253,6 +255,29 @@ module _ {A : Type 0} (f : A → List ℕ) (w : ℕ) (d : A) where
     where
       rest : (i : ℕ) → i < length l → take w (drop (i * w) (drop w b)) ≡ f (getD l i d)
       rest i k = let s : suc i * w ≡ w + i * w = omega arith in rw (drop-drop (i * w) w b, ← s) (h (suc i) (omega arith))
+
+-- pieces of one width, laid into a buffer from a place on: one more, and all with an end behind them
+module _ {A : Type 0} (f : A → List ℕ) (w : ℕ) (d : A) (l : List A) (even : (i : ℕ) → i < length l → length (f (getD l i d)) ≡ w) (b : List ℕ) (at : ℕ) where
+  length-front : (i : ℕ) → i ≤ length l → length (joined (map f (take i l))) ≡ i * w
+  length-front i h =
+      let n : length (take i l) ≡ i = length-take-le i l h in
+      length-joined f w d (take i l) (λ j k. let k′ : j < i = omega arith in rw (getD-take i l j d k′) (even j (omega arith))) ∙ rw n
+
+  module _ (i : ℕ) (b₁ : List ℕ) (e : b₁ ≡ sets b at (joined (map f (take i l)))) where
+    pub pieces-more : (b₂ : List ℕ) → b₂ ≡ sets b₁ (at + i * w) (f (getD l i d)) → i < length l → b₂ ≡ sets b at (joined (map f (take (i + 1) l)))
+    pieces-more b₂ g h =
+        g ∙ rw (
+          e,
+          add-one i,
+          take-suc l i d h,
+          map-append f (take i l) (getD l i d ∷ []),
+          joined-snoc (map f (take i l)) (f (getD l i d)),
+          sets-append b at (joined (map f (take i l))) (f (getD l i d)),
+          length-front i (omega arith),
+        )
+
+    pub pieces-closed : length l ≤ i → (x : ℕ) → set b₁ (at + length l * w) x ≡ sets b at (joined (map f l) ++ (x ∷ []))
+    pieces-closed h x = rw (e, take-all i l h, sets-append b at (joined (map f l)) (x ∷ []), length-joined f w d l even)
 
 -- a part of the first n is a part of the whole
 part-of-front : (i m n : ℕ) (l : List ℕ) → i + m ≤ n → take m (drop i (take n l)) ≡ take m (drop i l)

@@ -1,0 +1,36 @@
+//! The program as its users run it: procedures that are loaded, edited and written, and what can go wrong.
+
+mod edits;
+mod hostile;
+
+use std::ffi::OsStr;
+use std::path::{Path, PathBuf};
+use std::process::Output;
+
+use process::{empty_folder, Program};
+
+const PROCEDURE: Program = Program::new("procedure", env!("CARGO_BIN_EXE_procedure"));
+
+fn procedure(words: &[&str]) -> Output {
+    PROCEDURE.run(&words.iter().map(OsStr::new).collect::<Vec<&OsStr>>())
+}
+
+/// An empty folder, for one test alone.
+fn folder(name: &str) -> PathBuf {
+    empty_folder(env!("CARGO_TARGET_TMPDIR"), &format!("procedure-{name}"))
+}
+
+fn text(path: &Path) -> &str {
+    path.to_str().expect("the folders of the tests have names that are text")
+}
+
+/// What a command that is done prints to standard output and says on standard error.
+fn done(words: &[&str]) -> (Vec<u8>, String) {
+    let output = procedure(words);
+    assert!(output.status.success(), "{output:?}");
+    (output.stdout, String::from_utf8(output.stderr).expect("messages are text"))
+}
+
+fn load(file: &Path, table: &Path) {
+    assert_eq!(done(&["load", text(file), text(table)]), (Vec::new(), String::new()));
+}
