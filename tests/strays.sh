@@ -145,7 +145,7 @@ use Rattle.writer.specs.Write.{outcome, writeCall, refusalNumber, bytesNumber}
 use Rattle.writer.specs.declared.Written.{Written}
 use Rattle.interface.specs.Interface.{WriteResult, writeResult}
 use Rattle.interface.specs.declared.WriteAnswer.{WriteAnswer}
-use Rattle.pithread.proofs.Answered.{bytes-fit, write-answered}
+use Rattle.pithread.proofs.Answered.{written-fits, write-answered}
 use borrow.Author.Needs.{needs}
 use Rattle.pithread.proofs.pithread_write.Statement.{statement}
 use Rattle.pithread.proofs.pithread_write.Tie as tie
@@ -163,7 +163,7 @@ pithread-write-spec =
     (λ c κs. search needs)
     (λ c κs. search needs)
     (λ c. search needs)
-    (λ c. search bytes-fit)
+    (λ c. search written-fits)
     (λ c. search needs)
     (λ c. search told))
 PROOF

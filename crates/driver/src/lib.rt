@@ -8,7 +8,7 @@ ghost use mir.Val.{ofZ};
 ghost use Rattle.numbers.specs.Bytes.{words};
 ghost use Rattle.engine_laws.specs.Lists.{step as Step, give as Give, take as Take, run as Run};
 ghost use Rattle.guarantee.specs.Claim.{on, collect as Collect, afterAny, afterList};
-ghost use Rattle.driver.specs.Restore.{restoredTo, restored as Restored};
+ghost use Rattle.driver.specs.Restore.{restoredTo, restored};
 ghost use Rattle.driver.specs.Encoding.{pattern, pattern-small, callBy, callsOf, answerTo, answersTo, wordsOf, writtenFrom};
 
 // The numbers of an answer in their order: the refusal, then those that the call has, then 0.
@@ -144,7 +144,7 @@ pub extern "C" fn driver_work_list(table: &[u8], state: &mut [u8], calls: &[u8],
 // Writes the file of a table, and loads what was written as the other table. Answers the refusal of the write or else that of the load.
 #[no_mangle]
 pub extern "C" fn driver_restore(table: &[u8], file: &mut [u8], other: &mut [u8]) -> i32
-    ensures { λ r. ⌜ restoredTo r (now (file .exit)) (now (other .exit)) ≡ Restored (now (table .entry)) (now (file .entry)) (now (other .entry)) ⌝ }
+    ensures { λ r. ⌜ restoredTo r (now (file .exit)) (now (other .exit)) ≡ restored (now (table .entry)) (now (file .entry)) (now (other .entry)) ⌝ }
 {
     let written = pithread::pithread_write(table, file);
     if written.refusal != 0 {

@@ -66,9 +66,8 @@ loads-so t file = (
 )
 
 -- a number is that of one answer alone
-module _ (a : Written) (m : ℕ) (e : pos (refusalNumber a) ≡ pos m) where
-  same-number : refusalNumber a ≡ m
-  same-number = cc
+same-number : (a : Written) (m : ℕ) → pos (refusalNumber a) ≡ pos m → refusalNumber a ≡ m
+same-number a m e = cc
 
 number-of : (a : Written) (m : ℕ) → refusalNumber a ≡ m
     → ((m ≡ 8) → a ≡ WrongLength) × ((m ≡ 9) → a ≡ WrongTable) × ((m ≡ 15) → a ≡ ShortBuffer) × ((m ≡ 0) → a ≡ Done (bytesNumber a))

@@ -2,24 +2,22 @@
 -- length and not in a shorter one; a table of zeros and no table at all are refused before the buffer is looked at. Assumes nothing.
 use Prim.Native.Nat.{ℕ, _≤_, _<_}
 use mathlib.Core.Path.{_≡_, refl, ap}
-use mathlib.Core.Bool.{true}
 use mathlib.Core.List.{List, [], _∷_, _++_}
-use lib.Dec.{eqb}
 use lib.ListN.{length, drop}
+use lib.IntN.{pos}
 use borrow.Author.Tests.{eq-eqb, le-leb, lt-leb}
 use Rattle.numbers.specs.Bytes.{joined}
 use Rattle.numbers.specs.Bytes.Laws.{encode-below}
 use Rattle.numbers.specs.Search.{computing}
-use Rattle.numbers.specs.Tests.{and-right}
 use Rattle.text.specs.Text.{figuresBy, figures, numeral, rightJustified, text, lineText, fileText}
 use Rattle.text.specs.Text.Characters.{Characters}
 use Rattle.table.specs.Table.{Table, tableLength}
-use Rattle.loader.specs.Verdict.{acceptable}
 use Rattle.loader.specs.Load.{tableBytes, accepted}
 use Rattle.loader_laws.specs.PrintedFile.{filledUp}
 use Rattle.loader_laws.specs.Yields.{length-bytes, bytes-hold}
-use Rattle.writer.specs.Write.{printedForm, Outcome, outcome, laidInto, writeCall}
+use Rattle.writer.specs.Write.{printedForm, Outcome, outcome, laidInto, writeCall, refusalNumber, bytesNumber}
 use Rattle.writer.specs.declared.Written.the-variants.{Done, WrongLength, WrongTable, ShortBuffer}
+use Rattle.interface.specs.Interface.{writtenTo, writtenNumbers, writeResult}
 use Rattle.writer_laws.specs.Writing.{FileOf, table-iff}
 use Rattle.listing_lines.specs.Lines.{characters}
 use Rattle.examples.specs.Tables.{listing}
@@ -57,26 +55,22 @@ listing-long : length (joined fileLines) ≡ 1168
 unfolding joined characters
 listing-long = refl
 
-listing-passes : acceptable (filledUp listing) ≡ true
-unfolding accepted
-listing-passes = rw (table-holds listing listing-in-order) at (and-right (eqb (length (tableFor listing)) tableLength) _ (table-accepted listing listing-in-order))
-
 -- a buffer of 1168 bytes or more gets it, and keeps what is behind
 pub listing-written : (b : List ℕ) → 1168 ≤ length b → writeCall (tableFor listing) b ≡ outcome (Done 1168) (joined fileLines ++ drop 1168 b)
 unfolding writeCall laidInto
 listing-written b h =
-    rw (eq-eqb (length (tableFor listing)) tableLength (table-long listing listing-in-order), table-holds listing listing-in-order, listing-passes, listing-text, listing-long, le-leb 1168 (length b) h)
+    rw (eq-eqb (length (tableFor listing)) tableLength (table-long listing listing-in-order), table-accepted listing listing-in-order, table-holds listing listing-in-order, listing-text, listing-long, le-leb 1168 (length b) h)
 
 -- a shorter one does not
 pub listing-short : (b : List ℕ) → length b < 1168 → writeCall (tableFor listing) b ≡ outcome ShortBuffer b
 unfolding writeCall laidInto
 listing-short b h =
-    rw (eq-eqb (length (tableFor listing)) tableLength (table-long listing listing-in-order), table-holds listing listing-in-order, listing-passes, listing-text, listing-long, lt-leb 1168 (length b) h)
+    rw (eq-eqb (length (tableFor listing)) tableLength (table-long listing listing-in-order), table-accepted listing listing-in-order, table-holds listing listing-in-order, listing-text, listing-long, lt-leb 1168 (length b) h)
 
 -- ---- a table of zeros is that of no file, and no bytes are no table; the buffer has no room either, and that is not looked at
 
 pub zeros-refused : writeCall (tableBytes zeroTable) [] ≡ outcome WrongTable []
-unfolding writeCall
+unfolding writeCall accepted
 zeros-refused = rw (eq-eqb (length (tableBytes zeroTable)) tableLength (length-bytes zeroTable zero-shaped), bytes-hold zeroTable zero-shaped, zero-refused)
 
 pub nothing-refused : writeCall [] [] ≡ outcome WrongLength []
@@ -90,3 +84,13 @@ table-small tb = encode-below 2 (joined tb)
 
 pub zeros-of-none : (file : List ℕ) → ¬ FileOf (tableBytes zeroTable) file
 zeros-of-none file = table-iff (tableBytes zeroTable) [] (table-small zeroTable) .0 (ap (λ (o : Outcome). o .answer) zeros-refused) .1 file
+
+-- ---- the same in C's numbers
+
+pub listing-answered : (b : List ℕ) → 1168 ≤ length b → writeResult (tableFor listing) b ≡ writtenTo (record { refusal = pos 0; bytes = pos 1168 }) (joined fileLines ++ drop 1168 b)
+unfolding writeResult writtenNumbers refusalNumber bytesNumber
+listing-answered b h = rw (listing-written b h)
+
+pub zeros-answered : writeResult (tableBytes zeroTable) [] ≡ writtenTo (record { refusal = pos 9; bytes = pos 0 }) []
+unfolding writeResult writtenNumbers refusalNumber bytesNumber
+zeros-answered = rw zeros-refused

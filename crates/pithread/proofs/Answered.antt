@@ -60,8 +60,8 @@ module _ (t b b′ : List ℕ) (a : Written) (e : Write.outcome a b′ ≡ write
   few-bytes : n ≤ 63145
   few-bytes = rw (g, ap (λ (o : Write.Outcome). o .answer) e) (bytes-few t b)
 
-  pub bytes-fit : SFits w32 (pos n)
-  bytes-fit = record { sfits = omega (arith, few-bytes) }
+  pub written-fits : SFits w32 (pos n)
+  written-fits = record { sfits = omega (arith, few-bytes) }
 
   pub write-answered : (r : ℕ) → r ≡ Write.refusalNumber a → r ≤ 15 → writtenTo (record { refusal = toZ w32 r; bytes = toZ w32 n }) b′ ≡ writeResult t b
   unfolding writeResult writtenNumbers

@@ -9,6 +9,9 @@ ghost use Rattle.text.specs.Columns.{six, letterOf, columns, blankOf};
 // The characters of a line: twelve fields and a newline.
 pub const LINE: usize = 73;
 
+// The characters of a field.
+pub const FIELD: usize = 6;
+
 // What a field holds.
 pub enum Reading {
     Value(u16),
@@ -20,8 +23,8 @@ pub fn field(file: &[u8], line: usize, column: usize) -> &[u8]
     requires { ⌜ line * lineLength + column * 6 + 6 ≤ length (now file) ⌝ }
     ensures { λ r. ⌜ now r ≡ fieldOf (now (file .entry)) line column ⌝ }
 {
-    let at = line * LINE + column * 6;
-    let end = at + 6;
+    let at = line * LINE + column * FIELD;
+    let end = at + FIELD;
     &file[at..end]
 }
 

@@ -7,7 +7,7 @@ use lib.Dec.{leb, eqb}
 use lib.ListN.{length, take, drop}
 use Rattle.text.specs.Text.{fileText}
 use Rattle.table.specs.Table.{Table, tableLength, tableOf, lineTotal}
-use Rattle.loader.specs.Verdict.{acceptable}
+use Rattle.loader.specs.Load.{accepted}
 use Rattle.writer.specs.declared.Written.{Written}
 use Rattle.writer.specs.declared.Written.the-variants.{Done, WrongLength, WrongTable, ShortBuffer}
 
@@ -31,7 +31,7 @@ laidInto b f = cond (leb (length f) (length b)) (outcome (Done (length f)) (f ++
 unfoldable pub writeCall : List ℕ → List ℕ → Outcome
 writeCall t b =
     cond (eqb (length t) tableLength)
-    (cond (acceptable (tableOf t)) (laidInto b (printedForm (tableOf t))) (outcome WrongTable b))
+    (cond (accepted t) (laidInto b (printedForm (tableOf t))) (outcome WrongTable b))
     (outcome WrongLength b)
 
 -- the numbers of document 02 for each answer: the refusal, 0 where there is none, and the bytes, 0 where the call is refused

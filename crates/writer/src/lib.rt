@@ -17,9 +17,6 @@ pub enum Written {
     ShortBuffer,
 }
 
-// The characters of a field.
-const FIELD: usize = 6;
-
 // A row of the table as a line, laid into the buffer behind the lines of the rows before.
 fn put_line(table: &[u8], index: &[u32], file: &mut [u8], line: usize)
     requires { ⌜ Indexed (tableOf (now table)) (now index) ⌝ }
@@ -30,9 +27,9 @@ fn put_line(table: &[u8], index: &[u32], file: &mut [u8], line: usize)
     let at = line * text::LINE;
     for column in 0..table::ROW_NUMBERS {
         let number = table::cell_of(table, index, line, column);
-        text::put_field(file, at + column * FIELD, number as u16);
+        text::put_field(file, at + column * text::FIELD, number as u16);
     }
-    file[at + table::ROW_NUMBERS * FIELD] = 10;
+    file[at + table::ROW_NUMBERS * text::FIELD] = 10;
 }
 
 // The first n rows of the table as lines, laid into the buffer from its front.

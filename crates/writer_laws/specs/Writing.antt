@@ -11,12 +11,12 @@ use lib.ListN.{length, take, drop, length-append, length-drop}
 use lib.Seq.{take-at, drop-at}
 use borrow.Author.Tests.{eqb-true, eq-eqb, leb-true, leb-false, le-leb, lt-leb}
 use Rattle.numbers.specs.Search.Laws.{caseB, contra}
-use Rattle.numbers.specs.Tests.{clash, and-right}
+use Rattle.numbers.specs.Tests.{clash}
 use Rattle.text.specs.Text.{lineLength}
 use Rattle.text.specs.Text.Characters.{Characters}
 use Rattle.table.specs.Table.{tableLength, tableOf, lineTotal}
 use Rattle.file.specs.File.{lineCount, fileTable}
-use Rattle.loader.specs.Verdict.{verdict, acceptable}
+use Rattle.loader.specs.Verdict.{verdict}
 use Rattle.loader.specs.Load as Load
 use Rattle.loader.specs.Load.{tableBytes, loaded, accepted}
 use Rattle.loader.specs.declared.Loaded.{Loaded}
@@ -25,7 +25,7 @@ use Rattle.loader.specs.declared.Verdict.the-variants.{Sound}
 use Rattle.loader_laws.specs.PrintedFile.{sound-read, sound-printed, sound-bytes}
 use Rattle.loader_laws.specs.Yields.{judged-total, file-shaped, length-bytes, bytes-hold, sound-loads, done-sound, file-accepted, accepted-iff}
 use Rattle.writer.specs.Write.{printedForm, Outcome, outcome, laidInto, writeCall, bytesNumber}
-use Rattle.writer.specs.Write.Laws.{length-printed, bytes-few}
+use Rattle.writer.specs.Write.Laws.{accepted-long, length-printed, bytes-few}
 use Rattle.writer.specs.declared.Written.{Written}
 use Rattle.writer.specs.declared.Written.the-variants.{Done, WrongLength, WrongTable, ShortBuffer}
 
@@ -50,11 +50,11 @@ module _ (t file : List ℕ) (f : FileOf t file) where
   in-order : (verdict file ≡ Sound) × (tableBytes (fileTable file) ≡ t)
   in-order = let own = tableBytes (fileTable file) in done-sound file own t (f .1 own (length-bytes (fileTable file) (file-shaped file)))
 
-  pub table-long : length t ≡ tableLength
-  table-long = rw (in-order .1) at (length-bytes (fileTable file) (file-shaped file))
-
   pub table-accepted : accepted t ≡ true
   table-accepted = rw (in-order .1) at (file-accepted file (in-order .0))
+
+  pub table-long : length t ≡ tableLength
+  table-long = accepted-long t table-accepted
 
   pub file-printed : printedForm (tableOf t) ≡ file
   file-printed =
@@ -63,17 +63,13 @@ module _ (t file : List ℕ) (f : FileOf t file) where
 
   -- the call, of a buffer with room for the file and of a shorter one
   module _ (b : List ℕ) where
-    passes : acceptable (tableOf t) ≡ true
-    unfolding accepted
-    passes = and-right (eqb (length t) tableLength) _ table-accepted
-
     pub file-written : length file ≤ length b → writeCall t b ≡ outcome (Done (length file)) (file ++ drop (length file) b)
     unfolding writeCall laidInto
-    file-written h = rw (eq-eqb (length t) tableLength table-long, passes, file-printed, le-leb (length file) (length b) h)
+    file-written h = rw (eq-eqb (length t) tableLength table-long, table-accepted, file-printed, le-leb (length file) (length b) h)
 
     pub file-refused : length b < length file → writeCall t b ≡ outcome ShortBuffer b
     unfolding writeCall laidInto
-    file-refused h = rw (eq-eqb (length t) tableLength table-long, passes, file-printed, lt-leb (length file) (length b) h)
+    file-refused h = rw (eq-eqb (length t) tableLength table-long, table-accepted, file-printed, lt-leb (length file) (length b) h)
 
 -- a table is that of one file alone
 pub only-file : (t file other : List ℕ) → FileOf t file → FileOf t other → file ≡ other
@@ -88,15 +84,15 @@ data Way (t b : List ℕ) : Type 0 where
   done : (file : List ℕ) → FileOf t file → length file ≤ length b → writeCall t b ≡ outcome (Done (length file)) (file ++ drop (length file) b) → Way t b
 
 way : (t b : List ℕ) → Characters t → Way t b
-unfolding writeCall accepted
+unfolding writeCall
 way t b fit = caseB (eqb (length t) tableLength)
-    (λ y. caseB (acceptable (tableOf t))
-    (λ a. let (file, own, c, e) = accepted-iff t fit .0 (rw (y, a)) in
+    (λ y. caseB (accepted t)
+    (λ a. let (file, own, c, e) = accepted-iff t fit .0 a in
     let f = file-of t file own e in
     caseB (leb (length file) (length b))
     (λ w. let h = leb-true (length file) (length b) w in done file f h (file-written t file f b h))
     (λ w. let h = leb-false (length file) (length b) w in short file f h (file-refused t file f b h)))
-    (λ a. no-table (eqb-true (length t) tableLength y) (rw (y, a)) (rw (y, a))))
+    (λ a. no-table (eqb-true (length t) tableLength y) a (rw (y, a))))
     (λ y. wrong (λ h. contra (eq-eqb (length t) tableLength h) y) (rw y))
 
 -- ---- each ground exactly when it is due
@@ -178,10 +174,7 @@ module _ (t b : List ℕ) (fit : Characters t) where
 
     -- 73 of them for each line of the table, in the room that there is, and never more than 63,145
     pub lines-written : n ≡ lineTotal (tableOf t) * lineLength
-    unfolding accepted
-    lines-written =
-        let (file, f, h, q) = done-iff n .0 e in
-        q ∙ ap length (sym (file-printed t file f)) ∙ length-printed t (omega (arith, table-long t file f)) (and-right (eqb (length t) tableLength) _ (table-accepted t file f))
+    lines-written = let (file, f, h, q) = done-iff n .0 e in q ∙ ap length (sym (file-printed t file f)) ∙ length-printed t (table-accepted t file f)
 
     pub room-written : n ≤ length b
     room-written = let (file, f, h, q) = done-iff n .0 e in omega arith

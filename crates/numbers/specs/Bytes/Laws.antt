@@ -7,11 +7,11 @@ use native.Mathlib.Decide.{decLt}
 use mathlib.Core.Path.{_≡_, refl, sym, _∙_, ap}
 use mathlib.Core.List.{List, [], _∷_, _++_, map, append-nil, append-assoc}
 use lib.ListN.{length, getD, set, take, drop, length-append, length-drop, length-map, List·getD-eq-default, List·getD-map}
-use lib.Seq.{sets, length-sets, sets-eq, getD-drop, length-take-le, take-at, drop-at, take-add, take-all, drop-cons, set-out}
+use lib.Seq.{sets, length-sets, getD-drop, length-take-le, take-at, drop-at, take-add, take-all, drop-cons, set-out}
 use mir.Syntax.{w8}
 use mir.Val.{Fits}
 use Rattle.numbers.specs.Rows.{rows}
-use Rattle.numbers.specs.Rows.Laws.{rows-none, rows-more, length-rows, row-in, rows-sets}
+use Rattle.numbers.specs.Rows.Laws.{rows-none, rows-more, length-rows, row-in, sets-front, rows-sets}
 use Rattle.numbers.specs.Bytes.{little, numbersOf, shorts, words, bytesOf, encode, joined}
 
 -- what is known of each byte of a slice, as a bound
@@ -180,13 +180,10 @@ joined-snoc rs r = joined-append rs (r ∷ []) ∙ rw (append-nil r)
 
 -- what lies at the front is what was laid there
 pub take-sets : (l vs : List ℕ) → length vs ≤ length l → take (length vs) (sets l 0 vs) ≡ vs
-take-sets l vs h =
-    rw (sets-eq vs l 0 (omega arith)) (take-at vs (drop (0 + length vs) l) (length vs) refl)
+take-sets l vs h = rw (sets-front l vs h) (take-at vs (drop (length vs) l) (length vs) refl)
 
 pub drop-sets : (l vs : List ℕ) → length vs ≤ length l → drop (length vs) (sets l 0 vs) ≡ drop (length vs) l
-drop-sets l vs h =
-    let e : 0 + length vs ≡ length vs = omega arith in
-    rw (sets-eq vs l 0 (omega arith), e) (drop-at vs (drop (length vs) l) (length vs) refl)
+drop-sets l vs h = rw (sets-front l vs h) (drop-at vs (drop (length vs) l) (length vs) refl)
 
 -- ---- widths 2 and 4, byte by byte
 

@@ -65,12 +65,16 @@ drop-sets-add n l i (v ∷ vs) =
     let e : suc (n + i) ≡ n + suc i = omega arith in
     rw (e, drop-sets-add n (set l (n + i) v) (suc i) vs, drop-set-add n l i v)
 
+-- stores at the front: what is stored, and the rest
+pub sets-front : (l vs : List ℕ) → length vs ≤ length l → sets l 0 vs ≡ vs ++ drop (length vs) l
+sets-front l vs h = rw (sets-eq vs l 0 (rw (zero-add (length vs)) h), zero-add (length vs))
+
 -- w stores make a row
 pub rows-sets : (n w : ℕ) (l : List ℕ) (t : ℕ) (vs : List ℕ) → length vs ≡ w → t < n → n * w ≤ length l → rows n w (sets l (t * w) vs) ≡ set (rows n w l) t vs
 unfolding rows
 rows-sets zero w l t vs e h j = absurd (omega arith)
 rows-sets (suc n) w l zero vs e h j =
-    let q : sets l 0 vs ≡ vs ++ drop w l = rw (sets-eq vs l 0 (omega arith), zero-add (length vs), e) in
+    let q : sets l 0 vs ≡ vs ++ drop w l = sets-front l vs (omega arith) ∙ rw e in
     rw (zero-mul w, q, take-at vs (drop w l) w e, drop-at vs (drop w l) w e)
 rows-sets (suc n) w l (suc t) vs e h j =
     let g : suc t * w ≡ w + t * w = omega arith in

@@ -1,4 +1,4 @@
-use Rattle.pithread.proofs.Answered.{bytes-fit, write-answered}
+use Rattle.pithread.proofs.Answered.{written-fits, write-answered}
 use borrow.Author.Needs.{needs}
 use Rattle.pithread.proofs.pithread_write.Statement.{statement}
 use Rattle.pithread.proofs.pithread_write.Tie as tie
@@ -11,6 +11,6 @@ pithread-write-spec =
     (λ c κs. search needs)
     (λ c κs. search needs)
     (λ c. search needs)
-    (λ c. search bytes-fit)
+    (λ c. search written-fits)
     (λ c. search needs)
     (λ c. search write-answered))

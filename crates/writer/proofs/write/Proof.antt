@@ -1,4 +1,4 @@
-use Rattle.writer.specs.Write.Laws.{indexed, few, file-fits, answers}
+use Rattle.writer.specs.Write.Laws.{indexed, few, length-fits, answers}
 use borrow.Author.Needs.{needs}
 use Rattle.writer.proofs.write.Statement.{statement}
 use Rattle.writer.proofs.write.Tie as tie
@@ -12,7 +12,7 @@ write-spec =
     (λ c κs. search needs)
     (λ c. search answers)
     (λ c κs. search needs)
-    (λ c. search file-fits)
+    (λ c. search length-fits)
     (λ c. search answers)
     (λ c. search needs)
     (λ c κs. (search indexed, (search few, search needs)))

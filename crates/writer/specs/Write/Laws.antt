@@ -3,16 +3,17 @@ use Prim.Native.Nat.{ℕ, _+_, _*_, _≤_, _<_}
 use native.Mathlib.Omega.{arith}
 use mathlib.Core.Path.{_≡_, refl, sym, _∙_}
 use mathlib.Core.Bool.{Bool, true, false, not}
-use mathlib.Core.List.{List, [], _++_, map}
+use mathlib.Core.List.{List, [], map}
 use lib.Dec.{leb, eqb}
-use lib.ListN.{length, getD, set, take, drop}
-use lib.Seq.{sets, sets-eq, length-take-le, getD-take}
+use lib.ListN.{length, getD, set, take}
+use lib.Seq.{sets, length-take-le, getD-take}
 use mir.Syntax.{w64}
 use mir.Val.{Fits}
 use borrow.Author.Tests.{le-leb, lt-leb, eq-eqb, ne-eqb, eqb-true, not-true, not-false}
 use Rattle.numbers.specs.Rows.{at}
-use Rattle.numbers.specs.Rows.Laws.{length-rows, length-row}
+use Rattle.numbers.specs.Rows.Laws.{length-rows, length-row, sets-front}
 use Rattle.numbers.specs.Search.Laws.{caseB}
+use Rattle.numbers.specs.Tests.{and-left, and-right}
 use Rattle.numbers.specs.Bytes.{shorts, joined}
 use Rattle.numbers.specs.Bytes.Laws.{length-numbers}
 use Rattle.text.specs.Text.{lineLength, text, lineText, fileText}
@@ -20,7 +21,6 @@ use Rattle.text.specs.Text.Laws.{length-text, length-line, length-file, pieces-
 use Rattle.table.specs.Table.{maxRows, rowNumbers, tableLength, tableOf, lineTotal}
 use Rattle.table.specs.Index.{Indexed}
 use Rattle.table.specs.Index.Laws.{whole-long}
-use Rattle.loader.specs.Verdict.{acceptable}
 use Rattle.loader.specs.Verdict.Laws.{acceptable-few}
 use Rattle.loader.specs.Load.{accepted}
 use Rattle.writer.specs.Write.{printedForm, outcome, laidInto, writeCall, bytesNumber}
@@ -30,15 +30,24 @@ use Rattle.writer.specs.declared.Written.the-variants.{Done, WrongLength
 row-twelve : (t : List ℕ) → tableLength ≤ length t → (i : ℕ) → i < maxRows → length (getD (tableOf t) i []) ≡ rowNumbers
 row-twelve t long i h = length-row maxRows rowNumbers (shorts t) i h (omega (arith, length-numbers 2 t))
 
--- the printed form has 73 characters for each line
-pub length-printed : (t : List ℕ) → tableLength ≤ length t → acceptable (tableOf t) ≡ true → length (printedForm (tableOf t)) ≡ lineTotal (tableOf t) * lineLength
+-- an accepted table has the bytes of a table, and no more lines than a file may have
+pub accepted-long : (t : List ℕ) → accepted t ≡ true → length t ≡ tableLength
+unfolding accepted
+accepted-long t a = eqb-true (length t) tableLength (and-left _ _ a)
+
+accepted-few : (t : List ℕ) → accepted t ≡ true → lineTotal (tableOf t) ≤ maxRows
+unfolding accepted
+accepted-few t a = acceptable-few (tableOf t) (and-right (eqb (length t) tableLength) _ a)
+
+-- its printed form has 73 characters for each line
+pub length-printed : (t : List ℕ) → accepted t ≡ true → length (printedForm (tableOf t)) ≡ lineTotal (tableOf t) * lineLength
 unfolding printedForm
-length-printed t long e =
+length-printed t a =
     let n = lineTotal (tableOf t) in
-    let few : n ≤ maxRows = acceptable-few (tableOf t) e in
+    let few : n ≤ maxRows = accepted-few t a in
     let front : length (take n (tableOf t)) ≡ n = length-take-le n (tableOf t) (omega (arith, length-rows maxRows rowNumbers (shorts t))) in
     length-file (take n (tableOf t))
-    (λ i h. let h′ : i < n = omega arith in rw (getD-take n (tableOf t) i [] h′) (row-twelve t long i (omega arith))) ∙ rw front
+    (λ i h. let h′ : i < n = omega arith in rw (getD-take n (tableOf t) i [] h′) (row-twelve t (omega (arith, accepted-long t a)) i (omega arith))) ∙ rw front
 
 module _ (t l : List ℕ) (g : Indexed (tableOf t) l) where
   twelve : (i : ℕ) → i < maxRows → length (getD (tableOf t) i []) ≡ rowNumbers
@@ -81,10 +90,6 @@ module _ (t l : List ℕ) (g : Indexed (tableOf t) l) where
     pub lines-all : (i n : ℕ) (b₁ : List ℕ) → b₁ ≡ sets b 0 (fileText (take i (tableOf t))) → i ≤ n → n ≤ i → b₁ ≡ sets b 0 (fileText (take n (tableOf t)))
     lines-all i n b₁ e h k = let q : n ≡ i = omega arith in rw q e
 
--- a file that is laid at the front of a buffer, and the rest of the buffer
-at-front : (f b : List ℕ) → length f ≤ length b → sets b 0 f ≡ f ++ drop (length f) b
-at-front f b h = let e : 0 + length f ≡ length f = omega arith in rw (sets-eq f b 0 (omega arith), e)
-
 -- ---- the answers, and the buffer b′ that b has become, which is b itself where the write is refused
 
 module _ (t b : List ℕ) where
@@ -93,37 +98,38 @@ module _ (t b : List ℕ) where
   length-wrong b′ h e = rw (ne-eqb (length t) tableLength h, e)
 
   module _ (long : length t ≡ tableLength) (a : Bool) (x : a ≡ accepted t) where
-    told : a ≡ acceptable (tableOf t)
-    unfolding accepted
-    told = rw (eq-eqb (length t) tableLength long) at x
-
-    pub indexed : (l : List ℕ) → not a ≡ false → (a ≡ true → Indexed (tableOf t) l) → Indexed (tableOf t) l
-    indexed l h f = f (not-false a h)
-
     pub table-wrong : (b′ : List ℕ) → not a ≡ true → b′ ≡ b → outcome WrongTable b′ ≡ writeCall t b
     unfolding writeCall
-    table-wrong b′ h e = rw (eq-eqb (length t) tableLength long, ← told, not-true a h, e)
+    table-wrong b′ h e = rw (eq-eqb (length t) tableLength long, ← x, not-true a h, e)
 
-    module _ (h : not a ≡ false) (n : ℕ) (m : n ≡ lineTotal (tableOf t)) where
-      pub few : n ≤ maxRows
-      few = rw m (acceptable-few (tableOf t) (sym told ∙ not-false a h))
+    module _ (h : not a ≡ false) where
+      told : accepted t ≡ true
+      told = sym x ∙ not-false a h
 
-      pub file-fits : Fits w64 (n * lineLength)
-      file-fits = record { fits = omega (arith, few) }
+      pub indexed : (l : List ℕ) → (a ≡ true → Indexed (tableOf t) l) → Indexed (tableOf t) l
+      indexed l f = f (not-false a h)
 
-      long-file : length (printedForm (tableOf t)) ≡ n * lineLength
-      long-file = length-printed t (omega arith) (sym told ∙ not-false a h) ∙ rw m
+      module _ (n : ℕ) (m : n ≡ lineTotal (tableOf t)) where
+        pub few : n ≤ maxRows
+        few = rw m (accepted-few t told)
 
-      pub buffer-short : (b′ : List ℕ) → length b < n * lineLength → b′ ≡ b → outcome ShortBuffer b′ ≡ writeCall t b
-      unfolding writeCall laidInto
-      buffer-short b′ k e = rw (eq-eqb (length t) tableLength long, ← told, not-false a h, lt-leb (length (printedForm (tableOf t))) (length b) (omega (arith, long-file)), e)
+        pub length-fits : Fits w64 (n * lineLength)
+        length-fits = record { fits = omega (arith, few) }
 
-      pub file-laid : (b₁ : List ℕ) → n * lineLength ≤ length b → b₁ ≡ sets b 0 (fileText (take n (tableOf t))) → outcome (Done (n * lineLength)) b₁ ≡ writeCall t b
-      unfolding writeCall laidInto printedForm
-      file-laid b₁ k e =
-          let f : fileText (take n (tableOf t)) ≡ printedForm (tableOf t) = rw m in
-          let fits : length (printedForm (tableOf t)) ≤ length b = omega (arith, long-file) in
-          rw (eq-eqb (length t) tableLength long, ← told, not-false a h, le-leb (length (printedForm (tableOf t))) (length b) fits, e, f, at-front (printedForm (tableOf t)) b fits, long-file)
+        long-file : length (printedForm (tableOf t)) ≡ n * lineLength
+        long-file = length-printed t told ∙ rw m
+
+        pub buffer-short : (b′ : List ℕ) → length b < n * lineLength → b′ ≡ b → outcome ShortBuffer b′ ≡ writeCall t b
+        unfolding writeCall laidInto
+        buffer-short b′ k e =
+            rw (eq-eqb (length t) tableLength long, told, lt-leb (length (printedForm (tableOf t))) (length b) (omega (arith, long-file)), e)
+
+        pub file-laid : (b₁ : List ℕ) → n * lineLength ≤ length b → b₁ ≡ sets b 0 (fileText (take n (tableOf t))) → outcome (Done (n * lineLength)) b₁ ≡ writeCall t b
+        unfolding writeCall laidInto printedForm
+        file-laid b₁ k e =
+            let f : fileText (take n (tableOf t)) ≡ printedForm (tableOf t) = rw m in
+            let fits : length (printedForm (tableOf t)) ≤ length b = omega (arith, long-file) in
+            rw (eq-eqb (length t) tableLength long, told, le-leb (length (printedForm (tableOf t))) (length b) fits, e, f, sets-front b (printedForm (tableOf t)) fits, long-file)
 
 pub ruleset answers = (length-wrong, table-wrong, buffer-short, file-laid)
 
@@ -132,9 +138,9 @@ pub bytes-few : (t b : List ℕ) → bytesNumber (writeCall t b .answer) ≤ 631
 unfolding writeCall laidInto bytesNumber
 bytes-few t b =
     caseB (eqb (length t) tableLength)
-    (λ y. caseB (acceptable (tableOf t))
+    (λ y. caseB (accepted t)
     (λ z. caseB (leb (length (printedForm (tableOf t))) (length b))
-    (λ w. rw (y, z, w) (omega (arith, length-printed t (omega (arith, eqb-true (length t) tableLength y)) z, acceptable-few (tableOf t) z)))
+    (λ w. rw (y, z, w) (omega (arith, length-printed t z, accepted-few t z)))
     (λ w. rw (y, z, w) (omega arith)))
     (λ z. rw (y, z) (omega arith)))
     (λ y. rw y (omega arith))
