@@ -30,7 +30,7 @@ static uint8_t state[PITHREAD_STATE_BYTES];
 /* Grounds 1 to 7: the file's author has to mend the line that is named. */
 static const char *const file_faults[] = {
     "",
-    "the file is empty, ends inside a line, or is too long",
+    "the file ends inside a line, or is too long",
     "a field is not a number of six characters, or a newline is missing",
     "the header does not agree with the lines",
     "a number is out of its range",

@@ -86,7 +86,7 @@ enum {
 
     /* Faults of the procedure file: 1 to 7, from pithread_load. */
 
-    /* The file is empty, ends inside a line, or has more than 865 lines. */
+    /* The file ends inside a line, or has more than 865 lines. */
     PITHREAD_FILE_LENGTH = 1,
     /* A field is not a number of its form, or a line does not end with a newline. */
     PITHREAD_FIELD = 2,
@@ -218,12 +218,17 @@ typedef struct {
  * each with its lower byte first: twelve for each line of the file, then zeros. What was in the
  * buffer before is not read. A file with a fault is refused for that fault even if the table
  * buffer has the wrong length too.
+ *
+ * A card without bytes is a file of length 0, and loads as a procedure that ends: one definition
+ * without slots, whose only node is an end, and no types, branches or ports. The pointer must not be
+ * null then either; malloc(0) may answer with null, so point to any byte.
  */
 pithread_loaded pithread_load(const uint8_t *file, size_t file_len, uint8_t *table, size_t table_len);
 
 /*
  * Writes the procedure file of a table: loading those bytes gives this table again, and the table of
- * a file gives that file again, byte for byte.
+ * a file gives that file again, byte for byte. Only that of a file of length 0 does not: it gives a
+ * file of three lines.
  *
  * The table must have PITHREAD_TABLE_BYTES bytes and be one that pithread_load may write. The buffer
  * for the file may have any length from that of the file on; PITHREAD_MOST_FILE_BYTES are always

@@ -30,8 +30,9 @@ prints() {
     ends 0 "${@:2}" && [ ! -s "$scratch/said" ] && cmp "$1" "$scratch/printed"
 }
 
+# comes_back FILE [OTHER]: the table of the file is written as the file, or else as the other one.
 comes_back() {
-    ends 0 --load "$1" "$table" && prints "$1" --write "$table"
+    ends 0 --load "$1" "$table" && prints "${2:-$1}" --write "$table"
 }
 
 # is_edited NUMBER: the limit of units.txt becomes this number, in the table and in the file.
@@ -102,8 +103,9 @@ cannot_build() {
 }
 
 for file in examples/*.txt examples/first/*.txt; do
-    check "$file there and back" comes_back "$file"
+    [ ! -s "$file" ] || check "$file there and back" comes_back "$file"
 done
+check "a file without bytes, and three lines back" comes_back examples/empty_slot.txt examples/first/1.txt
 for number in 0 -1 301 -32768 32767; do
     check "a limit of $number" is_edited "$number"
 done

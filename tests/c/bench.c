@@ -18,12 +18,16 @@ _Static_assert(PITHREAD_THREAD_WORDS == PITHREAD_THREAD_SLOTS + PITHREAD_SLOTS, 
 static const char *const names[CALLS] = {"start", "step", "give", "take", "run", "collect"};
 
 bench *opened(const char *name, const line *lines, size_t count) {
+    return opened_on(name, table_of(name, lines, count));
+}
+
+bench *opened_on(const char *name, uint8_t *table) {
     bench *b = malloc(sizeof *b);
     if (b == NULL) {
         exit(2);
     }
     b->name = name;
-    b->table = table_of(name, lines, count);
+    b->table = table;
     b->loaded = copied(b->table, PITHREAD_TABLE_BYTES);
     b->state = filled(PITHREAD_STATE_BYTES, PATTERN);
     b->calls = 0;

@@ -23,6 +23,9 @@ typedef struct {
 /* A bench with this file, started. */
 #define OPENED(name, lines) opened(name, lines, sizeof(lines) / sizeof *(lines))
 bench *opened(const char *name, const line *lines, size_t count);
+
+/* A bench with this table, which it frees in the end, started. */
+bench *opened_on(const char *name, uint8_t *table);
 void closed(bench *b);
 
 /* The words of a thread row: node and slots; those left out are 0. */

@@ -29,21 +29,26 @@ static void count_lines(line header, const line *lines, size_t count) {
     }
 }
 
+uint8_t *table_of_file(const char *name, const uint8_t *file, size_t length) {
+    uint8_t *table = filled(PITHREAD_TABLE_BYTES, PATTERN);
+    pithread_loaded loaded = pithread_load(file, length, table, PITHREAD_TABLE_BYTES);
+    if (loaded.refusal != PITHREAD_DONE) {
+        fprintf(stderr, "%s: refusal %d, line %d\n", name, (int)loaded.refusal, (int)loaded.line);
+        exit(1);
+    }
+    return table;
+}
+
 uint8_t *table_of(const char *name, const line *lines, size_t count) {
     line header = {0};
     size_t length = (count + 1) * PITHREAD_LINE_BYTES;
     uint8_t *file = filled(length, 0);
-    uint8_t *table = filled(PITHREAD_TABLE_BYTES, PATTERN);
     count_lines(header, lines, count);
     print_line(file, header);
     for (size_t place = 0; place < count; place++) {
         print_line(file + (place + 1) * PITHREAD_LINE_BYTES, lines[place]);
     }
-    pithread_loaded loaded = pithread_load(file, length, table, PITHREAD_TABLE_BYTES);
+    uint8_t *table = table_of_file(name, file, length);
     free(file);
-    if (loaded.refusal != PITHREAD_DONE) {
-        fprintf(stderr, "%s: refusal %d, line %d\n", name, (int)loaded.refusal, (int)loaded.line);
-        exit(1);
-    }
     return table;
 }

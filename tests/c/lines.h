@@ -44,6 +44,9 @@ typedef int line[FIELDS];
 /* Writes one line, PITHREAD_LINE_BYTES bytes. */
 void print_line(uint8_t *to, const line fields);
 
+/* The table of a file, which must be right. To be freed. */
+uint8_t *table_of_file(const char *name, const uint8_t *file, size_t length);
+
 /* The table of the file with these lines. Its header is not among them: it counts them, and
  * definition 0 has one parameter for each port. The file must be right. To be freed. */
 uint8_t *table_of(const char *name, const line *lines, size_t count);

@@ -8,6 +8,7 @@
 
 #include "checks.h"
 #include "files.h"
+#include "lines.h"
 #include "pithread.h"
 
 /* The answer is the one expected, and a refused load leaves the table as it was. */
@@ -48,7 +49,7 @@ static void check_examples(const char *folder) {
     }
 }
 
-/* The table of the listing: each field of the file, as two bytes. */
+/* The table of a file: each field, as two bytes. */
 static void check_table(whole_file file) {
     uint8_t *table = filled(PITHREAD_TABLE_BYTES, PATTERN);
     pithread_load(file.bytes, file.length, table, PITHREAD_TABLE_BYTES);
@@ -63,6 +64,22 @@ static void check_table(whole_file file) {
     check(same == fields, "the table has the numbers of the file");
     check(all_are(table + 2 * fields, PITHREAD_TABLE_BYTES - 2 * fields, 0), "the rest of the table is 0");
     free(table);
+}
+
+/* A file without bytes has the table of one with three lines. */
+static void check_no_bytes(const char *folder) {
+    whole_file none = example(folder, NO_BYTES);
+    whole_file three = example(folder, THREE_LINES);
+    check(none.length == 0 && three.length == 3 * PITHREAD_LINE_BYTES, "no bytes and three lines");
+    expect_accepted(none, "no bytes");
+    check_table(three);
+    uint8_t *table = table_of_file("no bytes", none.bytes, none.length);
+    uint8_t *same = table_of_file("three lines", three.bytes, three.length);
+    check(memcmp(table, same, PITHREAD_TABLE_BYTES) == 0, "no bytes have the table of three lines");
+    free(table);
+    free(same);
+    free(none.bytes);
+    free(three.bytes);
 }
 
 /* One field of the listing with other characters: the set's constant, on line 14. */
@@ -92,7 +109,8 @@ static void check_listing(const char *folder) {
     check_field(file, "-32768", PITHREAD_DONE, 0);
     check_field(file, "-32769", PITHREAD_FIELD, 14);
     check_field(file, "    07", PITHREAD_FIELD, 14);
-    check_part(file, 0, PITHREAD_FILE_LENGTH, 0);
+    check_part(file, 0, PITHREAD_DONE, 0);
+    check_part(file, 1, PITHREAD_FILE_LENGTH, 0);
     check_part(file, 72, PITHREAD_FILE_LENGTH, 0);
     check_part(file, 73, PITHREAD_COUNTS, 1);
     check_part(file, 74, PITHREAD_FILE_LENGTH, 0);
@@ -127,6 +145,7 @@ int main(int count, char **words) {
         return 2;
     }
     check_examples(words[1]);
+    check_no_bytes(words[1]);
     check_listing(words[1]);
     check_largest();
     check_hostile();

@@ -5,15 +5,19 @@
 #include "cases.h"
 #include "listing.h"
 
+static void want_zeros(bench *b) {
+    for (size_t place = 0; place < PITHREAD_STATE_WORDS; place++) {
+        want_word(b, place, 0);
+    }
+}
+
 static void start_fills_all(void) {
     static const line lines[] = {
         TYPE(0), TYPE(2), DEFINITION(2, 5, 1), SLOT(1), SLOT(1), SLOT(0), SLOT(2), SLOT(1),
         END,
     };
     bench *b = OPENED("start", lines);
-    for (size_t place = 0; place < PITHREAD_STATE_WORDS; place++) {
-        want_word(b, place, 0);
-    }
+    want_zeros(b);
     want_marks(b, 1, 2, 0);
     want_thread(b, 0, READY(0, 0, 1, 0, -1, -1));
     want_channel(b, 0, 1, 2, 0);
@@ -23,6 +27,31 @@ static void start_fills_all(void) {
     want_channel(b, 0, 1, 1, 0);
     want_channel(b, 1, 1, 1, 0);
     step_ends(b, 0, 0);
+    closed(b);
+}
+
+static bench *opened_without_bytes(void) {
+    static const uint8_t none[1];
+    return opened_on("no bytes", table_of_file("no bytes", none, 0));
+}
+
+/* A file without bytes: one thread, which comes to its end at node 0, by a step or in a run. */
+static void no_bytes_end(void) {
+    bench *b = opened_without_bytes();
+    want_zeros(b);
+    want_marks(b, 1, 0, 0);
+    want_thread(b, 0, READY(0));
+    collect(b, 0);
+    want_thread(b, 0, FREE);
+    step_ends(b, 0, 0);
+    step_refused(b, 0, PITHREAD_THREAD);
+    run(b, 1000, 0, PITHREAD_NONE_READY, PITHREAD_NOBODY);
+    collect(b, 0);
+    closed(b);
+    b = opened_without_bytes();
+    want_thread(b, 0, FREE);
+    want_marks(b, 1, 0, 1);
+    run(b, 1000, 1, PITHREAD_NONE_READY, PITHREAD_NOBODY);
     closed(b);
 }
 
@@ -425,6 +454,7 @@ static void end_frees_all(void) {
 
 void check_moves(void) {
     start_fills_all();
+    no_bytes_end();
     listing_by_steps();
     sums_wrap();
     sums_read_first();

@@ -101,6 +101,19 @@ static void check_examples(const char *folder) {
     }
 }
 
+/* A file without bytes is not written as it was, but as the three lines that load to its table. */
+static void check_no_bytes(const char *folder) {
+    whole_file none = example(folder, NO_BYTES);
+    uint8_t *table = loaded(NO_BYTES, none);
+    subject of = {NO_BYTES, table, PITHREAD_TABLE_BYTES, example(folder, THREE_LINES)};
+    check(none.length == 0 && of.file.length == 219, NO_BYTES);
+    expect_written(of);
+    expect_loaded_again(of);
+    free(none.bytes);
+    free(table);
+    free(of.file.bytes);
+}
+
 static void check_largest(void) {
     whole_file file = largest_file();
     check(file.length == PITHREAD_MOST_FILE_BYTES, "the largest file has 865 lines");
@@ -185,6 +198,7 @@ int main(int count, char **words) {
         return 2;
     }
     check_examples(words[1]);
+    check_no_bytes(words[1]);
     check_largest();
     whole_file listing = example(words[1], "listing.txt");
     check_numbers(listing);

@@ -51,10 +51,11 @@ endless() {
     (yes || true) | timeout 10 "$program" >"$scratch/printed" && cmp "$scratch/wanted" "$scratch/printed"
 }
 
-# A folder cannot be read: nothing is printed, and standard error says so.
+# A folder cannot be read, nor can an input that is closed: nothing is printed, and standard error says so.
 cannot_read() {
     "$program" <"$root" >"$scratch/printed" 2>"$scratch/said" || true
-    [ ! -s "$scratch/printed" ] && grep -q '^standard input: ' "$scratch/said"
+    "$program" <&- >>"$scratch/printed" 2>>"$scratch/said" || true
+    [ ! -s "$scratch/printed" ] && [ "$(grep -c '^standard input: ' "$scratch/said")" -eq 2 ]
 }
 
 # Nothing more can be written to a full device.
@@ -87,7 +88,7 @@ check "a run that lacks a channel row; 42 threads collected" lists "$kept/channe
 check "one thread collected, one left at a port" lists "$kept/port.txt" "$kept/port.out"
 check "a listing under valgrind" lists "$kept/port.txt" "$kept/port.out" under_valgrind
 
-: >"$scratch/empty.txt"
+head -c 1 examples/doubler.txt >"$scratch/byte.txt"
 head -c 72 examples/doubler.txt >"$scratch/short.txt"
 sed '5s/     1/    01/' examples/doubler.txt >"$scratch/zero.txt"
 sed '5s/     1/     9/' examples/doubler.txt >"$scratch/range.txt"
@@ -96,7 +97,9 @@ head -n 1 examples/listing.txt | awk '{ for (i = 0; i < 866; i++) print }' >"$sc
 head -n 865 "$scratch/866.txt" >"$scratch/865.txt"
 head -c 63146 "$scratch/866.txt" >"$scratch/63146.txt"
 
-check "no input" refused 1 0 "$scratch/empty.txt"
+check "no input" lists /dev/null examples/listings/empty_slot.out
+check "no input, under valgrind" lists /dev/null examples/listings/empty_slot.out under_valgrind
+check "1 byte" refused 1 0 "$scratch/byte.txt"
 check "72 bytes" refused 1 0 "$scratch/short.txt"
 check "a leading zero" refused 2 5 "$scratch/zero.txt"
 check "a line too few" refused 3 1 "$scratch/total.txt"
@@ -106,14 +109,17 @@ check "a byte more" refused 1 0 "$scratch/63146.txt"
 check "866 lines" refused 1 0 "$scratch/866.txt"
 check "an input without end" endless
 
+check "input of no pieces" pieces_list examples/empty_slot.txt examples/listings/empty_slot.out 73
 check "input in pieces of 73 bytes" pieces_list examples/listing.txt examples/listings/listing.out 73
 check "input in pieces of 50 bytes" pieces_list examples/listing.txt examples/listings/listing.out 50
 check "input that cannot be read" cannot_read
 check "output that cannot be written" cannot_write
 
 check "./run on a right file" run_ends 0 "$kept/port.out" "$kept/port.txt"
+check "./run on a file without bytes" run_ends 0 examples/listings/empty_slot.out examples/empty_slot.txt
 printf '%6d%6d\n' 4 5 >"$scratch/range.out"
 check "./run on a slot of no type" run_ends 1 "$scratch/range.out" "$scratch/range.txt"
 check "./run without such a file" run_ends 2 /dev/null "$scratch/none.txt"
+check "./run on a folder" run_ends 2 /dev/null "$scratch"
 check "./run alone" run_shows_examples
 close_checks

@@ -3,14 +3,7 @@ use Rattle.numbers.specs.Count.{bit, count}
 use Rattle.numbers.specs.Search.{some, computing}
 use Rattle.numbers.specs.Signed.{residue, lower, sum, widened}
 use Rattle.table.specs.Layout.{blocks, lines, branchCount, size, start, endsPast, owner}
-use Rattle.table.specs.Form.{gain, loss, within, headerInRange, kindDue, kindWrong, gainOf, lossOf, sumAgrees, sumsAgree}
-use Rattle.table.specs.Roles.{guardRole, actionRole, operandPlace, operand, operandRole, reads, writes}
-use Rattle.ranges.specs.Ranges as Ranges
-use Rattle.ranges.specs.Ranges.{roleInRange, unusedFrom, restUnused, typeInRange, definitionInRange, argumentInRange, callInRange, nodeInRange, operandInRange, targetsInRange, branchInRange, outOfRange}
-use Rattle.types.specs.Types as Types
-use Rattle.types.specs.Types.{roleTyped, portsTyped, argumentTyped, nodeTyped, operandTyped, branchTyped, rowTyped, typesDisagree}
-use Rattle.flow.specs.Flow.{slotWritten, pastWrite, either, arrive, begins, beginning, branchFollowed, branchesFollowed, flowTo, flow, mayLack, argumentWritten, callWritten, operandWritten, rowWritten, readsUnwritten, unreachable, marked}
-use Rattle.loader.specs.Verdict.{atFault, judgedFlow, judgedRows, judged, isSound}
+unfoldable pub use Rattle.loader.specs.Verdict.Computing.{judging}
 use Rattle.state.specs.State.{withMark, withThread, withChannel, withChannels}
 use Rattle.rules.specs.Program.{wrappedSum, wrappedDifference, typeAt, channelSlot, blank, branchAt, nextOf, childOf, actOf, guardHolds, assigned, opposite, same}
 use Rattle.rules.specs.Holding.{hasAt, holds, holders, waiters, countOf, channelRow, recount, settled}
@@ -22,11 +15,6 @@ use Rattle.rules.specs.Sound.{marksInRange, freeZero, rowInRange, spareZero, sl
 use Rattle.marking.specs.Enabled as Enabled
 use Rattle.marking.specs.Enabled.{nobody, known, reaches, joins, rounds, enabledSet}
 use Rattle.collector.specs.Collect.{taken, remaining, collected, takenCount}
-
--- the tests of a table
-unfoldable pub judging : Unit {0}
-unfolding computing blocks lines branchCount size start endsPast owner gain loss within headerInRange kindDue kindWrong gainOf lossOf sumAgrees sumsAgree guardRole actionRole operandPlace operand operandRole reads writes roleInRange Ranges.ahead unusedFrom restUnused typeInRange definitionInRange argumentInRange callInRange nodeInRange operandInRange targetsInRange branchInRange Ranges.rowInRange outOfRange roleTyped Types.portTyped portsTyped argumentTyped nodeTyped operandTyped branchTyped rowTyped typesDisagree slotWritten pastWrite either arrive begins beginning branchFollowed branchesFollowed flowTo flow marked mayLack argumentWritten callWritten operandWritten rowWritten readsUnwritten unreachable atFault judgedFlow judgedRows judged isSound
-judging = tt
 
 -- runs
 unfoldable pub running : Unit {0}

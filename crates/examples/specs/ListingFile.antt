@@ -5,15 +5,14 @@ use mathlib.Core.Path.{_≡_, refl, sym, _∙_, ap}
 use mathlib.Core.Logic.{_≢_}
 use mathlib.Core.List.{List, [], _∷_}
 use lib.IntN.{ℤ, negsuc}
-use lib.ListN.{set, take}
-use Rattle.numbers.specs.Bytes.{joined}
-use Rattle.numbers.specs.Search.{computing}
+use lib.ListN.{length, set, take}
 use Rattle.numbers.specs.Search.Laws.{contra}
-use Rattle.text.specs.Text.{figuresBy, figures, numeral, rightJustified, text, lineText, fileText, figureOf, sizeFrom, hasMinus, patternIn, same, readNumber}
+use Rattle.text.specs.Text.{fileText, readNumber}
 use Rattle.text.specs.Text.Laws.{text-reads}
 use Rattle.text.specs.declared.Reading.the-variants.{Value}
 use Rattle.table.specs.Table.{Table}
-use Rattle.file.specs.File.{isValue, valueOf, notLines, fieldIsNumber, wellFormed, malformed, numberAt, rowAt, fileTable}
+use Rattle.file.specs.File.{isValue}
+use Rattle.file.specs.File.Computing.{reading}
 use Rattle.loader.specs.Verdict.{atFault, verdict}
 use Rattle.loader.specs.declared.Ground.{Ground}
 use Rattle.loader.specs.declared.Ground.the-variants.{Lines, Field, Header, Total, Kind, Sums, Range, Types, Unwritten, Unreachable}
@@ -27,11 +26,6 @@ use Rattle.examples.specs.Tables.{listingWith, listing}
 use Rattle.examples.specs.Computing.{judging}
 use Rattle.examples.specs.Files.{prints, rows-judged, rows-load, listing-in-order}
 
--- opens what reading a file computes with
-unfoldable reading : Unit {0}
-unfolding computing joined figuresBy figures numeral rightJustified text lineText fileText figureOf sizeFrom hasMinus patternIn same readNumber isValue valueOf notLines fieldIsNumber wellFormed malformed numberAt rowAt fileTable
-reading = tt
-
 -- the file, which is in order
 abbrev pub listingFile : List ℕ
 listingFile = fileText listing
@@ -44,6 +38,10 @@ listing-sound = rows-load listing listing-in-order .0
 pub listing-cut : verdict (take 72 listingFile) ≡ Fault Lines 0
 unfolding reading verdict
 listing-cut = refl
+
+pub listing-cut-long : length (take 72 listingFile) ≡ 72
+unfolding reading
+listing-cut-long = refl
 
 pub listing-malformed : verdict (set listingFile 145 32) ≡ Fault Field 2
 unfolding reading atFault verdict

@@ -1,5 +1,6 @@
 -- A file as lines of twelve fields: grounds 1 and 2, and the table that its numbers make. Lines and fields are counted from 0 here.
 pub mod Laws
+pub mod Computing
 use Prim.Native.Nat.{ℕ, _+_, _*_, _/_, _%_}
 use mathlib.Core.Bool.{Bool, true, false, not, _&&_, cond}
 use mathlib.Core.List.{List}

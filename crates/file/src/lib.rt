@@ -2,12 +2,13 @@
 ghost use mathlib.Core.Path.{_≡_};
 ghost use mathlib.Core.Bool.{true};
 ghost use Prim.Native.Nat.{_+_, _*_, _≤_, _<_};
-ghost use lib.ListN.{length};
+ghost use lib.ListN.{length, replicate};
 ghost use Rattle.numbers.specs.Bytes.{shorts};
 ghost use Rattle.numbers.specs.Laid.{laid};
 ghost use Rattle.numbers.specs.Search.{first};
-ghost use Rattle.table.specs.Table.{maxRows, rowNumbers, tableNumbers};
-ghost use Rattle.file.specs.File.{lineLength, notLines, wellFormed, malformed, numberIn};
+ghost use Rattle.table.specs.Table.{maxRows, rowNumbers, tableNumbers, tableOf};
+ghost use Rattle.file.specs.File.{lineLength, notLines, wellFormed, malformed, fileTable, numberIn};
+ghost use Rattle.file.specs.EmptyFile.{endingText};
 use text::Reading;
 
 // The characters of a line.
@@ -59,4 +60,20 @@ pub fn not_lines(file: &[u8]) -> bool
         return true;
     }
     file.len() % LINE != 0
+}
+
+// The rows of the procedure that ends, for which a file of no bytes stands, laid into a table of zeros: a header that counts one definition and one node,
+// the definition, and its node, an end.
+pub fn lay_ending(table: &mut [u8])
+    requires { ⌜ shorts (now table) ≡ replicate tableNumbers 0 ⌝ }
+    ensures { λ _. ⌜ tableOf (now (table .exit)) ≡ fileTable endingText ⌝ }
+{
+    let definition = table::ROW_NUMBERS;
+    let node = 2 * table::ROW_NUMBERS;
+    numbers::put_short(table, table::field::KIND, 1);
+    numbers::put_short(table, table::field::DEFINITIONS, 1);
+    numbers::put_short(table, table::field::NODES, 1);
+    numbers::put_short(table, definition + table::field::KIND, 3);
+    numbers::put_short(table, definition + table::field::OWN_NODES, 1);
+    numbers::put_short(table, node + table::field::KIND, 5);
 }

@@ -12,10 +12,11 @@ use lib.IntN.{ℤ, pos}
 use mir.Syntax.{w32}
 use mir.Val.{toZ, ofZ}
 use mir.Facts.{toZ-pos, ofZ-toZ}
-use borrow.Author.Tests.{eqb-true}
+use borrow.Author.Tests.{eqb-true, ne-eqb}
 use Rattle.numbers.specs.Search.Laws.{caseB}
 use Rattle.numbers.specs.Tests.{clash}
 use Rattle.file.specs.File.{fileTable}
+use Rattle.file.specs.EmptyFile.{procedureText}
 use Rattle.loader.specs.Verdict.{groundNumber, verdict}
 use Rattle.loader.specs.Load as Load
 use Rattle.loader.specs.Load.{tableLength, tableBytes, loaded, afterVerdict}
@@ -25,7 +26,7 @@ use Rattle.loader.specs.declared.Loaded.the-variants as Loaded
 use Rattle.loader.specs.declared.Verdict.{Verdict}
 use Rattle.loader.specs.declared.Verdict.the-variants.{Sound, Fault}
 use Rattle.loader_laws.specs.Lowest.{number-range}
-use Rattle.loader_laws.specs.Yields.{sound-loads}
+use Rattle.loader_laws.specs.Yields.{text-loads}
 use Rattle.rules.specs.Calls.{startCall, stepCall, giveCall, takeCall, runCall}
 use Rattle.rules.specs.declared.Refusal.{Refusal}
 use Rattle.rules.specs.declared.Refusal.the-variants as Ground
@@ -43,7 +44,7 @@ use Rattle.engine_laws.specs.Lists.{step, give, take, run, after, RefusedWith}
 use Rattle.collector.specs.Collect.{collectCall}
 use Rattle.collector.specs.declared.Collected.{Collected}
 use Rattle.collector.specs.declared.Collected.the-variants as Collected
-use Rattle.interface.specs.Interface.{numbered, loadResult, inNumbers, startResult, stepFields, stepNumbers, stepResult, giveFields, giveNumbers, giveResult, takeFields, takeNumbers, takeResult, runFields, runNumbers, runResult, collectFields, collectNumbers, collectResult}
+use Rattle.interface.specs.Interface.{loadedTo, numbered, loadResult, inNumbers, startResult, stepFields, stepNumbers, stepResult, giveFields, giveNumbers, giveResult, takeFields, takeNumbers, takeResult, runFields, runNumbers, runResult, collectFields, collectNumbers, collectResult}
 use Rattle.guarantee.specs.Claim.{Any, on, collect, afterAny, RefusedBy}
 
 -- ---- loading
@@ -68,9 +69,10 @@ pub table-so : (file t : List ℕ) → loadResult file t .table ≡ loaded file 
 unfolding loadResult numbered
 table-so file t = refl
 
--- document 01, on loading: a file is accepted when its verdict is that no line is at fault, and the buffer has the table's length
+-- document 01, on loading: a file is accepted when the verdict on it, or on the lines for which a file of no bytes stands, is that no line is at fault, and the
+-- buffer has the table's length
 abbrev pub Accepted : List ℕ → List ℕ → Type 0
-Accepted file t = (verdict file ≡ Sound) × (length t ≡ tableLength)
+Accepted file t = (verdict (procedureText file) ≡ Sound) × (length t ≡ tableLength)
 
 after-done : (v : Verdict) (file t : List ℕ) → afterVerdict v file t .answer ≡ Loaded.Done → (v ≡ Sound) × (length t ≡ tableLength)
 unfolding afterVerdict
@@ -88,20 +90,26 @@ after-refused Sound file t n =
 pub load-zero-iff : (file t : List ℕ) → (loadResult file t .answer .refusal ≡ pos 0) ↔ Accepted file t
 unfolding loadResult numbered loaded Load.refusalNumber
 load-zero-iff file t = (
-  λ e. after-done (verdict file) file t (load-so file t e),
-  λ a. rw (sound-loads file t (a .0) (a .1)),
+  λ e. after-done (verdict (procedureText file)) (procedureText file) t (load-so file t e),
+  λ a. rw (text-loads file t (a .0) (a .1)),
 )
 
 -- the buffer then has the bytes of the file's table
-pub load-table : (file t : List ℕ) → loadResult file t .answer .refusal ≡ pos 0 → loadResult file t .table ≡ tableBytes (fileTable file)
+pub load-table : (file t : List ℕ) → loadResult file t .answer .refusal ≡ pos 0 → loadResult file t .table ≡ tableBytes (fileTable (procedureText file))
 load-table file t e =
     let (v, l) = load-zero-iff file t .0 e in
-    table-so file t ∙ ap (λ (o : Load.Outcome). o .table) (sound-loads file t v l)
+    table-so file t ∙ ap (λ (o : Load.Outcome). o .table) (text-loads file t v l)
+
+-- a buffer of another length refuses such a file with 8
+pub load-eight : (file t u : List ℕ) → loadResult file t .answer .refusal ≡ pos 0 → length u ≢ tableLength
+    → loadResult file u ≡ loadedTo (record { refusal = pos 8; line = pos 0 }) u
+unfolding loadResult numbered loaded afterVerdict Load.refusalNumber Load.lineNumber
+load-eight file t u e n = rw (load-zero-iff file t .0 e .0, ne-eqb (length u) tableLength n)
 
 -- where load is answered with any other refusal the buffer has what it had before
 pub load-keeps : (file t : List ℕ) → loadResult file t .answer .refusal ≢ pos 0 → loadResult file t .table ≡ t
 unfolding loadResult numbered loaded Load.refusalNumber
-load-keeps file t n = after-refused (verdict file) file t (λ e. n (rw e))
+load-keeps file t n = after-refused (verdict (procedureText file)) (procedureText file) t (λ e. n (rw e))
 
 -- ---- what C sees of a call: the bytes that it leaves, and the first number of its answer
 

@@ -4,5 +4,6 @@ pub mod Later
 pub mod Proof
 pub mod Exported
 pub mod InNumbers
+pub mod EmptyInNumbers
 pub mod WriteInNumbers
 pub mod ReasonsInLists

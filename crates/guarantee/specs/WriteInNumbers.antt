@@ -3,13 +3,14 @@
 use Prim.Native.Nat.{ℕ, _*_, _≤_, _<_}
 use native.Mathlib.Omega.{arith}
 use mathlib.Core.Path.{_≡_, refl, sym, _∙_, ap}
-use mathlib.Core.List.{List, _++_}
+use mathlib.Core.List.{List, [], _++_}
 use mathlib.Core.Logic.{_≢_, _↔_, _⊎_, inl, inr}
 use lib.ListN.{length, take, drop}
 use lib.IntN.{pos}
 use Rattle.text.specs.Text.{lineLength}
 use Rattle.text.specs.Text.Characters.{Characters}
 use Rattle.table.specs.Table.{tableOf, lineTotal}
+use Rattle.file.specs.EmptyFile.{endingText}
 use Rattle.loader.specs.Load as Load
 use Rattle.loader.specs.Load.{tableLength, loaded}
 use Rattle.loader.specs.declared.Loaded.{Loaded}
@@ -17,7 +18,7 @@ use Rattle.loader.specs.declared.Loaded.the-variants as Loaded
 use Rattle.writer.specs.Write.{writeCall, refusalNumber, bytesNumber}
 use Rattle.writer.specs.declared.Written.{Written}
 use Rattle.writer.specs.declared.Written.the-variants.{Done, WrongLength, WrongTable, ShortBuffer}
-use Rattle.writer_laws.specs.Writing.{FileOf, file-of, table-long, length-iff, table-iff, short-iff, done-iff, refused-keeps, written-loads, rest-kept, lines-written, room-written, most-written, loaded-written}
+use Rattle.writer_laws.specs.Writing.{FileOf, file-of, table-long, length-iff, table-iff, short-iff, done-iff, refused-keeps, written-loads, rest-kept, lines-written, room-written, most-written, loaded-written, empty-written}
 use Rattle.interface.specs.Interface.{LoadResult, loadedTo, numbered, loadResult, writtenTo, writtenNumbers, writeResult}
 use Rattle.guarantee.specs.Exported.{load-so, table-so}
 
@@ -33,7 +34,7 @@ pub record WriteInNumbers (t b : List ℕ) : Type 0 where
   pub eight : (writeResult t b .answer .refusal ≡ pos 8) ↔ (length t ≢ tableLength)
   pub nine : (writeResult t b .answer .refusal ≡ pos 9) ↔ ((length t ≡ tableLength) × ((file : List ℕ) → ¬ LoadsTo t file))
   pub fifteen : (writeResult t b .answer .refusal ≡ pos 15) ↔ ((file : List ℕ) × LoadsTo t file × (length b < length file))
-  pub zero : (writeResult t b .answer .refusal ≡ pos 0) ↔ ((file : List ℕ) × LoadsTo t file × (length file ≤ length b))
+  pub zero : (writeResult t b .answer .refusal ≡ pos 0) ↔ ((file : List ℕ) × LoadsTo t file × (length file ≢ 0) × (length file ≤ length b))
   pub no-other : (writeResult t b .answer .refusal ≡ pos 0)
       ⊎ ((writeResult t b .answer .refusal ≡ pos 8) ⊎ ((writeResult t b .answer .refusal ≡ pos 9) ⊎ (writeResult t b .answer .refusal ≡ pos 15)))
   -- refused: no byte is answered, and every byte stays
@@ -95,7 +96,7 @@ no-bytes ShortBuffer h = refl
 -- what a write that is done leaves at the front of the buffer is the file of the table
 left-of : (t b : List ℕ) → Characters t → (n : ℕ) → writeCall t b .answer ≡ Done n → FileOf t (take n (writeCall t b .file))
 left-of t b fit n e =
-    let (file, f, h, q) = done-iff t b fit n .0 e in
+    let (file, f, s, h, q) = done-iff t b fit n .0 e in
     file-of t (take n (writeCall t b .file)) t (written-loads t b fit n e t (table-long t file f))
 
 pub write-in-numbers : (t b : List ℕ) → Characters t → WriteInNumbers t b
@@ -114,8 +115,8 @@ write-in-numbers t b fit =
         λ (file, f, h). rw (short-iff t b fit .1 (file, loads-so t file .1 f, h)),
       );
       zero = (
-        λ e. let (file, f, h, q) = done-iff t b fit (bytesNumber a) .0 (is-done e) in (file, loads-so t file .0 f, h),
-        λ (file, f, h). rw (done-iff t b fit (length file) .1 (file, loads-so t file .1 f, h, refl)),
+        λ e. let (file, f, s, h, q) = done-iff t b fit (bytesNumber a) .0 (is-done e) in (file, loads-so t file .0 f, s, h),
+        λ (file, f, s, h). rw (done-iff t b fit (length file) .1 (file, loads-so t file .1 f, s, h, refl)),
       );
       no-other = one-of a;
       refused = λ n. (ap pos (no-bytes a n), refused-keeps t b fit (λ k e. n (rw e)));
@@ -125,8 +126,14 @@ write-in-numbers t b fit =
       rest = λ e. let n = bytesNumber a in rw (← lines-written t b fit n (is-done e)) (rest-kept t b fit n (is-done e));
     }
 
--- the table of a file that C sees loaded is written as that file
-pub load-then-write : (file own : List ℕ) → loadResult file own .answer .refusal ≡ pos 0 → (b : List ℕ) → length file ≤ length b
+-- the table of a file with bytes that C sees loaded is written as that file
+pub load-then-write : (file own : List ℕ) → loadResult file own .answer .refusal ≡ pos 0 → length file ≢ 0 → (b : List ℕ) → length file ≤ length b
     → writeResult (loadResult file own .table) b ≡ writtenTo (record { refusal = pos 0; bytes = pos (length file) }) (file ++ drop (length file) b)
 unfolding writeResult writtenNumbers refusalNumber bytesNumber
-load-then-write file own e b h = rw (table-so file own, loaded-written file own (load-so file own e) b h)
+load-then-write file own e n b h = rw (table-so file own, loaded-written file own (load-so file own e) n b h)
+
+-- that of the file of no bytes is written as three lines
+pub empty-then-write : (own : List ℕ) → loadResult [] own .answer .refusal ≡ pos 0 → (b : List ℕ) → 219 ≤ length b
+    → writeResult (loadResult [] own .table) b ≡ writtenTo (record { refusal = pos 0; bytes = pos 219 }) (endingText ++ drop 219 b)
+unfolding writeResult writtenNumbers refusalNumber bytesNumber
+empty-then-write own e b h = rw (table-so [] own, empty-written own (load-so [] own e) b h)

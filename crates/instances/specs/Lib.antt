@@ -11,3 +11,4 @@ pub mod OfGuarantee
 pub mod OfTurns
 pub mod OfRefinement
 pub mod OfListing
+pub mod OfEmptyFile

@@ -2,17 +2,18 @@
 -- leaves another waiting; and in the numbers that C gets, with what they exclude. Assumes nothing.
 use Prim.Native.Nat.{ℕ}
 use native.Mathlib.Omega.{arith}
-use mathlib.Core.Path.{_≡_, refl, ap, _∙_}
+use mathlib.Core.Path.{_≡_, refl, sym, ap, _∙_}
+use mathlib.Core.Logic.{inl}
 use mathlib.Core.Bool.{true, false}
 use mathlib.Core.List.{List, [], _∷_}
 use lib.Dec.{ltb}
-use lib.ListN.{take, replicate, length-replicate}
+use lib.ListN.{length, take, replicate, length-replicate}
 use lib.IntN.{pos}
+use Rattle.numbers.specs.Tests.{clash}
 use Rattle.text.specs.Text.{fileText}
 use Rattle.table.specs.Table.{tableOf, ports}
-use Rattle.loader.specs.Verdict.{groundNumber}
 use Rattle.loader.specs.Load as Load
-use Rattle.loader.specs.Load.{tableLength, Outcome, outcome, afterVerdict, loaded}
+use Rattle.loader.specs.Load.{tableLength, Outcome, outcome, loaded}
 use Rattle.loader.specs.declared.Loaded.the-variants.{Done}
 use Rattle.state.specs.State.{view, thread, standsAt, isWaiting}
 use Rattle.rules.specs.Offers.{partnerOf}
@@ -37,11 +38,12 @@ use Rattle.interface.specs.Interface.{numbered, loadResult, inNumbers, startRes
 use Rattle.examples.specs.Tables.{parting}
 use Rattle.examples.specs.Computing.{collecting}
 use Rattle.examples.specs.Files.{rows-loaded, parting-in-order}
-use Rattle.examples.specs.ListingFile.{listingFile, listing-cut}
+use Rattle.examples.specs.ListingFile.{listingFile, listing-cut-long}
 use Rattle.guarantee.specs.Claim.{Any, on, unlessRefused, metByGive, moving, movingAll, takenBy, Guarantee}
 use Rattle.guarantee.specs.ClaimKept.{collect-view, taken-is}
 use Rattle.guarantee.specs.Proof.{collection-made, guarantee}
-use Rattle.guarantee.specs.Exported.{table-so}
+use Rattle.guarantee.specs.Exported.{table-so, load-keeps}
+use Rattle.guarantee.specs.EmptyInNumbers.{one-iff}
 use Rattle.guarantee.specs.InNumbers.{moved, InNumbers}
 use Rattle.guarantee.specs.InNumbers.Proof.{moved-so, started-iff, in-numbers}
 use Rattle.instances.specs.Parting.{tb, table, accepts, small, held-table, stateAfter, blank, blank-long, bytesAfter, bytes-sound, bytes-view}
@@ -51,9 +53,13 @@ use Rattle.instances.specs.Parting.{tb, table, accepts, small, held-tabl
 pub blankTable : List ℕ
 blankTable = replicate tableLength 0
 
+pub blank-table-long : length blankTable ≡ tableLength
+unfolding blankTable
+blank-table-long = length-replicate {A = ℕ} tableLength 0
+
 parting-loaded : loaded (fileText parting) blankTable ≡ outcome Done table
-unfolding blankTable table
-parting-loaded = rows-loaded parting parting-in-order (replicate tableLength 0) (length-replicate {A = ℕ} tableLength 0)
+unfolding table
+parting-loaded = rows-loaded parting parting-in-order blankTable blank-table-long
 
 pub parting-loads : loaded (fileText parting) blankTable .answer ≡ Done
 parting-loads = ap (λ (o : Outcome). o .answer) parting-loaded
@@ -144,8 +150,9 @@ abbrev cut : List ℕ
 cut = take 72 listingFile
 
 pub cut-refused : (loadResult cut blankTable .answer .refusal ≡ pos 1) × (loadResult cut blankTable .table ≡ blankTable)
-unfolding loadResult numbered loaded afterVerdict Load.refusalNumber groundNumber
-cut-refused = (rw listing-cut, rw listing-cut)
+cut-refused =
+    let one = one-iff cut blankTable .1 (inl (λ (n, e). absurd (omega (arith, listing-cut-long)))) in
+    (one, load-keeps cut blankTable (λ z. let q : pos 0 ≡ pos 1 = sym z ∙ one in clash cc))
 
 -- the collection after the run of five steps answers 1
 pub one-answered : collectResult table worked .answer .threads ≡ pos 1

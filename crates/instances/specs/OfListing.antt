@@ -6,8 +6,8 @@ use Rattle.numbers.specs.Bytes.{joined}
 use Rattle.text.specs.Text.{figuresBy, figures, numeral, rightJustified, text, fileText}
 use Rattle.rules.specs.Calls.{stepAnswer}
 use Rattle.engine.specs.Numbers.{actNumber, branchNumber, partnerNumber, reasonNumber, heldUpNumber}
-use Rattle.loader_laws.specs.PrintedFile.{filledUp}
-use Rattle.examples.specs.Tables.{listing}
+use Rattle.loader_laws.specs.PrintedFile.{filledUp, sound-own}
+use Rattle.examples.specs.Tables.{listing, endOnly}
 use Rattle.examples.specs.Computing.{collecting}
 use Rattle.examples.specs.Files.{rows-load, listing-in-order}
 use Rattle.listing_lines.specs.Lines.{characters, column, line, heading, stepLine, channelsInUse}
@@ -33,6 +33,18 @@ printed = joined (
     ∷ characters "     7     1    -1     0     0\n"
     ∷ [])
 
+-- what is printed of a procedure of one node, an end: the one step, and that no thread is ready then
+abbrev pub endPrinted : List ℕ
+endPrinted = joined (
+    characters "  STEPTHREAD  NODE   ACTBRANCH  WITH\n"
+    ∷ characters "     1     0     0     0     0    -1\n"
+    ∷ characters "     1     1    -1     0     0\n"
+    ∷ [])
+
+pub end-run : runLines (filledUp endOnly) ≡ endPrinted
+unfolding listingsCompute
+end-run = refl
+
 example-run : runLines (filledUp listing) ≡ printed
 unfolding listingsCompute
 example-run = refl
@@ -40,4 +52,4 @@ example-run = refl
 -- the file's listing is that, character by character
 pub example-listing : Listing.listing (fileText listing) ≡ printed
 unfolding Listing.listing listingBy
-example-listing = let l = rows-load listing listing-in-order in rw (l .0, l .1) example-run
+example-listing = let l = rows-load listing listing-in-order in rw (sound-own (fileText listing) (l .0), l .0, l .1) example-run

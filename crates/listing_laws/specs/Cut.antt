@@ -11,6 +11,7 @@ use borrow.Author.Tests.{leb-true, ne-eqb}
 use Rattle.numbers.specs.Search.Laws.{caseB}
 use Rattle.table.specs.Table.{maxRows}
 use Rattle.file.specs.File.{lineLength, notLines}
+use Rattle.file.specs.EmptyFile.Laws.{text-own}
 use Rattle.loader.specs.Verdict.{verdict}
 use Rattle.listing_text.specs.Listing.{listingBy, listing}
 
@@ -25,5 +26,6 @@ too-long file h =
 pub listing-cut : (file : List ℕ) → 63145 < length file → listing (take 63146 file) ≡ listing file
 unfolding listing listingBy verdict
 listing-cut file h =
-    let k : 63145 < length (take 63146 file) = omega (arith, length-take-le 63146 file (omega arith)) in
-    rw (too-long file h, too-long (take 63146 file) k)
+    let cut = take 63146 file in
+    let k : 63145 < length cut = omega (arith, length-take-le 63146 file (omega arith)) in
+    rw (text-own file (λ z. absurd (omega arith)), text-own cut (λ z. absurd (omega arith)), too-long file h, too-long cut k)

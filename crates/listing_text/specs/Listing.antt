@@ -6,6 +6,7 @@ use Rattle.numbers.specs.Bytes.{joined}
 use Rattle.numbers.specs.Search.{tabulate}
 use Rattle.table.specs.Table.{Table}
 use Rattle.file.specs.File.{fileTable}
+use Rattle.file.specs.EmptyFile.{procedureText}
 use Rattle.loader.specs.Verdict.{groundNumber, verdict}
 use Rattle.loader.specs.declared.Verdict.{Verdict}
 use Rattle.loader.specs.declared.Verdict.the-variants.{Sound, Fault}
@@ -58,5 +59,6 @@ unfoldable pub listingBy : Verdict → List ℕ → List ℕ
 listingBy (Fault g l) file = line (groundNumber g ∷ l ∷ [])
 listingBy Sound file = runLines (fileTable file)
 
+-- a file is listed by the text for which it stands
 unfoldable pub listing : List ℕ → List ℕ
-listing file = listingBy (verdict file) file
+listing file = listingBy (verdict (procedureText file)) (procedureText file)

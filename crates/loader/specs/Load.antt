@@ -9,6 +9,7 @@ use Rattle.numbers.specs.Bytes.{encode, joined}
 pub use Rattle.table.specs.Table.{tableLength}
 use Rattle.table.specs.Table.{Table, tableOf}
 use Rattle.file.specs.File.{fileTable}
+use Rattle.file.specs.EmptyFile.{procedureText}
 use Rattle.loader.specs.Verdict.{groundNumber, verdict, acceptable}
 use Rattle.loader.specs.declared.Verdict.{Verdict}
 use Rattle.loader.specs.declared.Verdict.the-variants.{Sound, Fault}
@@ -32,8 +33,9 @@ unfoldable pub afterVerdict : Verdict → List ℕ → List ℕ → Outcome
 afterVerdict (Fault g l) file t = outcome (FileRefused g l) t
 afterVerdict Sound file t = cond (eqb (length t) tableLength) (outcome Done (tableBytes (fileTable file))) (outcome WrongLength t)
 
+-- a file is judged and read by the text for which it stands
 unfoldable pub loaded : List ℕ → List ℕ → Outcome
-loaded file t = afterVerdict (verdict file) file t
+loaded file t = afterVerdict (verdict (procedureText file)) (procedureText file) t
 
 -- the numbers of document 01 for each answer: the refusal, 0 where there is none, and the line at fault
 unfoldable pub refusalNumber : Loaded → ℕ

@@ -1,6 +1,7 @@
 -- The verdict on a file: the first ground, in the order of their numbers, that has a line at fault, and the first such line, counted from 1.
 pub mod Laws
 pub mod Rest
+pub mod Computing
 use Prim.Native.Nat.{ℕ, suc}
 use mathlib.Core.Bool.{Bool, true, false, _&&_, _||_, cond}
 use mathlib.Core.List.{List}

@@ -7,6 +7,7 @@ ghost use Rattle.numbers.specs.Search.{every};
 ghost use Rattle.table.specs.Table.{tableOf, maxRows, lineTotal};
 ghost use Rattle.table.specs.Index.{indexLength, Indexed};
 ghost use Rattle.file.specs.File.{fileTable};
+ghost use Rattle.file.specs.EmptyFile.{procedureText};
 ghost use Rattle.loader.specs.Verdict.{judgedFlow, judgedRows, judged, verdict, restZero};
 ghost use Rattle.loader.specs.Load.{Outcome, loaded, accepted, tableLength};
 
@@ -123,12 +124,26 @@ fn judge_file(file: &[u8], table: &mut [u8]) -> Verdict
     judge(table, &mut index, n)
 }
 
+// The verdict on the text that a file stands for: its own, or the lines of the procedure that ends if it has no bytes. The numbers of a text in which
+// there is no fault are left in `table`, which comes as zeros.
+fn judge_procedure(file: &[u8], table: &mut [u8]) -> Verdict
+    requires { ⌜ now table ≡ replicate tableLength 0 ⌝ }
+    ensures { λ r. ⌜ r ≡ verdict (procedureText (now (file .entry))) ⌝ }
+    ensures { λ r. ⌜ (r ≡ Verdict.Sound → tableOf (now (table .exit)) ≡ fileTable (procedureText (now (file .entry)))) ⌝ }
+{
+    if file.len() == 0 {
+        file::lay_ending(table);
+        return Verdict::Sound;
+    }
+    judge_file(file, table)
+}
+
 // Loads a file: its table into the buffer if the file is in order and the buffer has the table's length. Else nothing changes.
 pub fn load(file: &[u8], table: &mut [u8]) -> Loaded
     ensures { λ r. ⌜ _≡_ {A = Outcome} (record { answer = r; table = now (table .exit) }) (loaded (now (file .entry)) (now (table .entry))) ⌝ }
 {
     let mut own = [0u8; table::BYTES];
-    match judge_file(file, &mut own) {
+    match judge_procedure(file, &mut own) {
         Verdict::Fault(ground, line) => Loaded::FileRefused(ground, line),
         Verdict::Sound => {
             if table.len() != table::BYTES {

@@ -6,5 +6,6 @@ pub mod Grounds
 pub mod Written
 pub mod PrintedFile
 pub mod Yields
+pub mod EmptyFile
 pub mod Refused
 pub mod Lowest

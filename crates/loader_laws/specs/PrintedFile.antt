@@ -19,6 +19,8 @@ use Rattle.text.specs.declared.Reading.{Reading}
 use Rattle.text.specs.declared.Reading.the-variants.{Value, Wrong}
 use Rattle.table.specs.Table.{Table, maxRows, rowNumbers}
 use Rattle.file.specs.File.{isValue, valueOf, lineCount, notLines, fieldIsNumber, wellFormed, malformed, numberAt, rowAt, fileTable}
+use Rattle.file.specs.EmptyFile.{procedureText}
+use Rattle.file.specs.EmptyFile.Laws.{text-own}
 use Rattle.loader.specs.Verdict.{atFault, judged, verdict}
 use Rattle.loader.specs.Verdict.Laws.{no-sound}
 use Rattle.loader.specs.declared.Ground.{Ground}
@@ -71,6 +73,10 @@ sound-read file e = caseB (notLines file)
     (λ y. let n = lineCount file in
     let (f, s) = fault-sound Field (malformed file) n (judged (fileTable file) n) (rw y at e) in
     (record { lined = lines-lined file y; formed = λ i h. first-below (malformed file) n i (omega arith) }, s))
+
+-- a file in order has lines, and stands for itself
+pub sound-own : (file : List ℕ) → verdict file ≡ Sound → procedureText file ≡ file
+sound-own file e = text-own file (λ z. let s = sound-read file e .0 .lined .some in absurd (omega arith))
 
 -- ---- the rows of a file's table
 

@@ -77,9 +77,13 @@ number tb r k = toZ w16 (at tb r k)
 -- ---- grounds 1 and 2
 
 module _ (file : List ℕ) where
-  -- empty, not whole lines, or over 865 of them
+  -- not whole lines, or over 865 of them
+  abbrev pub NotWhole : Type 0
+  NotWhole = (¬ ((n : ℕ) × (length file ≡ n * lineLength))) ⊎ (maxRows * lineLength < length file)
+
+  -- so, or empty. Loading never asks this of an empty text: a file of no bytes stands for another (document 02, S-2; `EmptyFile.antt`)
   abbrev pub NotLines : Type 0
-  NotLines = (length file ≡ 0) ⊎ ((¬ ((n : ℕ) × (length file ≡ n * lineLength))) ⊎ (maxRows * lineLength < length file))
+  NotLines = (length file ≡ 0) ⊎ NotWhole
 
   -- in row r: a field that is the print of no number, or another character for the newline
   abbrev pub Malformed : ℕ → Type 0

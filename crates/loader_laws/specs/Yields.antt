@@ -23,6 +23,7 @@ use Rattle.text.specs.Text.Characters.{Characters}
 use Rattle.text.specs.declared.Reading.{Reading}
 use Rattle.text.specs.declared.Reading.the-variants.{Value, Wrong}
 use Rattle.file.specs.File.{lineCount, valueOf, numberAt, fileTable}
+use Rattle.file.specs.EmptyFile.{procedureText}
 use Rattle.loader.specs.Verdict.{judged, verdict, isSound, restZero, acceptable}
 use Rattle.loader.specs.Verdict.Laws.{no-sound, is-sound, judged-header, lines-few}
 use Rattle.loader.specs.Load.{tableLength, tableBytes, Outcome, outcome, afterVerdict, loaded, accepted}
@@ -31,7 +32,7 @@ use Rattle.loader.specs.declared.Verdict.{Verdict}
 use Rattle.loader.specs.declared.Verdict.the-variants.{Sound, Fault}
 use Rattle.loader.specs.declared.Loaded.{Loaded}
 use Rattle.loader.specs.declared.Loaded.the-variants.{Done, FileRefused, WrongLength}
-use Rattle.loader_laws.specs.PrintedFile.{Printable, filledUp, sound-bytes, sound-read, row-read, row-rest, length-table, print-judged, print-table}
+use Rattle.loader_laws.specs.PrintedFile.{Printable, filledUp, sound-bytes, sound-read, sound-own, row-read, row-rest, length-table, print-judged, print-table}
 
 -- some file in order has this table
 abbrev pub Yields : Table → Type 0
@@ -191,15 +192,25 @@ after-done Sound file t b e = caseB (eqb (length t) tableLength)
     (λ y. let q : outcome Done (tableBytes (fileTable file)) ≡ outcome Done b = rw y at e in (refl, ap (λ (o : Outcome). o .table) q))
     (λ y. let q : outcome WrongLength t ≡ outcome Done b = rw y at e in let a : _≡_ {A = Loaded} WrongLength Done = ap (λ (o : Outcome). o .answer) q in clash cc)
 
--- a file in order loads into every buffer of the table's length, whatever it held
-pub sound-loads : (file t : List ℕ) → verdict file ≡ Sound → length t ≡ tableLength → loaded file t ≡ outcome Done (tableBytes (fileTable file))
+-- a file that stands for a text in order loads into every buffer of the table's length, whatever it held
+pub text-loads : (file t : List ℕ) → verdict (procedureText file) ≡ Sound → length t ≡ tableLength → loaded file t ≡ outcome Done (tableBytes (fileTable (procedureText file)))
 unfolding loaded afterVerdict
-sound-loads file t e l = rw (e, eq-eqb (length t) tableLength l)
+text-loads file t e l = rw (e, eq-eqb (length t) tableLength l)
 
--- a load that is done is of a file in order, and leaves its table
-pub done-sound : (file t b : List ℕ) → loaded file t ≡ outcome Done b → (verdict file ≡ Sound) × (tableBytes (fileTable file) ≡ b)
+-- so does a file in order
+pub sound-loads : (file t : List ℕ) → verdict file ≡ Sound → length t ≡ tableLength → loaded file t ≡ outcome Done (tableBytes (fileTable file))
+sound-loads file t e l = let q = sound-own file e in rw q at (text-loads file t (rw q e) l)
+
+-- a load that is done is of a file that stands for a text in order, and leaves its table
+pub done-sound : (file t b : List ℕ) → loaded file t ≡ outcome Done b → (verdict (procedureText file) ≡ Sound) × (tableBytes (fileTable (procedureText file)) ≡ b)
 unfolding loaded
-done-sound file t b e = after-done (verdict file) file t b e
+done-sound file t b e = after-done (verdict (procedureText file)) (procedureText file) t b e
+
+-- and is bytes itself
+pub text-bytes : (file : List ℕ) → verdict (procedureText file) ≡ Sound → Characters file
+unfolding procedureText
+text-bytes [] e = λ i. omega arith
+text-bytes (c ∷ s) e = sound-bytes (c ∷ s) e
 
 -- ground 9 accepts just the bytes that loading yields
 pub accepted-iff : (b : List ℕ) → ((i : ℕ) → getD b i 0 < 256) → (accepted b ≡ true) ↔ YieldsBytes b
@@ -210,10 +221,11 @@ accepted-iff b fit = (
       (file, b, sound-bytes file v, sound-loads file b v long ∙ rw (t, hold-bytes b long fit)),
   λ y. let (file, t, c, e) = y in
       let (v, q) = done-sound file t b e in
-      let s = file-shaped file in
-      let long : length b ≡ tableLength = sym (ap length q) ∙ length-bytes (fileTable file) s in
-      let h : fileTable file ≡ tableOf b = sym (bytes-hold (fileTable file) s) ∙ ap tableOf q in
-      rw (eq-eqb (length b) tableLength long, yields-acceptable (tableOf b) (file, v, h)),
+      let text = procedureText file in
+      let s = file-shaped text in
+      let long : length b ≡ tableLength = sym (ap length q) ∙ length-bytes (fileTable text) s in
+      let h : fileTable text ≡ tableOf b = sym (bytes-hold (fileTable text) s) ∙ ap tableOf q in
+      rw (eq-eqb (length b) tableLength long, yields-acceptable (tableOf b) (text, v, h)),
 )
 
 -- ---- the bytes of a file's table
@@ -230,11 +242,11 @@ file-accepted file e =
 
 -- what a load that is done leaves in the table's buffer is such bytes
 module _ (file t : List ℕ) (e : loaded file t .answer ≡ Done) where
-  left : (verdict file ≡ Sound) × (tableBytes (fileTable file) ≡ loaded file t .table)
+  left : (verdict (procedureText file) ≡ Sound) × (tableBytes (fileTable (procedureText file)) ≡ loaded file t .table)
   left = done-sound file t (loaded file t .table) (ap (λ (a : Loaded). outcome a (loaded file t .table)) e)
 
   pub loaded-small : (i : ℕ) → getD (loaded file t .table) i 0 < 256
-  loaded-small i = rw (← left .1) (file-small file i)
+  loaded-small i = rw (← left .1) (file-small (procedureText file) i)
 
   pub loaded-accepted : accepted (loaded file t .table) ≡ true
-  loaded-accepted = rw (← left .1) (file-accepted file (left .0))
+  loaded-accepted = rw (← left .1) (file-accepted (procedureText file) (left .0))

@@ -10,6 +10,7 @@ use lib.IntN.{ℤ, pos}
 use mir.Syntax.{w32}
 use mir.Val.{SFits, toZ, ofZ}
 use mir.Facts.{toZ-pos, toZ-ofZ}
+use Rattle.file.specs.EmptyFile.{procedureText}
 use Rattle.loader.specs.Verdict.{verdict}
 use Rattle.loader.specs.Load.{Outcome, outcome, loaded, afterVerdict, refusalNumber, lineNumber, tableLength, tableBytes}
 use Rattle.loader.specs.declared.Verdict.{Verdict}
@@ -40,7 +41,7 @@ line-few file t Sound e = go (eqb (length t) tableLength)
 module _ (file t t′ : List ℕ) (a : Loaded) (e : outcome a t′ ≡ loaded file t) where
   pub answer-line : lineNumber a ≤ 865
   unfolding loaded
-  answer-line = rw (ap (λ (o : Outcome). o .answer) e) (line-few file t (verdict file) refl)
+  answer-line = let text = procedureText file in rw (ap (λ (o : Outcome). o .answer) e) (line-few text t (verdict text) refl)
 
   module _ (l : ℕ) (g : l ≡ lineNumber a) where
     pub line-fits : SFits w32 (pos l)

@@ -86,7 +86,7 @@ numbers! {
 
     /// No ground: the call was done.
     DONE: i32 = 0;
-    /// The file is empty, ends inside a line, or has more than 865 lines.
+    /// The file ends inside a line, or has more than 865 lines.
     FILE_LENGTH: i32 = 1;
     /// A field is not a number of its form, or a line does not end with a newline.
     FIELD: i32 = 2;

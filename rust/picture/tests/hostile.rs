@@ -26,8 +26,9 @@ fn expect(output: Output, status: i32, message: &str) {
 #[test]
 fn right_words_draw() {
     for (form, beginning) in [("--svg", "<svg "), ("--dot", "digraph waits {")] {
-        for steps in ["0", "007", "65535"] {
-            let output = picture(&words(&example("relay.txt"), steps, form));
+        let relay = ["0", "007", "65535"].map(|steps| ("relay.txt", steps));
+        for (name, steps) in relay.into_iter().chain([("empty_slot.txt", "0"), ("empty_slot.txt", "5")]) {
+            let output = picture(&words(&example(name), steps, form));
             assert!(output.status.success() && output.stderr.is_empty(), "{output:?}");
             assert!(String::from_utf8_lossy(&output.stdout).starts_with(beginning), "{output:?}");
         }
@@ -72,7 +73,7 @@ fn refused_files() {
     let mut range = right.clone();
     range[3 * 73 + 6 + 5] = b'9';
     let files: [(&str, &[u8], &str); 6] = [
-        ("empty", b"", "is refused, ground 1: "),
+        ("newline", b"\n", "is refused, ground 1: "),
         ("cut", &right[..right.len() - 1], "is refused, ground 1: "),
         ("bytes", &[0xff; 730], "is refused, ground 2, line 1: "),
         ("range", &range, "is refused, ground 4, line 4: "),

@@ -21,7 +21,7 @@ use pithread_header::{
 /// ```
 #[derive(Clone, Copy, Debug, PartialEq, Eq, Hash)]
 pub enum Refusal {
-    /// 1: the file is empty, ends inside a line, or has more than 865 lines.
+    /// 1: the file ends inside a line, or has more than 865 lines.
     FileLength,
     /// 2: a field is not a number of its form, or the line does not end with a newline.
     Field {
@@ -112,7 +112,7 @@ impl Refusal {
     fn parts(self) -> (i32, Option<u32>, &'static str) {
         match self {
             Refusal::FileLength => {
-                (FILE_LENGTH, None, "the file is empty, ends inside a line, or has more than 865 lines")
+                (FILE_LENGTH, None, "the file ends inside a line, or has more than 865 lines")
             }
             Refusal::Field { line } => {
                 (FIELD, Some(line), "a field is not a number of its form, or the newline is missing")

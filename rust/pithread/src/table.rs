@@ -35,6 +35,19 @@ impl Table {
     pub const ROWS: usize = TABLE_BYTES / (2 * FIELDS);
 
     /// Checks a procedure file. The grounds of its refusal are 1 to 7.
+    ///
+    /// A card without bytes is a file too, and loads as a procedure that ends.
+    ///
+    /// ```
+    /// use pithread::{Act, Bench, Table};
+    ///
+    /// let table = Table::load(b"")?;
+    /// assert_eq!(table.write(), std::fs::read("../../examples/first/1.txt")?); // three lines
+    ///
+    /// let mut bench = Bench::start(table)?;
+    /// assert_eq!(bench.step(0)?.act, Act::Ended);
+    /// # Ok::<(), Box<dyn std::error::Error>>(())
+    /// ```
     pub fn load(file: &[u8]) -> Result<Table, Refusal> {
         let mut bytes = Box::new([0; TABLE_BYTES]);
         let loaded = raw::load(file, &mut bytes[..]);
@@ -78,7 +91,7 @@ impl Table {
     }
 
     /// The procedure file of the table. It loads to this table, and the table of a file gives that file
-    /// again, byte for byte.
+    /// again, byte for byte; only that of a file without bytes gives one of three lines.
     ///
     /// ```
     /// use pithread::{Table, FIELDS};

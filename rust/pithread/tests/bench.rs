@@ -60,6 +60,18 @@ fn a_number_goes_in_and_comes_out_doubled() {
 }
 
 #[test]
+fn a_file_without_bytes_is_a_procedure_that_ends() {
+    let mut empty = Bench::load(&[]).expect("it loads");
+    assert_eq!(empty, bench("first/1.txt"));
+    assert_eq!((empty.table().lines(), empty.table().ports()), (3, 0));
+    assert_eq!(empty.give(0, 21), Err(Refusal::Port));
+    assert_eq!(empty.step(0), Ok(Stepped { node: 0, act: Act::Ended }));
+    assert_eq!(empty.run(1000), Ok(Ran { steps: 0, reason: Reason::NoneReady }));
+    assert_eq!(empty.collect(), Ok(0));
+    assert_eq!(empty.state().threads().count(), 0);
+}
+
+#[test]
 fn a_step_names_whom_it_starts_and_whom_it_meets() {
     let mut bench = bench("listing.txt");
     bench.step(0).expect("a new channel");

@@ -4,7 +4,7 @@
 use std::fs;
 use std::path::PathBuf;
 
-use generate::{valid, Random, Size};
+use generate::{valid, written_back, Random, Size};
 use pithread::header::{LINE_BYTES, MOST_FILE_BYTES};
 use pithread::{Refusal, Table};
 
@@ -31,18 +31,18 @@ fn with_constant(number: i16) -> Vec<u8> {
     file
 }
 
-/// Loads the file and writes it again; loads what was written.
+/// Loads the file and writes it again; loads what was written. A file without bytes becomes another one.
 fn round_trip(file: &[u8], about: &str) {
     let table = Table::load(file).unwrap_or_else(|refusal| panic!("{about}: {refusal}"));
     let written = table.write();
-    assert!(written == file, "{about}: another file was written");
+    assert!(written == *written_back(file), "{about}: another file was written");
     assert!(Table::load(&written) == Ok(table), "{about}: another table was loaded");
 }
 
 #[test]
 fn the_examples_are_written_as_they_are() {
     let files = [files_of(""), files_of("first")].concat();
-    assert!(files.len() >= 19, "{} files", files.len());
+    assert!(files.len() >= 20, "{} files", files.len());
     for (path, file) in files {
         round_trip(&file, &path.to_string_lossy());
     }

@@ -41,11 +41,12 @@ impl Draft {
     }
 
     /// The lines as text, up to the last one with a number other than 0: no line of a file has zeros alone.
-    /// A table whose text loads is the one that it loads to, so that the text of any other is refused.
+    /// The first line is there in any case, since a text without lines loads to a table of three. A table
+    /// whose text loads is the one that it loads to, so that the text of any other is refused.
     fn text(&self) -> Vec<u8> {
         let (numbers, _) = self.bytes.as_chunks::<2>();
         let last = numbers.iter().rposition(|number| *number != [0, 0]);
-        let lines = last.map_or(0, |last| last / FIELDS + 1);
+        let lines = last.map_or(1, |last| last / FIELDS + 1);
         let mut text = String::new();
         for line in numbers.chunks(FIELDS).take(lines) {
             text.extend(line.iter().map(|number| format!("{:6}", i16::from_le_bytes(*number))));

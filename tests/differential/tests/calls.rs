@@ -4,7 +4,7 @@ use differential::{for_seeds, Calls, Sequence, Traffic};
 use generate::standstills::{self, any_group, chain, clique, ring_beside_port, Foot};
 use generate::{
     any_valid, cases, padded, procedures, profiled, table_of, File, Layout, Profile, Random, Words, FREE,
-    LIVELY, READY, STILL,
+    LIVELY, READY, SMALLEST, STILL,
 };
 use interface::{
     Call, BRANCH, ENDED, LACKED_CHANNEL_ROW, NO_CHANNEL_ROW, NO_THREAD_ROW, STATE, STATE_BYTES, WAITS,
@@ -158,6 +158,7 @@ fn hand_made() -> Vec<(&'static str, File)> {
     ];
     files.extend(standstills::all());
     files.push(("rally", procedures::rally()));
+    files.push(("smallest", File::new(SMALLEST.map(padded).to_vec())));
     files
 }
 

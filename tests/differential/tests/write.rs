@@ -4,8 +4,8 @@
 use differential::{examples, for_seeds, Comparison, Traffic, Writes};
 use generate::cases::{self, Case};
 use generate::{
-    any_valid, damaged_table, padded, table_of, valid, File, Random, Row, Size, LINE_BYTES, MOST_LINES,
-    TABLE_BYTES,
+    any_valid, damaged_table, padded, table_of, valid, written_back, File, Random, Row, Size, LINE_BYTES,
+    MOST_LINES, TABLE_BYTES,
 };
 use interface::{Written, BUFFER_LENGTH, SHORT_BUFFER, TABLE};
 
@@ -57,12 +57,12 @@ impl Trips {
     }
 
     /// Loads a right file and writes its table into a buffer with so much room to spare; the bytes are those
-    /// of the file again.
+    /// of the file again, but for a file without bytes.
     fn restore(&mut self, file: &[u8], spare: usize, about: &str) {
         assert_eq!(self.loads.compare(file, about), (0, 0), "{about}: made to be right");
-        let table = self.loads.table().to_vec();
-        assert_eq!(self.write(&table, file.len() + spare, about), done(file.len()), "{about}");
-        assert!(self.writes.buffer()[..file.len()] == *file, "{about}: the file has other bytes");
+        let (table, due) = (self.loads.table().to_vec(), written_back(file));
+        assert_eq!(self.write(&table, due.len() + spare, about), done(due.len()), "{about}");
+        assert!(self.writes.buffer()[..due.len()] == *due, "{about}: the file has other bytes");
         self.traffic.note("file restored", 1);
     }
 

@@ -1,6 +1,6 @@
 //! Single files with the answer that each must get, group by group.
 
-use crate::file::{text_of, LINE_BYTES, MOST_LINES};
+use crate::file::{text_of, written_back, LINE_BYTES, MOST_LINES, SMALLEST};
 use crate::tables::TABLE_BYTES;
 
 /// A file and the ground and line of its refusal; 0 and 0 if it loads.
@@ -12,12 +12,14 @@ pub struct Case {
 }
 
 impl Case {
-    /// The table of its numbers, if its file has whole lines of numbers and not too many.
+    /// The table of its numbers, if its file has whole lines of numbers and not too many; of a file without
+    /// bytes that of the smallest one.
     pub fn table(&self) -> Option<Vec<u8>> {
         if self.ground == 1 || self.ground == 2 {
             return None;
         }
-        let lines = self.file.chunks(LINE_BYTES);
+        let text = written_back(&self.file);
+        let lines = text.chunks(LINE_BYTES);
         let fields = lines.flat_map(|line| line[..LINE_BYTES - 1].chunks(6));
         let mut table: Vec<u8> = fields.flat_map(|field| number_of(field).to_le_bytes()).collect();
         table.resize(TABLE_BYTES, 0);
@@ -156,13 +158,16 @@ pub fn lengths() -> Vec<Case> {
     vec![
         listing(&[], 0, 0),
         pair(&[], 0, 0),
-        case("empty", Vec::new(), 1, 0),
+        case("empty", Vec::new(), 0, 0),
+        case("a newline alone", b"\n".to_vec(), 1, 0),
+        case("1 byte", right[..1].to_vec(), 1, 0),
         case("72 bytes", right[..72].to_vec(), 1, 0),
         case("74 bytes", right[..74].to_vec(), 1, 0),
         case("last newline missing", right[..right.len() - 1].to_vec(), 1, 0),
         case("73 bytes of x", vec![b'x'; LINE_BYTES], 2, 1),
         case("73 bytes of 0", vec![0; LINE_BYTES], 2, 1),
         case("73 newlines", vec![b'\n'; LINE_BYTES], 2, 1),
+        case("73 blanks", vec![b' '; LINE_BYTES], 2, 1),
         case("73 bytes of 255", vec![255; LINE_BYTES], 2, 1),
         case("header alone", header.to_vec(), 3, 1),
         case("865 headers", header.repeat(MOST_LINES), 3, 1),
@@ -213,7 +218,7 @@ pub fn counts() -> Vec<Case> {
     cases.push(rows(&LISTING[..15], 3, 1));
     cases.push(rows(&[&LISTING[..], &LISTING[15..]].concat(), 3, 1));
     cases.push(rows(&[&[0]], 3, 1));
-    cases.push(rows(&[&[1, 0, 1, 0, 1], &[3, 0, 0, 1], &[5]], 0, 0));
+    cases.push(rows(&SMALLEST, 0, 0));
     cases
 }
 

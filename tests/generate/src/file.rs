@@ -1,5 +1,6 @@
 //! Files as rows of numbers, and their text.
 
+use std::borrow::Cow;
 use std::ops::Range;
 
 use crate::size::Size;
@@ -9,6 +10,9 @@ pub const LINE_BYTES: usize = 73;
 pub const MOST_LINES: usize = 865;
 
 pub type Row = [i16; FIELDS];
+
+/// The smallest file that has lines: one definition, whose only node is an end.
+pub const SMALLEST: [&[i16]; 3] = [&[1, 0, 1, 0, 1], &[3, 0, 0, 1], &[5]];
 
 /// Where a branch belongs.
 #[derive(Clone, Copy)]
@@ -93,6 +97,15 @@ pub fn text_of<R: AsRef<[i16]>>(rows: &[R]) -> Vec<u8> {
         text.push(b'\n');
     }
     text
+}
+
+/// What the table of a right file is written as: the file itself, but for one without bytes, which loads as
+/// the smallest file.
+pub fn written_back(file: &[u8]) -> Cow<'_, [u8]> {
+    match file {
+        [] => Cow::Owned(text_of(&SMALLEST)),
+        _ => Cow::Borrowed(file),
+    }
 }
 
 /// A number set to the right in six characters.

@@ -22,7 +22,7 @@ mod words;
 
 pub use calls::any_call;
 pub use damage::{damaged, damaged_rows};
-pub use file::{padded, text_of, File, Row, FIELDS, LINE_BYTES, MOST_LINES};
+pub use file::{padded, text_of, written_back, File, Row, FIELDS, LINE_BYTES, MOST_LINES, SMALLEST};
 pub use profile::{Profile, ANY, LIVELY, STILL};
 pub use random::Random;
 pub use rules::{without, Rule, View};

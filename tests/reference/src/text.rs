@@ -4,10 +4,21 @@ use crate::{Refusal, Row, Rows, LINE_BYTES, MOST_LINES};
 
 const FIELD_BYTES: usize = 6;
 
-/// Reads every line into its row and answers how many lines there are.
+/// What a file without bytes stands for: a definition without slots, whose only node is an end.
+const OF_NO_BYTES: [Row; 3] = [
+    [1, 0, 1, 0, 1, 0, 0, 0, 0, 0, 0, 0],
+    [3, 0, 0, 1, 0, 0, 0, 0, 0, 0, 0, 0],
+    [5, 0, 0, 0, 0, 0, 0, 0, 0, 0, 0, 0],
+];
+
+/// Reads every line into its row and answers how many rows there are then.
 pub fn read(file: &[u8], rows: &mut Rows) -> Result<usize, Refusal> {
+    if file.is_empty() {
+        rows[..OF_NO_BYTES.len()].copy_from_slice(&OF_NO_BYTES);
+        return Ok(OF_NO_BYTES.len());
+    }
     let (lines, rest) = file.as_chunks::<LINE_BYTES>();
-    if lines.is_empty() || !rest.is_empty() || lines.len() > MOST_LINES {
+    if !rest.is_empty() || lines.len() > MOST_LINES {
         return Err(Refusal::new(1, 0));
     }
     for (index, (line, row)) in lines.iter().zip(rows).enumerate() {

@@ -54,7 +54,7 @@ fn the_example() {
 #[test]
 fn refused_files_print_one_line() {
     let right = text_of(&LISTING);
-    assert_eq!(text(b""), "     1     0\n");
+    assert_eq!(text(&right[..1]), "     1     0\n");
     assert_eq!(text(&right[..72]), "     1     0\n");
     let changed = |place: usize, byte: u8| {
         let mut file = right.clone();
@@ -69,6 +69,14 @@ fn refused_files_print_one_line() {
     assert_eq!(changed(field(14, 5), b'0'), "     4    14\n");
     assert_eq!(changed(field(13, 9), b'3'), "     6    15\n");
     assert_eq!(changed(field(13, 10), b'5'), "     7    10\n");
+}
+
+/// Its one thread comes to its end.
+#[test]
+fn a_file_without_bytes() {
+    let expected = "     1     0     0     0     0    -1\n     1     1    -1     0     0\n";
+    assert_eq!(text(b""), format!("{HEADING}{expected}"));
+    replay(b"", &rows(&text(b"")), "no bytes");
 }
 
 /// A definition that calls itself goes on for ever.

@@ -1,14 +1,12 @@
 //! The reference's writer against texts worked out by hand.
 
-use generate::{padded, table_of, valid, Random, Row, Size};
+use generate::{padded, table_of, valid, Random, Row, Size, SMALLEST};
 use interface::Written;
-use reference::{write, LINE_BYTES, MOST_LINES, TABLE_BYTES};
+use reference::{answer, write, LINE_BYTES, MOST_LINES, TABLE_BYTES};
 
 /// What a buffer has before a write, a byte that no text has.
 const BEFORE: u8 = 0xa5;
 
-/// One definition, whose only node is an end.
-const SMALLEST: [&[i16]; 3] = [&[1, 0, 1, 0, 1], &[3, 0, 0, 1], &[5]];
 const SMALLEST_TEXT: &str = "     1     0     1     0     1     0     0     0     0     0     0     0
      3     0     0     1     0     0     0     0     0     0     0     0
      5     0     0     0     0     0     0     0     0     0     0     0
@@ -62,6 +60,17 @@ fn small_files() {
         for more in [0, 1, 72, 73, 74, 1_000, 100_000] {
             check_written(&table(rows), text.len() + more, text.as_bytes());
         }
+    }
+}
+
+/// It loads as the smallest file does, and so is not restored.
+#[test]
+fn a_file_without_bytes() {
+    for file in [&b""[..], SMALLEST_TEXT.as_bytes()] {
+        let mut loaded = vec![BEFORE; TABLE_BYTES];
+        assert_eq!(answer(file, &mut loaded), (0, 0));
+        assert!(loaded == table(&SMALLEST));
+        check_written(&loaded, 219, SMALLEST_TEXT.as_bytes());
     }
 }
 

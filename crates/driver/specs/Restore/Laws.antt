@@ -12,19 +12,17 @@ use lib.IntN.{ℤ, pos, negsuc}
 use mir.Syntax.{w32, w8}
 use mir.Val.{Fits, SFits, toZ, ofZ}
 use mir.Facts.{toZ-ofZ}
-use borrow.Author.Tests.{eqb-true, eq-eqb, ne-eqb}
+use borrow.Author.Tests.{eqb-true, eq-eqb}
 use Rattle.numbers.specs.Bytes.Laws.{bytes-fit}
 use Rattle.numbers.specs.Search.Laws.{caseB, contra}
 use Rattle.text.specs.Text.{lineLength}
 use Rattle.table.specs.Table.{tableOf, lineTotal}
-use Rattle.loader.specs.Verdict.{verdict}
-use Rattle.loader.specs.Load.{tableLength, loaded, afterVerdict, refusalNumber, lineNumber}
-use Rattle.loader.specs.declared.Verdict.the-variants.{Sound}
-use Rattle.interface.specs.Interface.{LoadResult, loadedTo, numbered, loadResult, WriteResult, writeResult}
+use Rattle.loader.specs.Load.{tableLength}
+use Rattle.interface.specs.Interface.{LoadResult, loadedTo, loadResult, WriteResult, writeResult}
 use Rattle.interface.specs.declared.LoadAnswer.{LoadAnswer}
 use Rattle.interface.specs.declared.WriteAnswer.{WriteAnswer}
 use Rattle.guarantee.specs.InNumbers.{isZero}
-use Rattle.guarantee.specs.Exported.{load-zero-iff}
+use Rattle.guarantee.specs.Exported.{load-eight}
 use Rattle.guarantee.specs.WriteInNumbers.{LoadsTo, WriteInNumbers, write-in-numbers}
 use Rattle.driver.specs.Restore.{restoredTo, restored}
 
@@ -70,13 +68,9 @@ module _ (t b b₁ : List ℕ) (r : WriteAnswer) (e : _≡_ {A = WriteResult} (r
     long = caseB (eqb (length t) tableLength) (eqb-true (length t) tableLength)
         (λ n. let q : pos 8 ≡ pos 0 = sym (held .eight .1 (λ h. contra (eq-eqb (length t) tableLength h) n)) ∙ done in let k : _≡_ {A = ℕ} 8 0 = cc in absurd (omega arith))
 
-    in-order : verdict (take v b₁) ≡ Sound
-    in-order = load-zero-iff (take v b₁) t .0 (ap (λ (o : LoadResult). o .answer .refusal) (file-of .1 t long)) .0
-
     -- a buffer that has not a table's length refuses them
     not-loaded : (u : List ℕ) → length u ≢ tableLength → loadResult (take v b₁) u ≡ loadedTo (record { refusal = pos 8; line = pos 0 }) u
-    unfolding loadResult numbered loaded afterVerdict refusalNumber lineNumber
-    not-loaded u n = rw (in-order, ne-eqb (length u) tableLength n)
+    not-loaded u n = load-eight (take v b₁) t u (ap (λ (o : LoadResult). o .answer .refusal) (file-of .1 t long)) n
 
     pub load-answered : (u u₁ : List ℕ) (a : LoadAnswer) → SFits w32 (a .refusal)
         → _≡_ {A = LoadResult} (record { answer = a; table = u₁ }) (loadResult (take (v - 0) (drop 0 b₁)) u) → restoredTo (toZ w32 (ofZ w32 (a .refusal))) b₁ u₁ ≡ restored t b u

@@ -18,6 +18,7 @@ use Rattle.numbers.specs.Tests.{clash}
 use Rattle.table.specs.Table.{Table, tableOf}
 use Rattle.table.specs.Index.{Indexed}
 use Rattle.file.specs.File.{fileTable}
+use Rattle.file.specs.EmptyFile.{procedureText}
 use Rattle.loader.specs.Verdict.{groundNumber, verdict}
 use Rattle.loader.specs.Load.{tableLength, Outcome, outcome, afterVerdict, loaded, accepted}
 use Rattle.loader.specs.declared.Ground.{Ground}
@@ -145,11 +146,11 @@ module _ (tb : Table) where
 -- no listing is longer
 pub listing-short : (file : List ℕ) → length (listing file) ≤ longest
 unfolding listing listingBy
-listing-short file = go (verdict file)
+listing-short file = go (verdict (procedureText file))
   where
-    go : (v : Verdict) → length (listingBy v file) ≤ longest
+    go : (v : Verdict) → length (listingBy v (procedureText file)) ≤ longest
     go (Fault g l) = omega (arith, length-line (groundNumber g ∷ l ∷ []))
-    go Sound = run-short (fileTable file)
+    go Sound = run-short (fileTable (procedureText file))
 
 -- ---- the buffer o before, and o₁ with the listing laid at its front, r characters
 
@@ -169,8 +170,11 @@ module _ (file o o₁ : List ℕ) (r : ℕ) (long : length o ≡ longest) (vs : 
 -- ---- a file
 
 module _ (file b : List ℕ) where
+  abbrev text : List ℕ
+  text = procedureText file
+
   -- what a verdict is answered with, seen from the answer
-  refused-by : (v : Verdict) (g : Ground) (l : ℕ) → afterVerdict v file b .answer ≡ FileRefused g l → listingBy v file ≡ line (groundNumber g ∷ l ∷ [])
+  refused-by : (v : Verdict) (g : Ground) (l : ℕ) → afterVerdict v text b .answer ≡ FileRefused g l → listingBy v text ≡ line (groundNumber g ∷ l ∷ [])
   unfolding afterVerdict listingBy
   refused-by (Fault h k) g l e =
       let p : h ≡ g = cc in
@@ -181,32 +185,32 @@ module _ (file b : List ℕ) where
       (λ y. clash (let z : _≡_ {A = Loaded} Done (FileRefused g l) = rw y at e in cc))
       (λ y. clash (let z : _≡_ {A = Loaded} WrongLength (FileRefused g l) = rw y at e in cc))
 
-  long-enough : length b ≡ tableLength → (v : Verdict) → afterVerdict v file b .answer ≡ WrongLength → ⊥
+  long-enough : length b ≡ tableLength → (v : Verdict) → afterVerdict v text b .answer ≡ WrongLength → ⊥
   unfolding afterVerdict
   long-enough h (Fault g l) e = clash cc
   long-enough h Sound e = clash (let z : _≡_ {A = Loaded} Done WrongLength = rw (eq-eqb (length b) tableLength h) at e in cc)
 
   -- a: what loading answers, b₁: what it leaves in the table's buffer, b before
   module _ (b₁ : List ℕ) (a : Loaded) (e : outcome a b₁ ≡ loaded file b) where
-    answer : (x : Loaded) → a ≡ x → afterVerdict (verdict file) file b .answer ≡ x
+    answer : (x : Loaded) → a ≡ x → afterVerdict (verdict text) text b .answer ≡ x
     unfolding loaded
     answer x h = sym (ap (λ (o : Outcome). o .answer) e) ∙ h
 
     pub length-never : length b ≡ tableLength → a ≡ WrongLength → ⊥
-    length-never h k = long-enough h (verdict file) (answer WrongLength k)
+    length-never h k = long-enough h (verdict text) (answer WrongLength k)
 
     pub done-accepted : a ≡ Done → accepted b₁ ≡ true
-    done-accepted h = let (v, q) = done-sound file b b₁ (rw h at (sym e)) in rw (← q) (file-accepted file v)
+    done-accepted h = let (v, q) = done-sound file b b₁ (rw h at (sym e)) in rw (← q) (file-accepted text v)
 
     done-lists : a ≡ Done → runLines (tableOf b₁) ≡ listing file
     unfolding listing listingBy
     done-lists h =
         let d = done-sound file b b₁ (rw h at (sym e)) in
-        rw (d .0, ← bytes-hold (fileTable file) (file-shaped file), d .1)
+        rw (d .0, ← bytes-hold (fileTable text) (file-shaped text), d .1)
 
     refused-lists : (g : Ground) (l : ℕ) → a ≡ FileRefused g l → line (groundNumber g ∷ l ∷ []) ≡ listing file
     unfolding listing
-    refused-lists g l h = sym (refused-by (verdict file) g l (answer (FileRefused g l) h))
+    refused-lists g l h = sym (refused-by (verdict text) g l (answer (FileRefused g l) h))
 
     -- o: the buffer before, o₁: with the listing laid at its front, r: the length of the listing
     module _ (o o₁ : List ℕ) (r : ℕ) (long : length o ≡ longest) where

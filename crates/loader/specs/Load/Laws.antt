@@ -2,7 +2,8 @@
 use Prim.Native.Nat.{ℕ, _+_, _*_, _≤_, _<_}
 use native.Mathlib.Omega.{arith}
 use native.Mathlib.Numerals.{add-one}
-use mathlib.Core.Path.{_≡_, sym, _∙_}
+use mathlib.Core.Path.{_≡_, refl, sym, _∙_}
+use mathlib.Core.Logic.{_≢_}
 use mathlib.Core.List.{List}
 use lib.ListN.{length, getD, set, take, replicate, length-replicate}
 use lib.Seq.{ext-getD, take-suc, take-suc-set, take-all}
@@ -15,7 +16,11 @@ use Rattle.numbers.specs.Laid.{laid}
 use Rattle.numbers.specs.Laid.Laws.{laid-none, zeros-at}
 use Rattle.table.specs.Table.{maxRows, rowNumbers, tableNumbers, tableLength, tableOf}
 use Rattle.file.specs.File.{fileTable}
+use Rattle.file.specs.File.Computing.{reading}
+use Rattle.file.specs.EmptyFile.{endingRows, endingText, procedureText}
+use Rattle.file.specs.EmptyFile.Laws.{text-none, text-own}
 use Rattle.loader.specs.Verdict.{verdict}
+use Rattle.loader.specs.Verdict.Computing.{judging}
 use Rattle.loader.specs.Load.{tableBytes, outcome, afterVerdict, loaded}
 use Rattle.loader.specs.declared.Ground.{Ground}
 use Rattle.loader.specs.declared.Verdict.{Verdict}
@@ -31,8 +36,11 @@ shorts-zero n =
     (λ i h. sym (short-is b i 0 (rw (zeros-at (n * 2) (i * 2), zeros-at (n * 2) (i * 2 + 1))) (omega (arith, length-replicate {A = ℕ} (n * 2) 0)))
     ∙ sym (zeros-at n i))
 
+pub zero-numbers : (b : List ℕ) → b ≡ replicate tableLength 0 → shorts b ≡ replicate tableNumbers 0
+zero-numbers b e = rw e (shorts-zero tableNumbers)
+
 pub table-zero : (b : List ℕ) (f : ℕ → ℕ) → b ≡ replicate tableLength 0 → shorts b ≡ laid f 0 tableNumbers
-table-zero b f e = rw e (shorts-zero tableNumbers ∙ sym (laid-none f tableNumbers))
+table-zero b f e = zero-numbers b e ∙ sym (laid-none f tableNumbers)
 
 pub table-kept : (b b′ : List ℕ) → b ≡ replicate tableLength 0 → length b′ ≡ length b → length b′ ≡ tableLength
 table-kept b b′ e h = h ∙ rw e (length-replicate {A = ℕ} tableLength 0)
@@ -54,9 +62,31 @@ module _ (from to : List ℕ) (i : ℕ) (long : length to ≡ length from) (e : 
   pub copy-all : length from ≤ i → to ≡ from
   copy-all h = sym (take-all i to (omega arith)) ∙ e ∙ take-all i from h
 
+-- ---- the text for which a file stands: the verdict v on it, and the buffer b to which its numbers were read
+
+-- the lines of the procedure that ends are in order
+pub ending-sound : verdict endingText ≡ Sound
+unfolding judging reading endingRows verdict
+ending-sound = refl
+
+module _ (file : List ℕ) where
+  module _ (h : length file ≡ 0) where
+    pub none-sound : Sound ≡ verdict (procedureText file)
+    none-sound = rw (text-none file h, ending-sound)
+
+    pub none-table : (b : List ℕ) → tableOf b ≡ fileTable endingText → tableOf b ≡ fileTable (procedureText file)
+    none-table b e = rw (text-none file h) e
+
+  module _ (h : length file ≢ 0) (v : Verdict) where
+    pub own-verdict : v ≡ verdict file → v ≡ verdict (procedureText file)
+    own-verdict e = rw (text-own file h) e
+
+    pub own-table : (b : List ℕ) → (v ≡ Sound → tableOf b ≡ fileTable file) → v ≡ Sound → tableOf b ≡ fileTable (procedureText file)
+    own-table b f e = rw (text-own file h) (f e)
+
 -- ---- the answers, and the buffer t′ that t has become, which is t itself where the load is refused
 
-module _ (file t t′ : List ℕ) (v : Verdict) (e : v ≡ verdict file) where
+module _ (file t t′ : List ℕ) (v : Verdict) (e : v ≡ verdict (procedureText file)) where
   pub load-refused : (g : Ground) (l : ℕ) → t′ ≡ t → v ≡ Fault g l → outcome (FileRefused g l) t′ ≡ loaded file t
   unfolding loaded afterVerdict
   load-refused g l a h = rw (← e, h, a)
@@ -66,7 +96,7 @@ module _ (file t t′ : List ℕ) (v : Verdict) (e : v ≡ verdict file) where
     unfolding loaded afterVerdict
     load-length a k = rw (← e, h, ne-eqb (length t) tableLength k, a)
 
-    pub load-done : (b : List ℕ) → t′ ≡ b → (v ≡ Sound → tableOf b ≡ fileTable file) → length t ≡ tableLength → length t′ ≡ length t
+    pub load-done : (b : List ℕ) → t′ ≡ b → (v ≡ Sound → tableOf b ≡ fileTable (procedureText file)) → length t ≡ tableLength → length t′ ≡ length t
         → ((i : ℕ) → Fits w8 (getD t′ i 0)) → outcome Done t′ ≡ loaded file t
     unfolding loaded afterVerdict
     load-done b a k m n f = rw (← e, h, eq-eqb (length t) tableLength m, ← k h, ← a, table-bytes t′ (n ∙ m) f)

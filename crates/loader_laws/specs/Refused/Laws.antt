@@ -18,6 +18,7 @@ use Rattle.ranges.specs.Ranges.{outOfRange}
 use Rattle.types.specs.Types.{typesDisagree}
 use Rattle.flow.specs.Flow.{readsUnwritten, unreachable}
 use Rattle.file.specs.File.{lineCount, notLines, malformed, fileTable}
+use Rattle.file.specs.EmptyFile.{procedureText}
 use Rattle.loader.specs.Verdict.{groundNumber, verdict}
 use Rattle.loader.specs.Verdict.Laws.{no-sound}
 use Rattle.loader.specs.Load.{tableLength, afterVerdict, loaded}
@@ -180,11 +181,6 @@ module _ (file : List ℕ) where
     λ f. ⊎-elim (λ e. e) (λ s. let (h, m, e) = s in absurd (f h m (refused-by h m e .0))) (either (verdict file)),
   )
 
-  -- load answers with the lowest ground, whatever the table's buffer holds
-  pub answer-iff : (t : List ℕ) (g : Ground) (l : ℕ) → (loaded file t .answer ≡ FileRefused g l) ↔ LowestOf (Refused file) g l
-  unfolding loaded
-  answer-iff t g l = let r = refused-iff g l in (λ e. r .0 (refused-answer (verdict file) t g l .0 e), λ w. refused-answer (verdict file) t g l .1 (r .1 w))
-
   -- no ground with a lower number refuses the file
   pub lowest-number : (g : Ground) (l : ℕ) → verdict file ≡ Fault g l → (h : Ground) (m : ℕ) → groundNumber h < groundNumber g → ¬ Refused file h m
   lowest-number g l e h m y = refused-by g l e .2 h m (number-rank-below h g y)
@@ -215,3 +211,11 @@ module _ (file : List ℕ) where
         let r = rowOf (fileTable file) n i in
         branch-iff (fileTable file) sound-formed n i h l .0
         (row-fine (readsUnwritten (fileTable file)) (lineCount file) r (omega (arith, total-fine (clear Total), branch-below (fileTable file) sound-formed n i h l)) (clear Unwritten (suc r))) k z) s
+
+-- load answers with the lowest ground on which the text that a file stands for is refused, and its first line, whatever the table's buffer holds
+pub answer-iff : (file t : List ℕ) (g : Ground) (l : ℕ) → (loaded file t .answer ≡ FileRefused g l) ↔ LowestOf (Refused (procedureText file)) g l
+unfolding loaded
+answer-iff file t g l =
+    let text = procedureText file in
+    let r = refused-iff text g l in
+    let a = refused-answer text (verdict text) t g l in (λ e. r .0 (a .0 e), λ w. a .1 (r .1 w))

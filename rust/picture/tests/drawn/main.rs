@@ -313,6 +313,11 @@ fn the_heading_says_what_happened() {
     assert_eq!(heading("listing.txt", 1), ["listing.txt after 1 step", "a collection leaves the thread"]);
     assert_eq!(heading("listing.txt", 100), ["listing.txt after 7 steps", "all threads have ended"]);
     assert_eq!(
+        heading("empty_slot.txt", 0),
+        ["empty_slot.txt after 0 steps", "a collection leaves the thread"]
+    );
+    assert_eq!(heading("empty_slot.txt", 100), ["empty_slot.txt after 1 step", "all threads have ended"]);
+    assert_eq!(
         heading("doubler.txt", 100),
         ["doubler.txt after 1 step", "no thread is ready; a collection leaves the thread"]
     );

@@ -5,7 +5,7 @@ use std::fs;
 use std::os::unix::fs::{symlink, PermissionsExt};
 use std::path::Path;
 
-use generate::{any_valid, table_of, text_of, valid, Random, Size};
+use generate::{any_valid, table_of, text_of, valid, written_back, Random, Size};
 use process::{example, kept};
 
 use crate::{done, folder, load, procedure, text, PROCEDURE};
@@ -40,11 +40,24 @@ fn the_examples_come_back() {
         let path = entry.expect("a file of the folder").path();
         if path.extension().is_some_and(|extension| extension == "txt") {
             load(&path, &table);
-            assert!(write(&table) == fs::read(&path).expect("an example"), "{path:?}");
+            let file = fs::read(&path).expect("an example");
+            assert!(write(&table) == *written_back(&file), "{path:?}");
             count += 1;
         }
     }
-    assert!(count >= 16, "{count} examples");
+    assert!(count >= 17, "{count} examples");
+}
+
+/// It is loaded as the smallest file, and its table can be edited as any other.
+#[test]
+fn a_file_without_bytes_comes_back_as_three_lines() {
+    let folder = folder("no-bytes");
+    let (file, table) = (kept(&folder, OsStr::new("file"), b""), folder.join("table"));
+    load(&file, &table);
+    let three = fs::read(example("first/1.txt")).expect("an example");
+    assert_eq!(write(&table), three);
+    set(&table, 3, 2, 2);
+    assert_eq!(write(&table), with(&three, 3, 2, 2));
 }
 
 #[test]

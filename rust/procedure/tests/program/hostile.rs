@@ -102,7 +102,7 @@ fn refused_files() {
     let mut range = right.clone();
     range[3 * 73 + 6 + 5] = b'9';
     let files: [(&[u8], &str); 5] = [
-        (b"", "is refused, ground 1: "),
+        (b"\n", "is refused, ground 1: "),
         (&right[..right.len() - 1], "is refused, ground 1: "),
         (&[0xff; 730], "is refused, ground 2, line 1: "),
         (&range, "is refused, ground 4, line 4: "),
@@ -133,7 +133,7 @@ fn tables_of_another_length() {
 #[test]
 fn a_table_of_zeros() {
     let zeros = kept(&folder("zeros"), OsStr::new("table"), &[0; 20_760]);
-    let message = "ground 9: no procedure file has this table; a load of its lines says ground 1: ";
+    let message = "ground 9: no procedure file has this table; a load of its lines says ground 3, line 1: ";
     expect(&["write", text(&zeros)], 1, message);
 }
 
