@@ -1,6 +1,6 @@
 -- What C sees of a file of no bytes, and of ground 1 (document 02, S-2). The theorems on the definition are in `loader_laws/specs/EmptyFile.antt`; this file says
 -- them in the numbers that C gets, and shows them. Assumes nothing.
-use Prim.Native.Nat.{ℕ}
+use Prim.Native.Nat.{ℕ, _<_}
 use native.Mathlib.Omega.{arith}
 use mathlib.Core.Path.{_≡_, refl}
 use mathlib.Core.Logic.{_≢_, _↔_}
@@ -12,11 +12,12 @@ use Rattle.file.specs.EmptyFile.{endingRows}
 use Rattle.loader.specs.Verdict.{groundNumber}
 use Rattle.loader.specs.Load.{tableLength, tableBytes, loaded, refusalNumber, lineNumber}
 use Rattle.loader.specs.declared.Ground.{Ground}
-use Rattle.loader.specs.declared.Ground.the-variants.{Lines, Field, Header, Total, Kind, Sums, Range, Types, Unwritten, Unreachable}
+use Rattle.loader.specs.declared.Ground.the-variants.{Lines, Field}
 use Rattle.loader.specs.declared.Loaded.{Loaded}
 use Rattle.loader.specs.declared.Loaded.the-variants.{Done, FileRefused, WrongLength}
 use Rattle.loader_laws.specs.PrintedFile.{filledUp}
-use Rattle.loader_laws.specs.Refused.{NotWhole}
+use Rattle.loader_laws.specs.Refused.{NotWhole, rank}
+use Rattle.loader_laws.specs.Lowest.{rank-apart, number-rank-below}
 use Rattle.loader_laws.specs.EmptyFile.{empty-loads, empty-refused, lines-iff}
 use Rattle.interface.specs.Interface.{loadedTo, numbered, loadResult}
 
@@ -33,17 +34,10 @@ module _ (t : List ℕ) where
 
 -- the number 1 is that of one answer alone
 line-ground : (g : Ground) → groundNumber g ≡ 1 → g ≡ Lines
-unfolding groundNumber
-line-ground Lines e = refl
-line-ground Field e = absurd (omega arith)
-line-ground Header e = absurd (omega arith)
-line-ground Total e = absurd (omega arith)
-line-ground Kind e = absurd (omega arith)
-line-ground Sums e = absurd (omega arith)
-line-ground Range e = absurd (omega arith)
-line-ground Types e = absurd (omega arith)
-line-ground Unwritten e = absurd (omega arith)
-line-ground Unreachable e = absurd (omega arith)
+unfolding groundNumber rank
+line-ground g e =
+    let below : rank g < 1 = number-rank-below g Field (omega arith) in
+    rank-apart g Lines (omega arith)
 
 one-answer : (a : Loaded) → pos (refusalNumber a) ≡ pos 1 → a ≡ FileRefused Lines (lineNumber a)
 unfolding refusalNumber lineNumber

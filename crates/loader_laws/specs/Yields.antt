@@ -206,7 +206,7 @@ pub done-sound : (file t b : List ℕ) → loaded file t ≡ outcome Done b → 
 unfolding loaded
 done-sound file t b e = after-done (verdict (procedureText file)) (procedureText file) t b e
 
--- and is bytes itself
+-- such a file is bytes
 pub text-bytes : (file : List ℕ) → verdict (procedureText file) ≡ Sound → Characters file
 unfolding procedureText
 text-bytes [] e = λ i. omega arith

@@ -1,4 +1,4 @@
--- For examples that compute with the text of a file.
+-- For laws and examples that compute with the text of a file.
 use Rattle.numbers.specs.Bytes.{joined}
 use Rattle.numbers.specs.Search.{computing}
 use Rattle.text.specs.Text.{figuresBy, figures, numeral, rightJustified, text, lineText, fileText, figureOf, sizeFrom, hasMinus, patternIn, same, readNumber}

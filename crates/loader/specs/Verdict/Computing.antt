@@ -1,4 +1,4 @@
--- For examples that compute with the tests of a table.
+-- For laws and examples that compute with the tests of a table.
 use Rattle.numbers.specs.Search.{computing}
 use Rattle.table.specs.Layout.{blocks, lines, branchCount, size, start, endsPast, owner}
 use Rattle.table.specs.Form.{gain, loss, within, headerInRange, kindDue, kindWrong, gainOf, lossOf, sumAgrees, sumsAgree}
