@@ -4,7 +4,8 @@
  * A bench keeps one table and one state. pithread_load writes the table of a procedure file,
  * pithread_start writes the state in which its first thread is about to begin, and the other calls
  * read the table and move the state on. Both are plain bytes: they may be copied, kept in a file
- * and handed over again. pithread_write makes the procedure file of a table again.
+ * and handed over again. pithread_write makes the procedure file of a table again, and
+ * pithread_profile tells of a table whether its threads can come to lack a thread row.
  *
  * What a caller owes. A buffer is a pointer and its length in bytes. The pointer is not null, not
  * even for a length of 0, and so many bytes behind it may be read and, unless they are const,
@@ -128,7 +129,15 @@ enum {
     /* A fault of the program that calls: 15, from pithread_write. */
 
     /* The buffer is shorter than the file that would be written. */
-    PITHREAD_SHORT_BUFFER = 15
+    PITHREAD_SHORT_BUFFER = 15,
+
+    /* The procedure does not keep to the rental-shop profile: 16 and 17, from pithread_profile. It
+     * is a right one all the same, and can be started. */
+
+    /* A call goes to a definition of a lower number, or to its own definition, which has a spawn. */
+    PITHREAD_FORBIDDEN_CALL = 16,
+    /* The thread bound of definition 0 is above 64. */
+    PITHREAD_MANY_THREADS = 17
 };
 
 /* What a step did. */
@@ -169,6 +178,12 @@ typedef struct {
     int32_t refusal; /* 0, 8, 9 or 15 */
     int32_t bytes;   /* how many bytes the file has: PITHREAD_LINE_BYTES for each of its lines */
 } pithread_written;
+
+/* The answer of pithread_profile. */
+typedef struct {
+    int32_t refusal; /* 0, 8, 9, 16 or 17 */
+    int32_t threads; /* the thread bound of definition 0, from 1 to PITHREAD_THREADS */
+} pithread_profiled;
 
 /* The answer of pithread_start. */
 typedef struct {
@@ -236,6 +251,26 @@ pithread_loaded pithread_load(const uint8_t *file, size_t file_len, uint8_t *tab
  * the buffer before is not read.
  */
 pithread_written pithread_write(const uint8_t *table, size_t table_len, uint8_t *file, size_t file_len);
+
+/*
+ * Tells before anything is started whether a procedure keeps to the rental-shop profile. If so, its
+ * threads never come to lack a row: from a start on, whatever steps, runs, gives, takes and
+ * collections are called, no step is refused on ground 13, no run ends for want of a thread row, and
+ * there are never more threads than the bound that is answered.
+ *
+ * Every call of the table has to go to a definition of a higher number, or to its own where no branch
+ * of that one is a spawn; ground 16 says that one does not, even if no thread can come to it. And the
+ * thread bound of definition 0, counted at its first node, has to be at most 64; ground 17 says that
+ * it is not. The bound says how many threads one thread can become, itself included: one at an end,
+ * and one where it calls its own definition; where it calls another, as many as at the first node
+ * there; at a choice as many as by the branch that has the most; by a branch as many as at the next
+ * node, and by a spawn those of the child's node too. Guards make no difference here: a branch counts
+ * whether its guard can be true or not.
+ *
+ * The table must have PITHREAD_TABLE_BYTES bytes and be one that pithread_load may write. It is only
+ * read.
+ */
+pithread_profiled pithread_profile(const uint8_t *table, size_t table_len);
 
 /*
  * All calls below take a table of PITHREAD_TABLE_BYTES bytes, as pithread_load wrote it, and a state

@@ -1,6 +1,6 @@
 #!/usr/bin/env bash
-# ./run --load, --set and --write: files there and back, numbers set, what is refused, the commands that docs/PROCEDURES.md gives, and
-# what is built before. The program is the one that PITHREAD_PROCEDURE names; without it, the one in tests/target.
+# ./run --load, --set, --write and --profile: files there and back, numbers set, procedures checked, what is refused, the commands that
+# docs/PROCEDURES.md gives, and what is built before. The program is the one that PITHREAD_PROCEDURE names; without it, the one in tests/target.
 set -euo pipefail
 root=$(cd "$(dirname "$0")/.." && pwd)
 source "$root/tests/counted.sh"
@@ -42,19 +42,30 @@ is_edited() {
         prints "$scratch/wanted" --write "$table"
 }
 
-# The commands of the document, in a folder with ./run and the examples: they are done, say what is shown, and leave the file whose guard
-# is gone.
+# keeps_to THREADS FILE: the file passes the check for the profile, with so many threads.
+keeps_to() {
+    echo "keeps to the rental-shop profile: never more than $1 at one time" >"$scratch/wanted"
+    prints "$scratch/wanted" --profile "$2"
+}
+
+# all_shown BEGINNING FILE: each line of the document that begins so, behind its blanks, is a line of the file.
+all_shown() {
+    sed -n "s/^    \\($1 .*\\)\$/\\1/p" docs/PROCEDURES.md >"$scratch/shown"
+    [ -s "$scratch/shown" ] && [ "$(grep -cxFf "$scratch/shown" "$2")" -eq "$(wc -l <"$scratch/shown")" ]
+}
+
+# The commands of the document, in a folder with ./run and the examples: they are done, but for a check that is shown to fail, print and say
+# what is shown, and leave the file whose guard is gone.
 document_holds() {
     local folder=$scratch/document command
     mkdir "$folder"
     ln -s "$root/run" "$root/examples" "$folder"
     sed -n 's/^    \(\.\/run --.*\)$/\1/p' docs/PROCEDURES.md >"$folder/commands"
-    [ "$(wc -l <"$folder/commands")" -ge 7 ] || return 1
+    [ "$(wc -l <"$folder/commands")" -ge 9 ] || return 1
     while read -r command; do
-        (cd "$folder" && bash -c "$command" 2>>said) || return 1
+        (cd "$folder" && bash -c "$command" >>printed 2>>said) || [[ "$command" == *" --profile "* ]] || return 1
     done <"$folder/commands"
-    sed -n 's/^    \(procedure: .*\)$/\1/p' docs/PROCEDURES.md >"$folder/shown"
-    [ "$(grep -cxFf "$folder/shown" "$folder/said")" -eq "$(wc -l <"$folder/shown")" ] || return 1
+    all_shown procedure: "$folder/said" && all_shown "keeps to" "$folder/printed" || return 1
     sed '55s/     2     2   100/     0     0     0/' examples/units.txt | cmp - "$folder/mine.txt"
 }
 
@@ -109,7 +120,10 @@ check "a file without bytes, and three lines back" comes_back examples/empty_slo
 for number in 0 -1 301 -32768 32767; do
     check "a limit of $number" is_edited "$number"
 done
-check "what docs/PROCEDURES.md says of tables" document_holds
+for line in "countdown 1 thread" "listing 2 threads" "crew 4 threads" "jobs 5 threads" "philosophers 10 threads"; do
+    check "examples/${line%% *}.txt comes to ${line#* }" keeps_to "${line#* }" "examples/${line%% *}.txt"
+done
+check "what docs/PROCEDURES.md says of tables and of the profile" document_holds
 
 sed '5s/     1/     9/' examples/doubler.txt >"$scratch/range.txt"
 head -c 20760 /dev/zero >"$scratch/zeros"
@@ -120,6 +134,12 @@ check "a file for a table" says 1 "is refused, ground 8: " --write examples/unit
 check "a number of 17 bits" says 2 "is no number from -32768 to 32767" --set "$scratch/zeros" 1 1 32768
 check "no such file" says 2 "cannot be read" --load "$scratch/none" "$table"
 check "no such table" says 2 "cannot be read" --write "$scratch/none"
+check "a call that the profile forbids" says 1 "ground 16: the profile forbids a call; line 9: " --profile examples/workers.txt
+check "too many threads" says 1 "ground 17: " --profile examples/refused/too-many-threads.txt
+check "a file that is refused has no profile" says 1 "is refused, ground 4, line 5: " --profile "$scratch/range.txt"
+check "a table has no profile" says 1 "is refused, ground 1: " --profile "$scratch/zeros"
+check "no file to check" says 2 "cannot be read" --profile "$scratch/none"
+check "two files to check" says 2 "./run --profile FILE" --profile examples/crew.txt examples/jobs.txt
 check "a word too few" says 2 "./run --set TABLE LINE FIELD NUMBER" --set "$scratch/zeros" 1 1
 check "a word too many" says 2 "./run --load FILE TABLE" --load examples/units.txt "$scratch/none" "$scratch/none"
 check "a verb alone" says 2 "./run --write TABLE" --write

@@ -1,7 +1,7 @@
 #!/usr/bin/env bash
-# Shows that the exported calls are held to the claim by their contracts. In a copy the contract of each call on a state
-# and that of the write is changed, and its body with it, so that the crate pithread is still proved: three contracts say
-# less, three say something else. The driver has nothing but these contracts, and has to be refused at each of its calls.
+# Shows that the exported calls are held to the claim by their contracts. In a copy the contract of each call on a state,
+# that of the write and that of the check for the profile is changed, and its body with it, so that the crate pithread is
+# still proved: four contracts say less, three say something else. The driver has nothing but these contracts, and has to be refused at each of its calls.
 set -euo pipefail
 root=$(cd "$(dirname "$0")/.." && pwd)
 source "$root/tests/counted.sh"
@@ -168,9 +168,15 @@ pithread-write-spec =
     (λ c. search told))
 PROOF
 
+# A check that passes every table, with one thread: the contract says nothing.
+change '
+    ensures { λ r. ⌜ r ≡ profileResult (now (table .entry)) ⌝ }' ''
+change 'interface::profile_numbers(profile::profile(table))' 'interface::profile_numbers(profile::Profiled::Passes(1))'
+rm -r "$proofs/pithread_profile"
+
 check "the driver is refused with other contracts" refused
 check "the calls themselves are proved with them" proved_there pithread
-for call in step give take run collect driver_restore; do
+for call in step give take run collect driver_restore driver_start_profiled; do
     check "it is refused at the call $call" refused_at "$call"
 done
 check "what lays the answers down is proved as before" still_proved put_answer

@@ -9,9 +9,10 @@
 #define MOST_PATH 4096
 
 const char *const example_names[] = {
-    "ackermann.txt",      "countdown.txt", "critical.txt", "doubler.txt",      "itself.txt", "largest.txt",
-    "late_sender.txt",    "listing.txt",   "lock.txt",     "philosophers.txt", "pool.txt",   "relay.txt",
-    "ring_and_chain.txt", "sieve.txt",     "units.txt",    "workers.txt",      NULL};
+    "ackermann.txt", "countdown.txt", "crew.txt",           "critical.txt", "doubler.txt", "itself.txt",
+    "jobs.txt",      "largest.txt",   "late_sender.txt",    "listing.txt",  "lock.txt",    "philosophers.txt",
+    "pool.txt",      "relay.txt",     "ring_and_chain.txt", "sieve.txt",    "units.txt",   "workers.txt",
+    NULL};
 
 whole_file example(const char *folder, const char *name) {
     char path[MOST_PATH];
@@ -69,6 +70,20 @@ whole_file largest_file(void) {
     }
     for (int definition = 0; definition < 16; definition++) {
         add_branches(&file);
+    }
+    return file;
+}
+
+whole_file ladder_file(void) {
+    whole_file file = {filled(PITHREAD_MOST_FILE_BYTES, 0), PITHREAD_LINE_BYTES};
+    memcpy(file.bytes, "     1     0     1     0   192   382     0     0     0     0     0     0\n",
+           PITHREAD_LINE_BYTES);
+    add_line(&file, 3, 0, 0, 192, 0);
+    for (int node = 0; node < 192; node++) {
+        add_line(&file, 5, node < 191, node < 191 ? 2 : 0, 0, 0);
+    }
+    for (int branch = 0; branch < 382; branch++) {
+        add_line(&file, 6, 0, 0, 0, branch / 2 + 1);
     }
     return file;
 }

@@ -18,4 +18,7 @@ whole_file example(const char *folder, const char *name);
 /* A file with every count at its limit: 865 lines. To be freed. */
 whole_file largest_file(void);
 
+/* A file of 191 choices in a row, each with two branches that lead to the next node. To be freed. */
+whole_file ladder_file(void);
+
 #endif

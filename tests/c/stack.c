@@ -1,5 +1,6 @@
 /*
- * The stack that the calls take, beside what the header says: stack FILE, with examples/units.txt.
+ * The stack that the calls take, beside what the header says: stack FILE, with examples/units.txt. The
+ * profile is that of a ladder, in which each node rests on the one behind it.
  *
  * Each call is made on a stack of its own that was painted before; it reached as far as the paint is
  * gone. Prints how many checks passed; the status is 1 if one failed.
@@ -11,8 +12,9 @@
 #include <ucontext.h>
 
 #include "checks.h"
+#include "files.h"
+#include "lines.h"
 #include "pithread.h"
-#include "read_file.h"
 
 /* The header says about 28,000 and about 12,000. */
 enum { MOST_OF_A_LOAD = 28500, MOST_OF_OTHERS = 12500 };
@@ -23,6 +25,7 @@ static whole_file file;
 static uint8_t table[PITHREAD_TABLE_BYTES];
 static uint8_t state[PITHREAD_STATE_BYTES];
 static uint8_t written[PITHREAD_MOST_FILE_BYTES];
+static uint8_t *ladder;
 
 static int32_t nothing(void) {
     return PITHREAD_DONE;
@@ -34,6 +37,10 @@ static int32_t load(void) {
 
 static int32_t write_file(void) {
     return pithread_write(table, sizeof table, written, sizeof written).refusal;
+}
+
+static int32_t profile(void) {
+    return pithread_profile(ladder, PITHREAD_TABLE_BYTES).refusal;
 }
 
 static int32_t start(void) {
@@ -106,9 +113,12 @@ int main(int count, char **words) {
     if (file.bytes == NULL) {
         return 2;
     }
+    whole_file rungs = ladder_file();
+    ladder = table_of_file("the ladder", rungs.bytes, rungs.length);
     load(); /* first once to bind what the archive uses of the C library */
     check_stack("load", load, MOST_OF_A_LOAD);
     check_stack("write", write_file, MOST_OF_OTHERS);
+    check_stack("profile", profile, MOST_OF_OTHERS);
     check_stack("start", start, MOST_OF_OTHERS);
     check_stack("step", step, MOST_OF_OTHERS);
     check_stack("run", run, MOST_OF_OTHERS);
@@ -116,5 +126,7 @@ int main(int count, char **words) {
     check_stack("take", take, MOST_OF_OTHERS);
     check_stack("collect", collect, MOST_OF_OTHERS);
     free(file.bytes);
+    free(rungs.bytes);
+    free(ladder);
     return close_checks();
 }

@@ -1,5 +1,5 @@
-// Works a whole list of calls, which lies in a buffer, by the functions that C calls, and lays their answers into another buffer; and writes a table and
-// loads it again. What this ensures follows from the contracts of those functions alone: a contract that says less, or something else, leaves it unproved.
+// Works a whole list of calls, which lies in a buffer, by the functions that C calls, and lays their answers into another buffer; writes a table and loads
+// it again; and starts a table that keeps to the rental-shop profile. What this ensures follows from the contracts of those functions alone: a contract that says less, or something else, leaves it unproved.
 ghost use mathlib.Core.Path.{_≡_};
 ghost use Prim.Native.Nat.{_<_};
 ghost use lib.ListN.{set};
@@ -9,6 +9,7 @@ ghost use Rattle.numbers.specs.Bytes.{words};
 ghost use Rattle.engine_laws.specs.Lists.{step as Step, give as Give, take as Take, run as Run};
 ghost use Rattle.guarantee.specs.Claim.{on, collect as Collect, afterAny, afterList};
 ghost use Rattle.driver.specs.Restore.{restoredTo, restored};
+ghost use Rattle.driver.specs.ProfiledStart.{begunTo, begun};
 ghost use Rattle.driver.specs.Encoding.{pattern, pattern-small, callBy, callsOf, answerTo, answersTo, wordsOf, writtenFrom};
 
 // The numbers of an answer in their order: the refusal, then those that the call has, then 0.
@@ -153,4 +154,17 @@ pub extern "C" fn driver_restore(table: &[u8], file: &mut [u8], other: &mut [u8]
     let bytes = numbers::pattern(written.bytes) as usize;
     let loaded = pithread::pithread_load(&file[0..bytes], other);
     loaded.refusal
+}
+
+// Starts a table that keeps to the profile, and no other. Answers the refusal of the check or else that of the start.
+#[no_mangle]
+pub extern "C" fn driver_start_profiled(table: &[u8], state: &mut [u8]) -> i32
+    ensures { λ r. ⌜ begunTo r (now (state .exit)) ≡ begun (now (table .entry)) (now (state .entry)) ⌝ }
+{
+    let profiled = pithread::pithread_profile(table);
+    if profiled.refusal != 0 {
+        return profiled.refusal;
+    }
+    let started = pithread::pithread_start(table, state);
+    started.refusal
 }

@@ -28,7 +28,7 @@ use Rattle.rules_laws.specs.Soundness.{Sound}
 use Rattle.rules_laws.specs.Started.{started-sound}
 use Rattle.rules_laws.specs.Lasting.{course-kept}
 use Rattle.examples.specs.Computing.{judging}
-use Rattle.examples.specs.Tables.{listing, spawner, maker, parting, teaching, portReceiver, endOnly}
+use Rattle.examples.specs.Tables.{listing, spawner, maker, parting, teaching, portReceiver, endOnly, doublings, doublingsAndOne, callsUp, callsDown, callsItself}
 
 -- ---- rows and their file
 
@@ -130,3 +130,23 @@ receiver-in-order = refl
 pub end-in-order : inOrder endOnly ≡ true
 unfolding judging prints inOrder
 end-in-order = refl
+
+pub doublings-in-order : inOrder doublings ≡ true
+unfolding judging prints inOrder
+doublings-in-order = refl
+
+pub one-more-in-order : inOrder doublingsAndOne ≡ true
+unfolding judging prints inOrder
+one-more-in-order = refl
+
+pub calls-up-in-order : inOrder callsUp ≡ true
+unfolding judging prints inOrder
+calls-up-in-order = refl
+
+pub calls-down-in-order : inOrder callsDown ≡ true
+unfolding judging prints inOrder
+calls-down-in-order = refl
+
+pub calls-itself-in-order : inOrder callsItself ≡ true
+unfolding judging prints inOrder
+calls-itself-in-order = refl

@@ -116,6 +116,32 @@ teaching =
     ∷ choice 1 ∷ choice 1 ∷ choice 1 ∷ choice 1 ∷ choice 1 ∷ ending
     ∷ new 0 1 ∷ spawn 4 2 ∷ new 1 3 ∷ send 0 1 5 ∷ receive 0 1 5 ∷ []
 
+-- ---- the rental-shop profile
+
+-- no slots. Nodes: 0 to 5 spawns, of which the child goes on as its parent does, 6 end
+abbrev pub doublings : Table
+doublings =
+    header 0 1 0 7 6 0 ∷ definition 0 0 7 ∷ choice 1 ∷ choice 1 ∷ choice 1 ∷ choice 1 ∷ choice 1 ∷ choice 1 ∷ ending
+    ∷ spawn 1 1 ∷ spawn 2 2 ∷ spawn 3 3 ∷ spawn 4 4 ∷ spawn 5 5 ∷ spawn 6 6 ∷ []
+
+-- the same, with one spawn more, before its nodes, of which the child ends at once
+abbrev pub doublingsAndOne : Table
+doublingsAndOne =
+    header 0 1 0 8 7 0 ∷ definition 0 0 8 ∷ choice 1 ∷ choice 1 ∷ choice 1 ∷ choice 1 ∷ choice 1 ∷ choice 1 ∷ choice 1 ∷ ending
+    ∷ spawn 7 1 ∷ spawn 2 2 ∷ spawn 3 3 ∷ spawn 4 4 ∷ spawn 5 5 ∷ spawn 6 6 ∷ spawn 7 7 ∷ []
+
+-- two definitions without slots: the first calls the second, which has a spawn in front of its end
+abbrev pub callsUp : Table
+callsUp = header 0 2 0 3 1 0 ∷ definition 0 0 1 ∷ definition 0 0 2 ∷ call 1 0 0 ∷ choice 1 ∷ ending ∷ spawn 1 1 ∷ []
+
+-- two definitions without slots: the first ends, and the second, which nobody calls, calls it
+abbrev pub callsDown : Table
+callsDown = header 0 2 0 2 0 0 ∷ definition 0 0 1 ∷ definition 0 0 1 ∷ ending ∷ call 0 0 0 ∷ []
+
+-- one definition without slots. Nodes: 0 spawn, of which the child ends, 1 a call of the definition by itself, 2 end
+abbrev pub callsItself : Table
+callsItself = header 0 1 0 3 1 0 ∷ definition 0 0 3 ∷ choice 1 ∷ call 0 0 0 ∷ ending ∷ spawn 2 1 ∷ []
+
 -- not in order: one port, and no parameter for it
 abbrev pub portless : Table
 portless = header 1 1 0 1 0 1 ∷ ofNumbers ∷ definition 0 0 1 ∷ ending ∷ []

@@ -188,12 +188,17 @@ module _ (r : Refusal) where
   collect-number (Collected.Done n) e = absurd (not-zero r e)
   collect-number (Collected.Refused q) e = ap (λ x. Collected.Refused x) (number-is q r e)
 
--- a call that C sees refused with 10 is one that the claim has refused with 10; so none is
+-- a call that C sees refused with the number of a ground is one that the claim has refused on that ground
+pub refused-by : (table state : List ℕ) (k : Any) (r : Refusal) → refusal table state k ≡ pos (refusalNumber r) → RefusedBy table state k r
+unfolding refusal RefusedBy RefusedWith stepResult giveResult takeResult runResult collectResult inNumbers
+refused-by table state (on (step t)) r e = step-number r (stepCall table state t .answer) e
+refused-by table state (on (give p v h)) r e =
+    give-number r (giveCall table state p v .answer) (sym (ap (λ x. giveNumbers (giveCall table state p x .answer) .refusal) (given-so v h)) ∙ e)
+refused-by table state (on (take p)) r e = take-number r (takeCall table state p .answer) e
+refused-by table state (on (run n)) r e = run-number r (runCall table state n .answer) e
+refused-by table state collect r e = collect-number r (collectCall table state .answer) e
+
+-- so with 10; and so none is
 pub refused-so : (table state : List ℕ) (k : Any) → refusal table state k ≡ pos 10 → RefusedBy table state k Ground.State
-unfolding refusal RefusedBy RefusedWith stepResult giveResult takeResult runResult collectResult inNumbers refusalNumber
-refused-so table state (on (step t)) e = step-number Ground.State (stepCall table state t .answer) e
-refused-so table state (on (give p v h)) e =
-    give-number Ground.State (giveCall table state p v .answer) (sym (ap (λ x. giveNumbers (giveCall table state p x .answer) .refusal) (given-so v h)) ∙ e)
-refused-so table state (on (take p)) e = take-number Ground.State (takeCall table state p .answer) e
-refused-so table state (on (run n)) e = run-number Ground.State (runCall table state n .answer) e
-refused-so table state collect e = collect-number Ground.State (collectCall table state .answer) e
+unfolding refusalNumber
+refused-so table state k = refused-by table state k Ground.State

@@ -69,8 +69,8 @@ one-is NoneReady e = refl
 one-is (LackedThread t) e = clash cc
 one-is (LackedChannel t) e = clash cc
 
-two-is : (r : Reason) → number r ≡ pos 2 → (t : ℕ) × (r ≡ LackedThread t)
-unfolding number reasonNumber
+pub two-is : (r : Reason) → toZ w32 (reasonNumber r) ≡ pos 2 → (t : ℕ) × (r ≡ LackedThread t)
+unfolding reasonNumber
 two-is AllDone e = clash cc
 two-is NoneReady e = clash cc
 two-is (LackedThread t) e = (t, refl)

@@ -6,6 +6,7 @@ pub mod OfMoves
 pub mod OfCollection
 pub mod OfBuffers
 pub mod OfWriting
+pub mod OfProfile
 pub mod OfReasons
 pub mod OfGuarantee
 pub mod OfTurns

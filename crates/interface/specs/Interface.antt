@@ -8,6 +8,9 @@ use Rattle.loader.specs.Load as Load
 use Rattle.loader.specs.Load.{loaded, refusalNumber, lineNumber}
 use Rattle.writer.specs.Write as Write
 use Rattle.writer.specs.Write.{writeCall}
+use Rattle.profile.specs.Profile as Profile
+use Rattle.profile.specs.Profile.{profileCall}
+use Rattle.profile.specs.declared.Profiled.{Profiled}
 use Rattle.state.specs.State.{minusOne}
 use Rattle.rules.specs.Calls.{Outcome, startCall, stepCall, giveCall, takeCall, runCall}
 use Rattle.rules.specs.declared.Started.{Started}
@@ -26,6 +29,7 @@ use Rattle.collector.specs.declared.Collected.{Collected}
 use Rattle.collector.specs.declared.Collected.the-variants as Collected
 use Rattle.interface.specs.declared.LoadAnswer.{LoadAnswer}
 use Rattle.interface.specs.declared.WriteAnswer.{WriteAnswer}
+use Rattle.interface.specs.declared.ProfileAnswer.{ProfileAnswer}
 use Rattle.interface.specs.declared.StartAnswer.{StartAnswer}
 use Rattle.interface.specs.declared.StepAnswer.{StepAnswer}
 use Rattle.interface.specs.declared.GiveAnswer.{GiveAnswer}
@@ -60,6 +64,16 @@ writtenNumbers o = writtenTo (record { refusal = pos (Write.refusalNumber (o .an
 
 unfoldable pub writeResult : List ℕ → List ℕ → WriteResult
 writeResult table b = writtenNumbers (writeCall table b)
+
+-- the answer of the check of a table, which leaves every buffer as it is
+unfoldable pub profileFields : ℕ → ℕ → ProfileAnswer
+profileFields refusal threads = record { refusal = toZ w32 refusal; threads = toZ w32 threads }
+
+unfoldable pub profileNumbers : Profiled → ProfileAnswer
+profileNumbers a = profileFields (Profile.refusalNumber a) (Profile.threadsNumber a)
+
+unfoldable pub profileResult : List ℕ → ProfileAnswer
+profileResult table = profileNumbers (profileCall table)
 
 -- ---- the calls on a state: the answer, and the bytes of the state's buffer
 pub record StateResult (A : Type 0) : Type 0 where

@@ -5,12 +5,15 @@ ghost use Prim.Native.Nat.{_≤_};
 ghost use Rattle.loader.specs.Verdict.{groundNumber};
 ghost use Rattle.loader.specs.Load.{refusalNumber, lineNumber};
 ghost use Rattle.writer.specs.Write as Write;
+ghost use Rattle.profile.specs.Profile as Profile;
 ghost use Rattle.engine.specs.Numbers as Numbers;
+ghost use Rattle.interface.specs.Interface.{profileFields, profileNumbers};
 ghost use Rattle.interface.specs.Interface.{startFields, startNumbers, stepFields, stepNumbers, giveFields, giveNumbers};
 ghost use Rattle.interface.specs.Interface.{takeFields, takeNumbers, runFields, runNumbers, collectFields, collectNumbers};
 use collector::Collected;
 use loader::Ground;
 use loader::Loaded;
+use profile::Profiled;
 use rules::Deed;
 use rules::Given;
 use rules::Ran;
@@ -180,6 +183,39 @@ pub fn bytes_number(answer: Written) -> usize
     }
 }
 
+// The answer of the check of a table: the refusal, 0 for none, and the threads, 0 where the call was refused.
+#[repr(C)]
+pub struct ProfileAnswer {
+    pub refusal: i32,
+    pub threads: i32,
+}
+
+// The refusal of the check of a table, 0 for none.
+pub fn profile_refusal(answer: Profiled) -> u32
+    ensures { λ r. ⌜ r ≡ Profile.refusalNumber answer ⌝ }
+{
+    match answer {
+        Profiled::Passes(_) => 0,
+        Profiled::WrongLength => 8,
+        Profiled::WrongTable => 9,
+        Profiled::ForbiddenCall => 16,
+        Profiled::ManyThreads => 17,
+    }
+}
+
+// The threads that the procedure of a table can come to have, 0 where it does not pass.
+pub fn threads_number(answer: Profiled) -> u32
+    ensures { λ r. ⌜ r ≡ Profile.threadsNumber answer ⌝ }
+{
+    match answer {
+        Profiled::Passes(threads) => threads,
+        Profiled::WrongLength => 0,
+        Profiled::WrongTable => 0,
+        Profiled::ForbiddenCall => 0,
+        Profiled::ManyThreads => 0,
+    }
+}
+
 // The answers of the calls on a state. Each has the refusal, 0 for none, and then what was done, 0 where the call was refused.
 #[repr(C)]
 pub struct StartAnswer {
@@ -222,7 +258,16 @@ pub struct CollectAnswer {
     pub threads: i32,
 }
 
-// The functions `start_fields` to `collect_fields` make an answer of the patterns of its numbers.
+// The functions `profile_fields` to `collect_fields` make an answer of the patterns of its numbers.
+fn profile_fields(refusal: u32, threads: u32) -> ProfileAnswer
+    ensures { λ r. ⌜ r ≡ profileFields refusal threads ⌝ }
+{
+    ProfileAnswer {
+        refusal: numbers::signed(refusal),
+        threads: numbers::signed(threads),
+    }
+}
+
 fn start_fields(refusal: u32) -> StartAnswer
     ensures { λ r. ⌜ r ≡ startFields refusal ⌝ }
 {
@@ -282,7 +327,13 @@ fn collect_fields(refusal: u32, threads: u32) -> CollectAnswer
     }
 }
 
-// The functions `start_numbers` to `collect_numbers` give the answer of a call in the numbers of document 01.
+// The functions `profile_numbers` to `collect_numbers` give the answer of a call in the numbers of documents 01 and 02.
+pub fn profile_numbers(answer: Profiled) -> ProfileAnswer
+    ensures { λ r. ⌜ r ≡ profileNumbers answer ⌝ }
+{
+    profile_fields(profile_refusal(answer), threads_number(answer))
+}
+
 pub fn start_numbers(answer: Started) -> StartAnswer
     ensures { λ r. ⌜ r ≡ startNumbers answer ⌝ }
 {

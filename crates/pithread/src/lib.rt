@@ -1,11 +1,12 @@
 // The calls that C makes. Numbers and byte buffers go in, numbers come back. Each call makes that of the layer below, and gives its answer in the numbers of
 // document 01.
 ghost use mathlib.Core.Path.{_≡_};
-ghost use Rattle.interface.specs.Interface.{loadedTo, loadResult, writtenTo, writeResult, result};
+ghost use Rattle.interface.specs.Interface.{loadedTo, loadResult, writtenTo, writeResult, profileResult, result};
 ghost use Rattle.interface.specs.Interface.{startResult, stepResult, giveResult, takeResult, runResult, collectResult};
 use interface::CollectAnswer;
 use interface::GiveAnswer;
 use interface::LoadAnswer;
+use interface::ProfileAnswer;
 use interface::RunAnswer;
 use interface::StartAnswer;
 use interface::StepAnswer;
@@ -36,6 +37,13 @@ pub extern "C" fn pithread_write(table: &[u8], file: &mut [u8]) -> WriteAnswer
         refusal: refusal as i32,
         bytes: bytes as i32,
     }
+}
+
+#[no_mangle]
+pub extern "C" fn pithread_profile(table: &[u8]) -> ProfileAnswer
+    ensures { λ r. ⌜ r ≡ profileResult (now (table .entry)) ⌝ }
+{
+    interface::profile_numbers(profile::profile(table))
 }
 
 #[no_mangle]

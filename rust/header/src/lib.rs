@@ -116,6 +116,10 @@ numbers! {
     NO_CHANNEL_ROW: i32 = 14;
     /// The buffer is shorter than the file that would be written.
     SHORT_BUFFER: i32 = 15;
+    /// A call goes to a definition of a lower number, or to its own definition, which has a spawn.
+    FORBIDDEN_CALL: i32 = 16;
+    /// The thread bound of definition 0 is above the number of thread rows.
+    MANY_THREADS: i32 = 17;
 
     /// A step: the thread came to its end.
     ENDED: i32 = 0;
@@ -154,6 +158,14 @@ answers! {
         refusal,
         /// How many bytes the file has: [`LINE_BYTES`] for each of its lines.
         bytes,
+    }
+
+    /// The answer of a check for the rental-shop profile.
+    Profiled {
+        /// 0, 8, 9, 16 or 17.
+        refusal,
+        /// The thread bound of definition 0, from 1 to [`THREADS`].
+        threads,
     }
 
     /// The answer of a start.

@@ -28,8 +28,8 @@
 //! ```
 //!
 //! [`Bench`] has buffers of the right lengths and a state that is always sound. [`Table::write`] makes the
-//! procedure file of a table again. The calls on buffers of the caller's are in [`raw`], the only module with
-//! unsafe code.
+//! procedure file of a table again, and [`Table::profile`] tells whether its threads can come to lack a
+//! thread row. The calls on buffers of the caller's are in [`raw`], the only module with unsafe code.
 
 mod bench;
 pub mod raw;

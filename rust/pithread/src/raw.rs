@@ -15,12 +15,13 @@
 
 #![allow(unsafe_code)]
 
-pub use pithread_header::{Collected, Given, Loaded, Ran, Started, Stepped, Taken, Written};
+pub use pithread_header::{Collected, Given, Loaded, Profiled, Ran, Started, Stepped, Taken, Written};
 
 #[link(name = "pithread", kind = "static")]
 extern "C" {
     fn pithread_load(file: *const u8, file_len: usize, table: *mut u8, table_len: usize) -> Loaded;
     fn pithread_write(table: *const u8, table_len: usize, file: *mut u8, file_len: usize) -> Written;
+    fn pithread_profile(table: *const u8, table_len: usize) -> Profiled;
     fn pithread_start(table: *const u8, table_len: usize, state: *mut u8, state_len: usize) -> Started;
     fn pithread_step(
         table: *const u8,
@@ -75,6 +76,23 @@ pub fn load(file: &[u8], table: &mut [u8]) -> Loaded {
 /// ```
 pub fn write(table: &[u8], file: &mut [u8]) -> Written {
     unsafe { pithread_write(table.as_ptr(), table.len(), file.as_mut_ptr(), file.len()) }
+}
+
+/// Tells whether a procedure keeps to the rental-shop profile, and the most threads that it can come to have.
+///
+/// ```
+/// use pithread::{raw, Table};
+///
+/// let table = Table::load(&std::fs::read("../../examples/listing.txt")?)?; // one spawn
+/// let profiled = raw::profile(table.as_bytes());
+/// assert_eq!((profiled.refusal, profiled.threads), (0, 2));
+///
+/// let refused = raw::profile(&table.as_bytes()[1..]);
+/// assert_eq!((refused.refusal, refused.threads), (8, 0));
+/// # Ok::<(), Box<dyn std::error::Error>>(())
+/// ```
+pub fn profile(table: &[u8]) -> Profiled {
+    unsafe { pithread_profile(table.as_ptr(), table.len()) }
 }
 
 /// Writes the state in which thread 0 stands ready at the first node.

@@ -4,8 +4,8 @@ use std::error::Error;
 use std::fmt;
 
 use pithread_header::{
-    BUFFER_LENGTH, COUNTS, DONE, FIELD, FILE_LENGTH, NO_CHANNEL_ROW, NO_THREAD_ROW, PORT, RANGE, READ,
-    SHORT_BUFFER, STATE, TABLE, THREAD, TYPES, UNREACHABLE,
+    BUFFER_LENGTH, COUNTS, DONE, FIELD, FILE_LENGTH, FORBIDDEN_CALL, MANY_THREADS, NO_CHANNEL_ROW,
+    NO_THREAD_ROW, PORT, RANGE, READ, SHORT_BUFFER, STATE, TABLE, THREAD, TYPES, UNREACHABLE,
 };
 
 /// The ground on which a call was refused. Nothing has changed then.
@@ -71,6 +71,10 @@ pub enum Refusal {
     NoChannelRow,
     /// 15: the buffer is shorter than the file that would be written.
     ShortBuffer,
+    /// 16: a call goes to a definition of a lower number, or to its own definition, which has a spawn.
+    ForbiddenCall,
+    /// 17: the thread bound of definition 0 is above the number of thread rows.
+    ManyThreads,
 }
 
 impl Refusal {
@@ -94,11 +98,13 @@ impl Refusal {
             NO_THREAD_ROW => Refusal::NoThreadRow,
             NO_CHANNEL_ROW => Refusal::NoChannelRow,
             SHORT_BUFFER => Refusal::ShortBuffer,
-            _ => unreachable!("a ground is a number from 1 to 15"),
+            FORBIDDEN_CALL => Refusal::ForbiddenCall,
+            MANY_THREADS => Refusal::ManyThreads,
+            _ => unreachable!("a ground is a number from 1 to 17"),
         })
     }
 
-    /// The number of the ground, from 1 to 15.
+    /// The number of the ground, from 1 to 17.
     pub fn number(self) -> i32 {
         self.parts().0
     }
@@ -136,6 +142,8 @@ impl Refusal {
             Refusal::NoThreadRow => (NO_THREAD_ROW, None, "all thread rows are taken"),
             Refusal::NoChannelRow => (NO_CHANNEL_ROW, None, "all channel rows are taken"),
             Refusal::ShortBuffer => (SHORT_BUFFER, None, "the buffer is shorter than the file"),
+            Refusal::ForbiddenCall => (FORBIDDEN_CALL, None, "the profile forbids a call"),
+            Refusal::ManyThreads => (MANY_THREADS, None, "there can be more threads than thread rows"),
         }
     }
 }

@@ -90,6 +90,29 @@ impl Table {
         u32::from(self.row(0)[6].unsigned_abs())
     }
 
+    /// The most threads that the procedure can come to have at one time, if it keeps to the rental-shop
+    /// profile. Then no step from a start on is refused with ground 13, whatever calls there are, and no
+    /// run ends with [`Reason::LackedThreadRow`](crate::Reason::LackedThreadRow). Refused with ground 16
+    /// for a call that the profile forbids, and with ground 17 if the threads may come to be more than
+    /// there are rows.
+    ///
+    /// ```
+    /// use pithread::{Refusal, Table};
+    ///
+    /// let ring = Table::load(&std::fs::read("../../examples/ring_and_chain.txt")?)?;
+    /// assert_eq!(ring.profile(), Ok(6));
+    ///
+    /// // It starts a thread for each number that is given, and calls itself for the next one.
+    /// let workers = Table::load(&std::fs::read("../../examples/workers.txt")?)?;
+    /// assert_eq!(workers.profile(), Err(Refusal::ForbiddenCall));
+    /// # Ok::<(), Box<dyn std::error::Error>>(())
+    /// ```
+    pub fn profile(&self) -> Result<u32, Refusal> {
+        let profiled = raw::profile(self.as_bytes());
+        Refusal::unless_done(profiled.refusal, 0)?;
+        Ok(profiled.threads.unsigned_abs())
+    }
+
     /// The procedure file of the table. It loads to this table, and the table of a file gives that file
     /// again, byte for byte; only that of a file without bytes gives one of three lines.
     ///

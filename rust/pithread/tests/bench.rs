@@ -1,5 +1,6 @@
 //! The safe layer on the files of `examples` and on small ones written here.
 
+use generate::rental::doublings;
 use pithread::{Act, Bench, Ran, Reason, Refusal, Status, Stepped, Table, Taken};
 
 fn example(name: &str) -> Vec<u8> {
@@ -142,6 +143,7 @@ fn one_of_each() -> Vec<Result<Bench, Refusal>> {
     let mut damaged = *table.as_bytes();
     damaged[0] = 2;
     let unreachable = text_of(&[&[1, 0, 1, 0, 2, 0], &[3, 0, 0, 2], &[5], &[5]]);
+    let profile = |file: &[u8]| Table::load(file).and_then(|table| table.profile()).map(|_| full.clone());
     vec![
         Bench::load(&file[..72]),
         Bench::load(&malformed),
@@ -158,6 +160,8 @@ fn one_of_each() -> Vec<Result<Bench, Refusal>> {
         full.clone().step(0).map(|_| full.clone()),
         crowded.clone().step(0).map(|_| full.clone()),
         table.write_into(&mut vec![0; file.len() - 1]).map(|_| full.clone()),
+        profile(&file),
+        profile(&doublings(7).text()),
     ]
 }
 
@@ -167,7 +171,7 @@ fn every_ground_has_its_number() {
         .into_iter()
         .map(|result| result.map_or_else(|refusal| refusal.number(), |_| 0))
         .collect();
-    assert_eq!(numbers, (1..=15).collect::<Vec<i32>>());
+    assert_eq!(numbers, (1..=17).collect::<Vec<i32>>());
 }
 
 #[test]
@@ -175,7 +179,7 @@ fn the_grounds_of_a_file_name_a_line() {
     let lines: Vec<Option<u32>> =
         one_of_each().into_iter().map(|result| result.err().and_then(Refusal::line)).collect();
     assert_eq!(lines[..7], [None, Some(3), Some(4), Some(5), Some(13), Some(20), Some(4)]);
-    assert_eq!(lines[7..], [None; 8]);
+    assert_eq!(lines[7..], [None; 10]);
 }
 
 #[test]
@@ -186,6 +190,8 @@ fn a_refusal_says_what_is_wrong() {
         "ground 4, line 5: a number is outside its range, or an unused field is not 0"
     );
     assert_eq!(Refusal::Port.to_string(), "ground 12: there is no such port");
+    assert_eq!(Refusal::ForbiddenCall.to_string(), "ground 16: the profile forbids a call");
+    assert_eq!(Refusal::ManyThreads.to_string(), "ground 17: there can be more threads than thread rows");
 }
 
 #[test]

@@ -49,5 +49,5 @@ fn calls_of_raw() -> Vec<String> {
 #[test]
 fn the_declarations_are_those_of_the_header() {
     assert_eq!(calls_of_raw(), calls_of_header());
-    assert_eq!(calls_of_raw().len(), 8);
+    assert_eq!(calls_of_raw().len(), 9);
 }

@@ -1,8 +1,8 @@
 //! The delivered archive, `libpithread.a`, in the form that all engines of the tests have.
 
 use interface::Engine;
-pub use pithread::raw::write;
 use pithread::raw::{collect, give, load, run, start, step, take};
+pub use pithread::raw::{profile, write};
 
 /// The archive's calls on a table and a state.
 pub const ENGINE: Engine = Engine { start, step, give, take, run, collect };

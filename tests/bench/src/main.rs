@@ -6,6 +6,7 @@
 mod collecting;
 mod files;
 mod loading;
+mod profiling;
 mod report;
 mod running;
 mod stepping;
@@ -18,9 +19,10 @@ fn main() {
         return;
     }
     println!("medians of samples taken in turn; speed: the archive's by the reference's;");
-    println!("times: how many times as long the write takes");
+    println!("times: how many times as long the second side takes");
     loading::report();
     writing::report();
+    profiling::report();
     running::report();
     stepping::report();
     collecting::report();

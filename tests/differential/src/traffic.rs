@@ -3,7 +3,7 @@
 use std::collections::BTreeMap;
 
 use generate::{Layout, Words, WAITING};
-use interface::{Answer, Call, Stepped, Written, BRANCH, CALLED, NOBODY};
+use interface::{Answer, Call, Profiled, Stepped, Written, BRANCH, CALLED, NOBODY};
 use reference::Fault;
 
 /// Something that was met: what it was, and a number that says more.
@@ -57,6 +57,15 @@ impl Traffic {
     pub fn add_write(&mut self, written: &Written) {
         self.calls += 1;
         self.note("write", written.refusal);
+    }
+
+    /// Counts a check for the profile with its answer.
+    pub fn add_profile(&mut self, profiled: &Profiled) {
+        self.calls += 1;
+        self.note("profile", profiled.refusal);
+        if profiled.refusal == 0 {
+            self.note("bound", profiled.threads);
+        }
     }
 
     /// Counts what a step that was done did, by the file and by the state before it.

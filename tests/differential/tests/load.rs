@@ -1,6 +1,6 @@
 //! The archive's loading against the reference, on very many files.
 
-use differential::{examples, for_seeds, Comparison, Tally};
+use differential::{examples, for_fields, for_seeds, Comparison, Tally};
 use generate::{
     any_valid, cases, damaged, padded, text_of, valid, File, Random, Size, LINE_BYTES, MOST_LINES,
 };
@@ -100,21 +100,10 @@ fn table_buffers_of_wrong_length() {
 #[test]
 fn each_field_of_small_files() {
     let mut comparison = Comparison::new(archive::answer);
-    let bases = [&cases::LISTING[..], &cases::PAIR[..]];
     let far = [i16::MIN, -300, -17, 192, 193, 256, 257, 384, 385, i16::MAX];
     let numbers: Vec<i16> = (-4..=20).chain(far).collect();
-    for base in bases {
-        let mut rows: Vec<[i16; 12]> = base.iter().map(|row| padded(row)).collect();
-        for place in 0..rows.len() * 12 {
-            let (line, field) = (place / 12, place % 12);
-            let kept = rows[line][field];
-            for number in &numbers {
-                rows[line][field] = *number;
-                let about = format!("line {}, field {}, number {number}", line + 1, field + 1);
-                comparison.compare(&text_of(&rows), &about);
-            }
-            rows[line][field] = kept;
-        }
+    for rows in [cases::LISTING.map(padded).to_vec(), cases::PAIR.map(padded).to_vec()] {
+        for_fields(&rows, &numbers, |rows, about| _ = comparison.compare(&text_of(rows), about));
     }
 }
 

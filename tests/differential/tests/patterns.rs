@@ -134,6 +134,59 @@ fn the_exercise_keeps_the_largest() {
     }
 }
 
+/// Four numbers are at work at a time, whatever is stepped, and each comes out doubled. A number below 0
+/// ends a worker.
+#[test]
+fn a_crew_of_four() {
+    for_seeds(30_500_000, 20, |random, about| {
+        let mut example = Example::start("crew.txt", about);
+        let (mut given, mut taken) = (Vec::new(), Vec::new());
+        for _ in 0..200 {
+            match random.below(6) {
+                0 => given.extend(example.give(0, given.len() as i32).map(|_| 2 * given.len() as i32)),
+                1 => taken.extend(example.take(1).map(|(number, _)| number)),
+                _ => _ = example.step_any(random),
+            }
+            assert!(example.threads() <= 4 && given.len() - taken.len() <= 4, "{about}");
+        }
+        example.run();
+        while let Some((number, _)) = example.take(1) {
+            taken.push(number);
+            example.run();
+        }
+        taken.sort_unstable();
+        assert!(taken == given && given.len() > 4, "{about}: {given:?}, {taken:?}");
+        for left in (0..4).rev() {
+            assert!(example.give(0, -1).is_some(), "{about}");
+            example.run();
+            assert_eq!(example.threads(), left, "{about}");
+        }
+    });
+}
+
+/// As many threads as the kind of the job says, and never more.
+#[test]
+fn jobs_of_two_kinds() {
+    let mut most = [0; 3];
+    for_seeds(30_600_000, 40, |random, about| {
+        let mut example = Example::start("jobs.txt", about);
+        example.run();
+        let (kind, threads) = random.pick(&[(1, 2), (2, 5), (-7, 5)]);
+        assert_eq!(example.give(0, kind), Some(0), "{about}");
+        while example.step_any(random) {
+            assert!(example.threads() <= threads, "{about}");
+        }
+        let number = if kind == 1 { 1 } else { 2 };
+        most[number] = most[number].max(example.threads());
+        for _ in 0..threads {
+            assert_eq!(example.take(1).map(|(number, _)| number), Some(number as i32), "{about}");
+            example.run();
+        }
+        assert_eq!((example.take(1), example.threads()), (None, 0), "{about}");
+    });
+    assert_eq!(most, [0, 2, 5]);
+}
+
 /// The worker whose question the bench has taken gets the answer, and no other is in between.
 #[test]
 fn critical_section() {

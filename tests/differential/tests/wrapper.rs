@@ -3,7 +3,7 @@
 use differential::for_seeds;
 use generate::{any_call, profiled, table_of, LIVELY, STILL};
 use interface::{
-    Answer, Call, Collected, Given, Ran, Stepped, Taken, ALL_STEPS, BRANCH, CALLED, ENDED,
+    Answer, Call, Collected, Given, Profiled, Ran, Stepped, Taken, ALL_STEPS, BRANCH, CALLED, ENDED,
     LACKED_CHANNEL_ROW, LACKED_THREAD_ROW, NOBODY, NONE_READY, STATE_BYTES, WAITS,
 };
 use pithread::{Act, Bench, Reason, Refusal, Table};
@@ -37,6 +37,13 @@ fn ran_numbers(ran: pithread::Ran) -> Ran {
 fn taken_numbers(taken: Option<pithread::Taken>) -> Taken {
     let (thread, number) = taken.map_or((None, 0), |taken| (Some(taken.thread), taken.number));
     Taken { refusal: 0, thread: thread_number(thread), number }
+}
+
+fn profiled_numbers(table: &Table) -> Profiled {
+    match table.profile() {
+        Ok(threads) => Profiled { refusal: 0, threads: threads as i32 },
+        Err(refusal) => Profiled { refusal: refusal.number(), threads: 0 },
+    }
 }
 
 /// Makes a call on a bench and writes its answer as numbers.
@@ -80,6 +87,7 @@ fn the_safe_layer_does_what_the_archive_does() {
             let (table, mut state) = (table_of(&file.rows), vec![0x5a; STATE_BYTES]);
             let loaded = Table::load(&file.text()).expect("the file is right");
             assert!(loaded.as_bytes()[..] == table[..], "{about}");
+            assert_eq!(profiled_numbers(&loaded), archive::profile(&table), "{about}");
             let mut bench = Bench::start(loaded).expect("never refused");
             archive::ENGINE.answer(Call::Start, &table, &mut state);
             for _ in 0..CALLS {

@@ -1,7 +1,7 @@
 //! The archive's writing against the reference, on very many tables, and there and back: what is written is
 //! loaded again, and what was loaded is written.
 
-use differential::{examples, for_seeds, Comparison, Traffic, Writes};
+use differential::{examples, for_fields, for_seeds, Comparison, Traffic, Writes};
 use generate::cases::{self, Case};
 use generate::{
     any_valid, damaged_table, padded, table_of, valid, written_back, File, Random, Row, Size, LINE_BYTES,
@@ -195,8 +195,7 @@ fn the_grounds_in_order() {
 #[test]
 fn each_length_of_the_buffer() {
     let mut trips = Trips::new();
-    for rows in [&cases::LISTING[..], &cases::PAIR[..]] {
-        let rows: Vec<Row> = rows.iter().map(|row| padded(row)).collect();
+    for rows in [cases::LISTING.map(padded).to_vec(), cases::PAIR.map(padded).to_vec()] {
         let (table, bytes) = (table_of(&rows), rows.len() * LINE_BYTES);
         for length in 0..=2 * bytes {
             trips.write_right(&table, bytes, length, "a small table");
@@ -204,22 +203,14 @@ fn each_length_of_the_buffer() {
     }
 }
 
-/// Every field of some small tables, set to every one of many numbers.
+/// Every field of some small tables, set to each of many numbers.
 #[test]
 fn each_field_of_small_tables() {
     let mut trips = Trips::new();
     let far = [i16::MIN, -300, -17, 192, 193, 256, 257, 384, 385, i16::MAX];
     let numbers: Vec<i16> = (-4..=20).chain(far).collect();
-    for rows in [&cases::LISTING[..], &cases::PAIR[..]] {
-        let mut rows: Vec<Row> = rows.iter().map(|row| padded(row)).collect();
-        for place in 0..rows.as_flattened().len() {
-            let kept = rows.as_flattened()[place];
-            for number in &numbers {
-                rows.as_flattened_mut()[place] = *number;
-                trips.write(&table_of(&rows), 2_000, &format!("number {place} is {number}"));
-            }
-            rows.as_flattened_mut()[place] = kept;
-        }
+    for rows in [cases::LISTING.map(padded).to_vec(), cases::PAIR.map(padded).to_vec()] {
+        for_fields(&rows, &numbers, |rows, about| _ = trips.write(&table_of(rows), 2_000, about));
     }
     trips.traffic.expect("write", [0], 500);
     trips.traffic.expect("write", [TABLE], 10_000);

@@ -20,9 +20,10 @@ extern "C" {
         other: *mut u8,
         other_len: usize,
     ) -> i32;
+    fn driver_start_profiled(table: *const u8, table_len: usize, state: *mut u8, state_len: usize) -> i32;
 }
 
-// SAFETY, of both calls: each pointer comes with the length of what it points to, no two of the buffers
+// SAFETY, of all calls: each pointer comes with the length of what it points to, no two of the buffers
 // overlap, and no call keeps a pointer.
 
 /// Works the calls of a list in turn on the state, and lays their answers.
@@ -54,4 +55,10 @@ pub fn restore(table: &[u8], file: &mut [u8], other: &mut [u8]) -> i32 {
             other.len(),
         )
     }
+}
+
+/// Starts a table that keeps to the rental-shop profile. Answers the refusal of the check or else that of the
+/// start.
+pub fn start_profiled(table: &[u8], state: &mut [u8]) -> i32 {
+    unsafe { driver_start_profiled(table.as_ptr(), table.len(), state.as_mut_ptr(), state.len()) }
 }

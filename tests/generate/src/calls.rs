@@ -21,6 +21,17 @@ pub fn any_call(random: &mut Random, state: &[u8], ports: usize) -> Call {
     }
 }
 
+/// A step of each ready thread, and at each port each of these numbers given and one taken.
+pub fn each_call(state: &[u8], ports: usize, numbers: &[i32]) -> Vec<Call> {
+    let ready = Words::new(state).threads(READY);
+    let mut calls: Vec<Call> = ready.iter().map(|thread| Call::Step { thread: *thread as u32 }).collect();
+    for port in 0..ports as u32 {
+        calls.extend(numbers.iter().map(|number| Call::Give { port, number: *number }));
+        calls.push(Call::Take { port });
+    }
+    calls
+}
+
 /// Mostly a ready thread, if there is one.
 fn any_thread(random: &mut Random, ready: &[usize]) -> u32 {
     let any = random.below(THREADS);

@@ -63,8 +63,7 @@ pub fn go(action: Action, next: i16) -> Row {
 }
 
 pub fn when(guard: Guard, action: Action, next: i16) -> Row {
-    let mut row = padded(&[6]);
-    row[1..4].copy_from_slice(&guard);
+    let mut row = guarded(guard, padded(&[6]));
     row[4..8].copy_from_slice(&action);
     row[8] = next;
     row
@@ -75,6 +74,12 @@ pub fn spawn(next: i16, child: i16) -> Row {
     let mut row = go([4, 0, 0, 0], next);
     row[9] = child;
     row
+}
+
+/// The branch with another guard.
+pub fn guarded(guard: Guard, mut branch: Row) -> Row {
+    branch[1..4].copy_from_slice(&guard);
+    branch
 }
 
 /// A node with one branch.

@@ -12,6 +12,7 @@ mod opening;
 pub mod procedures;
 mod profile;
 mod random;
+pub mod rental;
 mod rules;
 mod size;
 pub mod standstills;
@@ -20,7 +21,7 @@ mod tables;
 mod valid;
 mod words;
 
-pub use calls::any_call;
+pub use calls::{any_call, each_call};
 pub use damage::{damaged, damaged_rows};
 pub use file::{padded, text_of, written_back, File, Row, FIELDS, LINE_BYTES, MOST_LINES, SMALLEST};
 pub use profile::{Profile, ANY, LIVELY, STILL};

@@ -1,8 +1,8 @@
 //! Files with a purpose, written by hand.
 
 use crate::compose::{
-    below, below_constant, call, choice, compose, definition, equal, equal_to, go, minus, new, one, plus,
-    receive, send, set, spawn, when, Definition, Node, TAU,
+    below, below_constant, call, choice, compose, definition, equal, equal_to, go, guarded, minus, new, one,
+    plus, receive, send, set, spawn, when, Definition, Node, TAU,
 };
 use crate::file::{File, Row};
 
@@ -107,11 +107,6 @@ pub fn both_ways() -> File {
 /// each place is open if slot 2 has the number of the place; it is 100 at first. The branches send,
 /// receive and go ahead alone, and stand as many places further on as is asked for.
 pub fn wide(places: usize) -> File {
-    let open = |branch: Row, place: i16| {
-        let mut branch = branch;
-        branch[1..4].copy_from_slice(&equal_to(2, place));
-        branch
-    };
     let mut branches = [
         go(send(0, 3), 6),
         go(receive(0, 3), 6),
@@ -123,8 +118,8 @@ pub fn wide(places: usize) -> File {
         go(send(0, 3), 7),
     ];
     branches.rotate_right(places);
-    let branches: Vec<Row> =
-        branches.into_iter().zip(0..).map(|(branch, place)| open(branch, place)).collect();
+    let open = branches.into_iter().zip(0..).map(|(branch, place)| guarded(equal_to(2, place), branch));
+    let branches: Vec<Row> = open.collect();
     let nodes = vec![
         one(go(new(0), 1)),
         one(go(set(2, 100), 2)),

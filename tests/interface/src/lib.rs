@@ -3,10 +3,11 @@
 //! The answers and numbers are those of `include/pithread.h`.
 
 pub use pithread_header::{
-    Collected, Given, Loaded, Ran, Started, Stepped, Taken, Written, ALL_STEPS, BRANCH, BUFFER_LENGTH,
-    CALLED, CHANNELS, CHANNEL_ROWS as CHANNELS_START, CHANNEL_WORDS, ENDED, LACKED_CHANNEL_ROW,
-    LACKED_THREAD_ROW, NOBODY, NONE_READY, NO_CHANNEL_ROW, NO_THREAD_ROW, PORT, SHORT_BUFFER, SLOTS, STATE,
-    STATE_BYTES, TABLE, THREAD, THREADS, THREAD_ROWS as FRONT_WORDS, THREAD_WORDS, WAITS,
+    Collected, Given, Loaded, Profiled, Ran, Started, Stepped, Taken, Written, ALL_STEPS, BRANCH,
+    BUFFER_LENGTH, CALLED, CHANNELS, CHANNEL_ROWS as CHANNELS_START, CHANNEL_WORDS, ENDED, FORBIDDEN_CALL,
+    LACKED_CHANNEL_ROW, LACKED_THREAD_ROW, MANY_THREADS, NOBODY, NONE_READY, NO_CHANNEL_ROW, NO_THREAD_ROW,
+    PORT, SHORT_BUFFER, SLOTS, STATE, STATE_BYTES, TABLE, THREAD, THREADS, THREAD_ROWS as FRONT_WORDS,
+    THREAD_WORDS, WAITS,
 };
 
 /// A write: the table, and the buffer for its file. It has no state and is no call of an [`Engine`].

@@ -1,14 +1,15 @@
-//! A second loader, a second writer and a second engine, written apart from the proved ones and compared
-//! with them.
+//! A second loader, a second writer, a second check for the profile and a second engine, written apart from
+//! the proved ones and compared with them.
 //!
 //! A file goes through these modules in turn, and each refuses on its own grounds:
 //! `text` (1 and 2), `sections` (3), `ranges` (4), `types` (5), `paths` (6 and 7).
-//! A table goes through the same from `sections` on before `text` writes its file.
+//! A table goes through the same from `sections` on before `text` writes its file or `profile` looks at it.
 //! The calls on a table and a state, with the grounds from 8 on, are in `engine`.
 
 mod engine;
 mod operands;
 mod paths;
+mod profile;
 mod program;
 mod ranges;
 mod sections;
@@ -17,6 +18,7 @@ mod types;
 
 pub use engine::{collect, fault, give, listing, run, start, step, take, Fault, ENGINE};
 use interface::{Written, BUFFER_LENGTH, SHORT_BUFFER, TABLE};
+pub use profile::profile;
 
 /// Fields in a line, and numbers in a row of the table.
 pub const FIELDS: usize = 12;
@@ -109,13 +111,8 @@ pub fn write(table: &[u8], buffer: &mut [u8]) -> Written {
 
 /// Answers how many bytes the file has, or the ground.
 fn write_file(table: &[u8], buffer: &mut [u8]) -> Result<usize, i32> {
-    if table.len() != TABLE_BYTES {
-        return Err(BUFFER_LENGTH);
-    }
     let mut rows = no_rows();
-    if check_table(table, &mut rows).is_none() {
-        return Err(TABLE);
-    }
+    judge_table(table, &mut rows)?;
     let rows = &rows[..sections::line_total(&rows[0])];
     let room = buffer.get_mut(..rows.len() * LINE_BYTES).ok_or(SHORT_BUFFER)?;
     text::write(rows, room);
@@ -131,6 +128,14 @@ pub fn accepted(table: &[u8]) -> bool {
 struct Checked<'a> {
     program: program::Program<'a>,
     paths: paths::Paths,
+}
+
+/// Grounds 8 and 9 of a call on a table alone.
+fn judge_table<'a>(table: &[u8], rows: &'a mut Rows) -> Result<Checked<'a>, i32> {
+    if table.len() != TABLE_BYTES {
+        return Err(BUFFER_LENGTH);
+    }
+    check_table(table, rows).ok_or(TABLE)
 }
 
 /// Reads the rows in use of a table, which must have the right length, and checks them as those of

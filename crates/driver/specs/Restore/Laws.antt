@@ -26,7 +26,8 @@ use Rattle.guarantee.specs.Exported.{load-eight}
 use Rattle.guarantee.specs.WriteInNumbers.{LoadsTo, WriteInNumbers, write-in-numbers}
 use Rattle.driver.specs.Restore.{restoredTo, restored}
 
-zero-is : (z : ℤ) → isZero z ≡ true → z ≡ pos 0
+-- the one number that is zero
+pub zero-is : (z : ℤ) → isZero z ≡ true → z ≡ pos 0
 unfolding isZero
 zero-is (pos n) e = ap pos (eqb-true n 0 e)
 zero-is (negsuc n) e = contra e refl

@@ -42,7 +42,7 @@ fn expect_as_it_was(table: &Path) {
 fn wrong_words() {
     let table = units_table("words");
     let table = text(&table);
-    let wrong: [&[&str]; 13] = [
+    let wrong: [&[&str]; 16] = [
         &[],
         &["load"],
         &["load", "a"],
@@ -52,13 +52,20 @@ fn wrong_words() {
         &["set", table, "55", "4", "1", "1"],
         &["write"],
         &["write", table, table],
+        &["profile"],
+        &["profile", table, table],
+        &["Profile", table],
         &["print", table],
         &["Write", table],
         &["--write", table],
         &[table],
     ];
     for words in wrong {
-        expect(words, 2, "usage: procedure load FILE TABLE, procedure set TABLE LINE FIELD NUMBER, or");
+        expect(
+            words,
+            2,
+            "usage: procedure load FILE TABLE, procedure set TABLE LINE FIELD NUMBER, procedure",
+        );
     }
     let no_text = PROCEDURE.run(&[OsStr::from_bytes(b"write\xff"), OsStr::new(table)]);
     PROCEDURE.expect(&no_text, 2, "usage:");
@@ -90,6 +97,7 @@ fn what_cannot_be_read() {
         expect(&["load", missing, path], 2, "cannot be read: ");
         expect(&["set", missing, "1", "1", "1"], 2, "cannot be read: ");
         expect(&["write", missing], 2, "cannot be read: ");
+        expect(&["profile", missing], 2, "cannot be read: ");
     }
     expect_as_it_was(&table);
 }
@@ -111,8 +119,11 @@ fn refused_files() {
     for (bytes, message) in files {
         let file = kept(&folder, OsStr::new("file"), bytes);
         expect(&["load", text(&file), text(&table)], 1, message);
+        expect(&["profile", text(&file)], 1, message);
     }
-    expect(&["load", "/dev/zero", text(&table)], 1, "is refused, ground 1: ");
+    for words in [&["load", "/dev/zero", text(&table)][..], &["profile", "/dev/zero"]] {
+        expect(words, 1, "is refused, ground 1: ");
+    }
     expect_as_it_was(&table);
 }
 
@@ -163,7 +174,7 @@ fn a_refused_table_is_told_by_its_line() {
         let words: Vec<&str> = entry.split_whitespace().collect();
         let [name, ground, line] = words[..] else { panic!("{entry}") };
         let [ground, line] = [ground, line].map(|word| word.parse().expect("a number"));
-        if ground >= 3 {
+        if (3..=7).contains(&ground) {
             let text = fs::read_to_string(example(&format!("refused/{name}.txt"))).expect("a refused file");
             expect_refused(&folder, &rows_of(&text), ground, line, name);
             grounds.push(ground);

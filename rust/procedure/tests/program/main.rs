@@ -1,7 +1,9 @@
-//! The program as its users run it: procedures that are loaded, edited and written, and what can go wrong.
+//! The program as its users run it: procedures that are loaded, edited, written and checked, and what can go
+//! wrong.
 
 mod edits;
 mod hostile;
+mod profiles;
 
 use std::ffi::OsStr;
 use std::path::{Path, PathBuf};

@@ -2,7 +2,7 @@
 
 use std::collections::HashSet;
 
-use generate::{Words, READY};
+use generate::each_call;
 use interface::{Call, FRONT_WORDS, NO_CHANNEL_ROW, NO_THREAD_ROW, THREAD_WORDS};
 use reference::ENGINE;
 
@@ -50,12 +50,7 @@ pub fn search(table: &[u8], ports: usize, state: &[u8], threads: &[usize], depth
 
 /// A step of each ready thread, whatever the bench can do at each port, and a run of one step.
 pub fn calls_on(state: &[u8], ports: usize) -> Vec<Call> {
-    let ready = Words::new(state).threads(READY);
-    let mut calls: Vec<Call> = ready.iter().map(|thread| Call::Step { thread: *thread as u32 }).collect();
-    for port in 0..ports as u32 {
-        calls.extend(NUMBERS.map(|number| Call::Give { port, number }));
-        calls.push(Call::Take { port });
-    }
+    let mut calls = each_call(state, ports, &NUMBERS);
     calls.push(Call::Run { n: 1 });
     calls
 }

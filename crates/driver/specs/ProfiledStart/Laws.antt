@@ -1,0 +1,46 @@
+-- The ways out of the function that starts what keeps to the profile, from what the exported functions ensure; and what is pledged where it answers 0. A number
+-- of an answer comes back by way of its pattern. Assumes nothing.
+use Prim.Native.Nat.{ℕ, _<_}
+use mathlib.Core.Path.{_≡_, refl, sym, ap, _∙_}
+use mathlib.Core.Bool.{true}
+use mathlib.Core.List.{List}
+use lib.ListN.{getD}
+use lib.IntN.{pos}
+use mir.Syntax.{w32}
+use mir.Val.{SFits, toZ, ofZ}
+use mir.Facts.{toZ-ofZ}
+use Rattle.numbers.specs.Search.Laws.{caseB, contra}
+use Rattle.interface.specs.Interface.{StateResult, result, startResult, profileResult}
+use Rattle.interface.specs.declared.ProfileAnswer.{ProfileAnswer}
+use Rattle.interface.specs.declared.StartAnswer.{StartAnswer}
+use Rattle.guarantee.specs.Claim.{Any}
+use Rattle.guarantee.specs.InNumbers.{isZero}
+use Rattle.profile_laws.specs.InNumbers.{PledgeInNumbers, passed-pledge}
+use Rattle.driver.specs.Restore.Laws.{zero-is}
+use Rattle.driver.specs.ProfiledStart.{begunTo, begun}
+
+module _ (t b : List ℕ) (a : ProfileAnswer) (e : a ≡ profileResult t) (f : SFits w32 (a .refusal)) where
+  -- a table that the check refuses
+  pub check-refused : (b′ : List ℕ) → (ofZ w32 (a .refusal) ≡ 0 → ⊥) → b′ ≡ b → begunTo (toZ w32 (ofZ w32 (a .refusal))) b′ ≡ begun t b
+  unfolding begun
+  check-refused b′ n q =
+      caseB (isZero (a .refusal))
+      (λ y. absurd (n (ap (ofZ w32) (zero-is (a .refusal) y))))
+      (λ y. rw (← e, y, toZ-ofZ f, q))
+
+  -- one that passes is started
+  pub check-passed : ofZ w32 (a .refusal) ≡ 0 → (s : StartAnswer) (b₁ : List ℕ) → result s b₁ ≡ startResult t b → SFits w32 (s .refusal)
+      → begunTo (toZ w32 (ofZ w32 (s .refusal))) b₁ ≡ begun t b
+  unfolding begun isZero
+  check-passed z s b₁ q g =
+      let o : a .refusal ≡ pos 0 = sym (toZ-ofZ f) ∙ ap (toZ w32) z in
+      rw (← e, o, ← q, toZ-ofZ g)
+
+-- where 0 is answered the state is that of a start, and the profile's pledge holds of every list of calls from there
+pub pledged : (table : List ℕ) → ((i : ℕ) → getD table i 0 < 256) → (state : List ℕ) → begun table state .refusal ≡ pos 0
+    → (begun table state .state ≡ startResult table state .state) × ((ks : List Any) → PledgeInNumbers table state ks)
+unfolding begun isZero
+pledged table fit state e = caseB (isZero (profileResult table .refusal))
+    (λ y. let s : startResult table state .answer .refusal ≡ pos 0 = rw y at e in
+    rw y (refl, λ ks. passed-pledge table fit (zero-is (profileResult table .refusal) y) state s ks))
+    (λ y. let z : profileResult table .refusal ≡ pos 0 = rw y at e in contra (rw z) y)

@@ -1,0 +1,5 @@
+pub mod Profile
+pub mod Equations
+pub mod Rising
+pub mod Finding
+pub mod Answers

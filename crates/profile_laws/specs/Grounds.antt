@@ -1,0 +1,175 @@
+-- When the check of a table gives each of its answers, in document 02's words. Of buffers of bytes, whatever their length. Nodes are counted over the whole
+-- file. Assumes nothing.
+use Prim.Native.Nat.{ℕ, _≤_, _<_}
+use native.Mathlib.Omega.{arith}
+use mathlib.Core.Path.{_≡_, refl}
+use mathlib.Core.Bool.{Bool, true, false, not}
+use mathlib.Core.List.{List}
+use mathlib.Core.Logic.{_⊎_, inl, inr, ⊎-elim, _≢_, _↔_}
+use lib.Dec.{ltb, leb, eqb}
+use lib.ListN.{length, getD}
+use borrow.Author.Tests.{ltb-false, leb-true, leb-false, le-leb, lt-leb, eqb-true, eqb-false, eq-eqb, ne-eqb, not-true, not-false}
+use Rattle.numbers.specs.Rows.{at}
+use Rattle.numbers.specs.Search.{every, some}
+use Rattle.numbers.specs.Search.Laws.{caseB, contra, every-intro, some-elim, some-intro, some-none}
+use Rattle.numbers.specs.Tests.{parts}
+use Rattle.table.specs.Fields as Field
+use Rattle.table.specs.Table.{Table, tableLength, tableOf, nodes}
+use Rattle.table.specs.Layout.{branchCount, definitionOf}
+use Rattle.loader.specs.Load.{accepted}
+use Rattle.state.specs.State.{maxThreads}
+use Rattle.rules.specs.Program.{kindOf, callee, branchAt}
+use Rattle.profile.specs.Profile.{isSpawn, nodeSpawns, spawnsIn, hasSpawn, callAllowed, nodeAllowed, callsAllowed, definitionBound, withinRows, profileOf, profileCall}
+use Rattle.profile.specs.Rising.{allowed-cases}
+use Rattle.profile.specs.declared.Profiled.{Profiled}
+use Rattle.profile.specs.declared.Profiled.the-variants.{Passes, WrongLength, WrongTable, ForbiddenCall, ManyThreads}
+use Rattle.profile_laws.specs.Bounds.{allowed, definition-some}
+
+-- ---- calls
+
+-- one of those below n fails a test that not all pass
+every-fails : (p : ℕ → Bool) (n : ℕ) → every p n ≡ false → (i : ℕ) × (i < n) × (p i ≡ false)
+every-fails p n e = caseB (some (λ i. not (p i)) n)
+    (λ y. let (i, l, f) = some-elim (λ i. not (p i)) n y in (i, l, not-true (p i) f))
+    (λ y. contra (every-intro p n (λ i l. not-false (p i) (some-none (λ i. not (p i)) n i y l))) e)
+
+module _ (tb : Table) where
+  -- definition d has a spawn: this branch of this node of it
+  pub record HasSpawn (d : ℕ) : Type 0 where
+    pub node : ℕ
+    pub branch : ℕ
+    pub node-in : node < nodes tb
+    pub own : definitionOf tb node ≡ d
+    pub branch-in : branch < branchCount tb node
+    pub spawns : at tb (branchAt tb node branch) Field.action ≡ 4
+
+  -- each call goes to a definition with a higher number, or to its own where that has no spawn
+  abbrev pub Permitted : Type 0
+  Permitted = (n : ℕ) → n < nodes tb → kindOf tb n ≡ 2
+      → (definitionOf tb n < callee tb n) ⊎ ((callee tb n ≡ definitionOf tb n) × (¬ HasSpawn (definitionOf tb n)))
+
+  -- a call goes to a definition with a lower number, or to its own, which has a spawn
+  pub record Forbidden : Type 0 where
+    pub node : ℕ
+    pub node-in : node < nodes tb
+    pub calls : kindOf tb node ≡ 2
+    pub goes : (callee tb node < definitionOf tb node) ⊎ ((callee tb node ≡ definitionOf tb node) × HasSpawn (definitionOf tb node))
+
+  pub hasSpawn-iff : (d : ℕ) → (hasSpawn tb d ≡ true) ↔ HasSpawn d
+  unfolding hasSpawn spawnsIn nodeSpawns isSpawn
+  hasSpawn-iff d = (
+    λ e. let (n, h, y) = some-elim (spawnsIn tb d) (nodes tb) e in
+        let (i, l, z) = some-elim (isSpawn tb n) (branchCount tb n) (search parts) in
+        record { node = n; branch = i; node-in = h; own = eqb-true (definitionOf tb n) d (search parts); branch-in = l; spawns = eqb-true _ 4 z },
+    λ s. let n = s .node in
+        let y = some-intro (isSpawn tb n) (branchCount tb n) (s .branch) (s .branch-in) (eq-eqb _ 4 (s .spawns)) in
+        some-intro (spawnsIn tb d) (nodes tb) n (s .node-in) (rw (eq-eqb (definitionOf tb n) d (s .own), y)),
+  )
+
+  not-both : Permitted → ¬ Forbidden
+  not-both f k =
+      ⊎-elim (λ l. ⊎-elim (λ m. omega arith) (λ (e, s). omega arith) (k .goes))
+      (λ (e, none). ⊎-elim (λ m. omega arith) (λ (q, s). none s) (k .goes))
+      (f (k .node) (k .node-in) (k .calls))
+
+  permitted : callsAllowed tb ≡ true → Permitted
+  permitted ok n h k = allowed-cases tb ok n h k (λ l. inl l) (λ e s. inr (e, λ z. contra (hasSpawn-iff (definitionOf tb n) .1 z) s))
+
+  forbidden-at : (n : ℕ) → n < nodes tb → nodeAllowed tb n ≡ false → Forbidden
+  unfolding nodeAllowed callAllowed
+  forbidden-at n h f =
+      let d = definitionOf tb n in
+      let e = callee tb n in
+      caseB (eqb (kindOf tb n) 2)
+      (λ y. caseB (ltb d e) (λ z. contra (rw (y, z)) f)
+      (λ z. record {
+        node = n;
+        node-in = h;
+        calls = eqb-true (kindOf tb n) 2 y;
+        goes = caseB (eqb e d)
+            (λ w. inr (eqb-true e d w, hasSpawn-iff d .0 (caseB (hasSpawn tb d) (λ v. v) (λ v. contra (rw (y, z, w, v)) f))))
+            (λ w. inl (omega (arith, ltb-false d e z, eqb-false e d w)));
+      }))
+      (λ y. contra (rw y) f)
+
+  found : callsAllowed tb ≡ false → Forbidden
+  unfolding callsAllowed
+  found e = let (n, h, f) = every-fails (nodeAllowed tb) (nodes tb) e in forbidden-at n h f
+
+  pub allowed-iff : (callsAllowed tb ≡ true) ↔ Permitted
+  allowed-iff = (permitted, λ f. caseB (callsAllowed tb) (λ y. y) (λ y. absurd (not-both f (found y))))
+
+  pub forbidden-iff : (callsAllowed tb ≡ false) ↔ Forbidden
+  forbidden-iff = (found, λ k. caseB (callsAllowed tb) (λ y. absurd (not-both (permitted y) k)) (λ y. y))
+
+-- ---- the answers
+
+module _ (table : List ℕ) where
+  abbrev tb : Table
+  tb = tableOf table
+
+  -- when each answer is due. A table that is accepted has the right length
+  unfoldable pub Due : Profiled → Type 0
+  Due WrongLength = length table ≢ tableLength
+  Due WrongTable = (length table ≡ tableLength) × (accepted table ≡ false)
+  Due ForbiddenCall = (accepted table ≡ true) × Forbidden (tableOf table)
+  Due ManyThreads = (accepted table ≡ true) × Permitted (tableOf table) × (maxThreads < definitionBound (tableOf table) 0)
+  Due (Passes n) = (accepted table ≡ true) × Permitted (tableOf table) × (n ≡ definitionBound (tableOf table) 0) × (n ≤ maxThreads)
+
+  answer-due : Due (profileCall table)
+  unfolding Due profileCall profileOf withinRows
+  answer-due =
+      caseB (eqb (length table) tableLength)
+      (λ e. caseB (accepted table)
+      (λ y. caseB (callsAllowed tb)
+      (λ c. caseB (leb (definitionBound tb 0) maxThreads)
+      (λ b. rw (e, y, c, b) (y, allowed-iff tb .0 c, refl, leb-true _ maxThreads b))
+      (λ b. rw (e, y, c, b) (y, allowed-iff tb .0 c, leb-false _ maxThreads b)))
+      (λ c. rw (e, y, c) (y, forbidden-iff tb .0 c)))
+      (λ y. rw (e, y) (eqb-true (length table) tableLength e, y)))
+      (λ e. rw e (eqb-false (length table) tableLength e))
+
+  long : accepted table ≡ true → eqb (length table) tableLength ≡ true
+  unfolding accepted
+  long y = search parts
+
+  due-answer : (x : Profiled) → Due x → profileCall table ≡ x
+  unfolding Due profileCall profileOf withinRows
+  due-answer WrongLength n = rw (ne-eqb (length table) tableLength n)
+  due-answer WrongTable (e, y) = rw (eq-eqb (length table) tableLength e, y)
+  due-answer ForbiddenCall (y, k) = rw (long y, y, forbidden-iff tb .1 k)
+  due-answer ManyThreads (y, f, b) = rw (long y, y, allowed-iff tb .1 f, lt-leb (definitionBound tb 0) maxThreads b)
+  due-answer (Passes n) (y, f, e, b) = rw (long y, y, allowed-iff tb .1 f, ← e, le-leb n maxThreads b)
+
+  -- each answer is given exactly when it is due; and the same, ground by ground
+  pub answer-iff : (x : Profiled) → (profileCall table ≡ x) ↔ Due x
+  answer-iff x = (λ e. rw e at answer-due, due-answer x)
+
+  pub length-iff : (profileCall table ≡ WrongLength) ↔ (length table ≢ tableLength)
+  unfolding Due
+  length-iff = answer-iff WrongLength
+
+  pub table-iff : (profileCall table ≡ WrongTable) ↔ ((length table ≡ tableLength) × (accepted table ≡ false))
+  unfolding Due
+  table-iff = answer-iff WrongTable
+
+  pub call-iff : (profileCall table ≡ ForbiddenCall) ↔ ((accepted table ≡ true) × Forbidden (tableOf table))
+  unfolding Due
+  call-iff = answer-iff ForbiddenCall
+
+  pub threads-iff : (profileCall table ≡ ManyThreads)
+      ↔ ((accepted table ≡ true) × Permitted (tableOf table) × (maxThreads < definitionBound (tableOf table) 0))
+  unfolding Due
+  threads-iff = answer-iff ManyThreads
+
+  pub passes-iff : (n : ℕ) → (profileCall table ≡ Passes n)
+      ↔ ((accepted table ≡ true) × Permitted (tableOf table) × (n ≡ definitionBound (tableOf table) 0) × (n ≤ maxThreads))
+  unfolding Due
+  passes-iff n = answer-iff (Passes n)
+
+  -- the number that a table passes with is that of one thread at least, and of no more threads than there are rows
+  pub passes-some : ((i : ℕ) → getD table i 0 < 256) → (n : ℕ) → profileCall table ≡ Passes n → (1 ≤ n) × (n ≤ maxThreads)
+  passes-some fit n e =
+      let (y, f, q, b) = passes-iff n .0 e in
+      let a = allowed table y fit (allowed-iff tb .1 f) in
+      (omega (arith, definition-some tb a 0 (a .grants .some-definition)), b)
