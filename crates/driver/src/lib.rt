@@ -1,5 +1,6 @@
 // Works a whole list of calls, which lies in a buffer, by the functions that C calls, and lays their answers into another buffer; writes a table and loads
-// it again; and starts a table that keeps to the rental-shop profile. What this ensures follows from the contracts of those functions alone: a contract that says less, or something else, leaves it unproved.
+// it again; and starts a table that keeps to the rental-shop profile. What this ensures follows from the contracts of those functions alone: a contract
+// that says less, or something else, leaves it unproved.
 ghost use mathlib.Core.Path.{_≡_};
 ghost use Prim.Native.Nat.{_<_};
 ghost use lib.ListN.{set};

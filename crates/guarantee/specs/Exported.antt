@@ -198,7 +198,7 @@ refused-by table state (on (take p)) r e = take-number r (takeCall table state p
 refused-by table state (on (run n)) r e = run-number r (runCall table state n .answer) e
 refused-by table state collect r e = collect-number r (collectCall table state .answer) e
 
--- so with 10; and so none is
+-- as the claim needs it: refused with 10
 pub refused-so : (table state : List ℕ) (k : Any) → refusal table state k ≡ pos 10 → RefusedBy table state k Ground.State
 unfolding refusalNumber
 refused-so table state k = refused-by table state k Ground.State

@@ -3,15 +3,14 @@
 use Prim.Native.Nat.{ℕ, _≤_, _<_}
 use native.Mathlib.Omega.{arith}
 use mathlib.Core.Path.{_≡_, refl}
-use mathlib.Core.Bool.{Bool, true, false, not}
+use mathlib.Core.Bool.{true, false}
 use mathlib.Core.List.{List}
 use mathlib.Core.Logic.{_⊎_, inl, inr, ⊎-elim, _≢_, _↔_}
 use lib.Dec.{ltb, leb, eqb}
 use lib.ListN.{length, getD}
-use borrow.Author.Tests.{ltb-false, leb-true, leb-false, le-leb, lt-leb, eqb-true, eqb-false, eq-eqb, ne-eqb, not-true, not-false}
+use borrow.Author.Tests.{ltb-false, leb-true, leb-false, le-leb, lt-leb, eqb-true, eqb-false, eq-eqb, ne-eqb}
 use Rattle.numbers.specs.Rows.{at}
-use Rattle.numbers.specs.Search.{every, some}
-use Rattle.numbers.specs.Search.Laws.{caseB, contra, every-intro, some-elim, some-intro, some-none}
+use Rattle.numbers.specs.Search.Laws.{caseB, contra, every-fails, some-elim, some-intro}
 use Rattle.numbers.specs.Tests.{parts}
 use Rattle.table.specs.Fields as Field
 use Rattle.table.specs.Table.{Table, tableLength, tableOf, nodes}
@@ -26,12 +25,6 @@ use Rattle.profile.specs.declared.Profiled.the-variants.{Passes, WrongLength, W
 use Rattle.profile_laws.specs.Bounds.{allowed, definition-some}
 
 -- ---- calls
-
--- one of those below n fails a test that not all pass
-every-fails : (p : ℕ → Bool) (n : ℕ) → every p n ≡ false → (i : ℕ) × (i < n) × (p i ≡ false)
-every-fails p n e = caseB (some (λ i. not (p i)) n)
-    (λ y. let (i, l, f) = some-elim (λ i. not (p i)) n y in (i, l, not-true (p i) f))
-    (λ y. contra (every-intro p n (λ i l. not-false (p i) (some-none (λ i. not (p i)) n i y l))) e)
 
 module _ (tb : Table) where
   -- definition d has a spawn: this branch of this node of it

@@ -17,7 +17,7 @@ use Rattle.table.specs.Table.{tableLength, tableOf}
 use Rattle.loader.specs.Load.{accepted}
 use Rattle.loader_laws.specs.Yields.{loaded-small}
 use Rattle.state.specs.State.{maxThreads, view}
-use Rattle.rules.specs.Calls.{startCall, runCall}
+use Rattle.rules.specs.Calls.{runCall}
 use Rattle.rules.specs.declared.Refusal.the-variants as Ground
 use Rattle.rules.specs.declared.Ran.{Ran}
 use Rattle.rules.specs.declared.Ran.the-variants as Ran
@@ -26,11 +26,11 @@ use Rattle.rules.specs.declared.Reason.the-variants.{LackedThread}
 use Rattle.engine.specs.Numbers as Numbers
 use Rattle.engine_laws.specs.Lists.{step, give, take, run}
 use Rattle.interface.specs.Interface.{loadResult, startResult, inNumbers, runFields, runNumbers, runResult, profileFields, profileNumbers, profileResult}
-use Rattle.guarantee.specs.Claim.{Any, on, collect, reachedBy}
+use Rattle.guarantee.specs.Claim.{Any, on, collect}
 use Rattle.guarantee.specs.Exported.{left, refusal, left-so, started-so, refused-by, load-so, table-so}
 use Rattle.guarantee.specs.ReasonsInLists.{two-is}
 use Rattle.guarantee.specs.InNumbers.{leftFrom}
-use Rattle.guarantee.specs.InNumbers.Proof.{all-so, started-iff}
+use Rattle.guarantee.specs.InNumbers.Proof.{from-so, started-iff}
 use Rattle.profile.specs.Profile.{definitionBound, profileCall, refusalNumber, threadsNumber}
 use Rattle.profile.specs.declared.Profiled.{Profiled}
 use Rattle.profile.specs.declared.Profiled.the-variants.{Passes, WrongLength, WrongTable, ForbiddenCall, ManyThreads}
@@ -82,23 +82,27 @@ answerWith r n =
     (cond (eqb r 9) WrongTable
     (cond (eqb r 16) ForbiddenCall ManyThreads)))
 
+its-own : (a : Profiled) → a ≡ answerWith (refusalNumber a) (threadsNumber a)
+unfolding answerWith refusalNumber threadsNumber
+its-own (Passes n) = refl
+its-own WrongLength = refl
+its-own WrongTable = refl
+its-own ForbiddenCall = refl
+its-own ManyThreads = refl
+
+signed : (a : Profiled) → profileNumbers a .refusal ≡ pos (refusalNumber a)
+unfolding profileNumbers profileFields refusalNumber
+signed (Passes n) = refl
+signed WrongLength = refl
+signed WrongTable = refl
+signed ForbiddenCall = refl
+signed ManyThreads = refl
+
+threads-are : (a : Profiled) → threadsNumber a ≤ maxThreads → profileNumbers a .threads ≡ pos (threadsNumber a)
+unfolding profileNumbers profileFields
+threads-are a h = toZ-pos w32 {n = threadsNumber a} (omega arith)
+
 module _ (table : List ℕ) where
-  its-own : (a : Profiled) → a ≡ answerWith (refusalNumber a) (threadsNumber a)
-  unfolding answerWith refusalNumber threadsNumber
-  its-own (Passes n) = refl
-  its-own WrongLength = refl
-  its-own WrongTable = refl
-  its-own ForbiddenCall = refl
-  its-own ManyThreads = refl
-
-  signed : (a : Profiled) → profileNumbers a .refusal ≡ pos (refusalNumber a)
-  unfolding profileNumbers profileFields refusalNumber
-  signed (Passes n) = refl
-  signed WrongLength = refl
-  signed WrongTable = refl
-  signed ForbiddenCall = refl
-  signed ManyThreads = refl
-
   -- what C sees as refusal m is the answer with that refusal
   seen : (m : ℕ) → profileResult table .refusal ≡ pos m → profileCall table ≡ answerWith m (threadsNumber (profileCall table))
   unfolding profileResult
@@ -110,10 +114,6 @@ module _ (table : List ℕ) where
   shown : (a : Profiled) → profileCall table ≡ a → profileResult table .refusal ≡ pos (refusalNumber a)
   unfolding profileResult
   shown a e = signed (profileCall table) ∙ ap (λ x. pos (refusalNumber x)) e
-
-  threads-are : (a : Profiled) → threadsNumber a ≤ maxThreads → profileNumbers a .threads ≡ pos (threadsNumber a)
-  unfolding profileNumbers profileFields
-  threads-are a h = toZ-pos w32 {n = threadsNumber a} (omega arith)
 
   -- ---- the check
 
@@ -172,9 +172,6 @@ found-so table state (k ∷ ks) (n, m, rest) =
 -- of a table that C sees pass, and so is accepted
 module _ (table : List ℕ) (fit : (i : ℕ) → getD table i 0 < 256) (passes : profileResult table .refusal ≡ pos 0)
     (state : List ℕ) (begun : startResult table state .answer .refusal ≡ pos 0) (ks : List Any) where
-  from-so : leftFrom table state ks ≡ reachedBy table state ks
-  from-so = rw (started-so table state) (all-so table (startCall table state .state) ks)
-
   pledged : (n : ℕ) → profileCall table ≡ Passes n → PledgeInNumbers table state ks
   pledged n e =
       let ok = profile-in-numbers table fit .zero .0 passes .0 in
@@ -182,7 +179,7 @@ module _ (table : List ℕ) (fit : (i : ℕ) → getD table i 0 < 256) (passes :
       record {
         rows-found = found-so table _ ks (rw (started-so table state) (p .never-lacks));
         few-threads = λ m q. let z : pos n ≡ pos m = sym (passes-threads table fit n e) ∙ q in let same : n ≡ m = cc in
-            rw (from-so, ← same) (p .few-threads);
+            rw (from-so table state ks, ← same) (p .few-threads);
       }
 
   pub passed-pledge : PledgeInNumbers table state ks

@@ -2,7 +2,6 @@ pub mod Bounds
 pub mod Sentences
 pub mod Grounds
 pub mod Claim
-pub mod Sums
 pub mod Weight
 pub mod Lighter
 pub mod Calls

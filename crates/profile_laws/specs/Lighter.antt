@@ -7,10 +7,11 @@ use mathlib.Core.Bool.{true}
 use mathlib.Core.List.{List, []}
 use mathlib.Core.Logic.{inl, inr, _≢_}
 use lib.ListN.{length, getD-replicate}
-use Rattle.numbers.specs.Search.Laws.{caseB, contra}
+use Rattle.numbers.specs.Search.Laws.{caseB, contra, sum-below, sum-but-one}
 use Rattle.table.specs.Table.{Table, nodes}
 use Rattle.table.specs.Layout.{start, branchCount}
 use Rattle.table.specs.declared.Part.the-variants.{Nodes}
+use Rattle.loader_laws.specs.Sums.{sum-zero}
 use Rattle.state.specs.State.{State, maxThreads, thread, standsAt, inUse, isReady, withMark, withThread, withChannel, withChannels}
 use Rattle.state.specs.State.Laws.{thread-same, thread-other, threads-with}
 use Rattle.rules.specs.Program.{callee, branchAt, nextOf, childOf, actOf}
@@ -32,7 +33,6 @@ use Rattle.collector.specs.Collect.{taken, collected}
 use Rattle.collector.specs.Collect.Laws.{taken-freed, left-same}
 use Rattle.profile.specs.Profile.{definitionBound}
 use Rattle.profile_laws.specs.Bounds.{Allowed}
-use Rattle.profile_laws.specs.Sums.{sum-below, sum-but-one, sum-zeros}
 use Rattle.profile_laws.specs.Weight.{nodeWeight, rowWeight, weight, first-weight, call-weight, next-weight, spawn-weight, free-weight, used-weight, row-weight, moved-weight}
 
 -- ---- the node at which a thread's row stands once the thread has gone on
@@ -200,7 +200,7 @@ module _ (tb : Table) where
   started-weight a = omega (
     arith,
     sum-but-one (λ t. rowWeight tb (thread (opening tb) t)) (λ t. 0) maxThreads 0 (omega arith) others-free,
-    sum-zeros maxThreads,
+    sum-zero (λ t. 0) maxThreads (λ i l. refl),
     row-weight tb (thread (opening tb) 0) (start tb Nodes 0) refl,
     first-weight tb a 0 (a .grants .some-definition),
   )

@@ -8,7 +8,7 @@ use mathlib.Core.List.{List, []}
 use borrow.Author.Tests.{eq-eqb}
 use Rattle.numbers.specs.Rows.{at}
 use Rattle.numbers.specs.Search.{sumTo}
-use Rattle.numbers.specs.Search.Laws.{caseB}
+use Rattle.numbers.specs.Search.Laws.{caseB, sum-below, sum-but-one, sum-ones}
 use Rattle.numbers.specs.Count.{bit}
 use Rattle.numbers.specs.Count.Laws.{count-index}
 use Rattle.table.specs.Fields as Field
@@ -27,7 +27,6 @@ use Rattle.profile.specs.Rising.{allowed-cases}
 use Rattle.profile_laws.specs.Bounds.{Allowed, bound-some, later-call, spawn-below, next-below, node-below-definition}
 use Rattle.profile_laws.specs.Grounds.{hasSpawn-iff}
 use Rattle.profile_laws.specs.Claim.{threadsIn}
-use Rattle.profile_laws.specs.Sums.{sum-below, sum-but-one, sum-ones}
 
 module _ (tb : Table) where
   -- of a thread at node n: the node's bound. A definition without a spawn may call itself, and there each node weighs what the definition is bound by

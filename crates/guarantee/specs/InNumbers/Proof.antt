@@ -79,6 +79,10 @@ unfolding leftAll afterList
 all-so table state [] = refl
 all-so table state (k ∷ ks) = all-so table (left table state k) ks ∙ ap (λ b. afterList table b ks) (left-so table state k)
 
+-- from a start
+pub from-so : (table state : List ℕ) (ks : List Any) → leftFrom table state ks ≡ reachedBy table state ks
+from-so table state ks = rw (started-so table state) (all-so table (startCall table state .state) ks)
+
 later-so : (table state : List ℕ) (ks : List Call) → leftAll table state (map on ks) ≡ afterAll table state ks
 unfolding leftAll afterAll afterAny
 later-so table state [] = refl
@@ -242,11 +246,8 @@ module _ (table : List ℕ) (ok : accepted table ≡ true) (fit : (i : ℕ) → 
   long : length state ≡ stateLength
   long = started-iff table ok state .0 begun
 
-  from-so : leftFrom table state ks ≡ reachedBy table state ks
-  from-so = rw (started-so table state) (all-so table (startCall table state .state) ks)
-
   from-sound : SoundBuffer table (leftFrom table state ks)
-  from-sound = rw from-so (reached-sound table ok fit state long ks)
+  from-sound = rw (from-so table state ks) (reached-sound table ok fit state long ks)
 
   -- a collection after the list is never refused
   pub collection-zero : collectResult table (leftFrom table state ks) .answer .refusal ≡ pos 0
@@ -258,12 +259,12 @@ module _ (table : List ℕ) (ok : accepted table ≡ true) (fit : (i : ℕ) → 
       let n = takenCount (tableOf table) (view (reachedBy table state ks)) in
       let made = collection-made table ok fit state long ks in
       record {
-        counted = rw from-so (g .counted);
-        untouched = λ e later. untouched-so table ok fit (leftFrom table state ks) from-sound later (rw from-so (g .untouched n made later));
+        counted = rw (from-so table state ks) (g .counted);
+        untouched = λ e later. untouched-so table ok fit (leftFrom table state ks) from-sound later (rw (from-so table state ks) (g .untouched n made later));
         took = λ e. took-so table ok fit (leftFrom table state ks) from-sound;
-        linked = λ e. linked-so table ok fit (leftFrom table state ks) from-sound (rw from-so (g .linked n made));
+        linked = λ e. linked-so table ok fit (leftFrom table state ks) from-sound (rw (from-so table state ks) (g .linked n made));
         never-ten = rw (started-so table state) (no-ten table (startCall table state .state) ks (g .never-ten));
-        never-ten-later = λ later. rw from-so (no-ten table (reachedBy table state ks) (map on later) (g .never-ten-later later));
+        never-ten-later = λ later. rw (from-so table state ks) (no-ten table (reachedBy table state ks) (map on later) (g .never-ten-later later));
       }
 
 -- ---- the theorem: for every file and every two buffers, where load is answered with refusal 0 and so is start, and for every list of calls

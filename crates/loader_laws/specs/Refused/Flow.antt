@@ -3,12 +3,12 @@ use Prim.Native.Nat.{ℕ, _+_, _-_, _<_}
 use native.Mathlib.Omega.{arith}
 use mathlib.Core.Path.{_≡_, refl}
 use mathlib.Core.Logic.{inl, inr, ⊎-elim}
-use mathlib.Core.Bool.{Bool, true, false}
+use mathlib.Core.Bool.{true, false}
 use lib.Dec.{eqb}
 use borrow.Author.Tests.{eqb-true, not-true, not-false}
 use Rattle.numbers.specs.Rows.{at}
 use Rattle.numbers.specs.Search.{every}
-use Rattle.numbers.specs.Search.Laws.{caseB, contra, every-intro}
+use Rattle.numbers.specs.Search.Laws.{caseB, contra, every-fails}
 use Rattle.numbers.specs.Tests.{and-left, and-right}
 use Rattle.table.specs.Fields as Field
 use Rattle.table.specs.Table.{Table, nodes, nodeRow, branchRow, lineTotal, parameters}
@@ -42,12 +42,6 @@ module _ (tb : Table) (g : Formed tb) where
 
   -- ---- ground 6
 
-  -- a test of n things that fails, fails at one
-  one-fails : (p : ℕ → Bool) (n : ℕ) → every p n ≡ false → (k : ℕ) × (k < n) × (p k ≡ false)
-  one-fails p n e =
-      let (k, h, f) = not-all (λ k. p k ≡ true) (λ k. caseB (p k) (λ y. inl y) (λ y. inr (λ z. contra z y))) n (λ a. contra (every-intro p n a) e) in
-      (k, h, caseB (p k) (λ y. absurd (f y)) (λ y. y))
-
   lacks : (n k : ℕ) → n < nodes tb → k < 16 → mayLack tb n k ≡ true → ¬ SurelyWritten tb n k
   lacks n k h l e s = contra e (written-iff tb (edges tb g) n k h l .1 s)
 
@@ -59,7 +53,7 @@ module _ (tb : Table) (g : Formed tb) where
       let f : callWritten tb r n ≡ false = not-true (callWritten tb r n) (rw (node-kind tb g n h, m) at e) in
       caseB (eqb (at tb r Field.nodeKind) 2)
       (λ y. let c = eqb-true (at tb r Field.nodeKind) 2 y in
-      let (j, z, w) = one-fails (argumentWritten tb r n) (parameters tb (at tb r Field.callee)) (rw y at f) in
+      let (j, z, w) = every-fails (argumentWritten tb r n) (parameters tb (at tb r Field.callee)) (rw y at f) in
       (at tb r (Field.arguments + j), (j, c, z, refl), lacks n (at tb r (Field.arguments + j)) h (argument-slot tb g n j h c z) (not-false _ w)))
       (λ y. contra refl (rw y at f))
 
@@ -71,7 +65,7 @@ module _ (tb : Table) (g : Formed tb) where
       let x = start tb Branches n + i in
       let m : r - branchRow tb ≡ x = omega arith in
       let f : every (operandWritten tb r n) 5 ≡ false = not-true _ (rw (branch-kind tb g x (branch-below tb g n i h l), m, node-of tb g n i h l) at e) in
-      let (j, z, w) = one-fails (operandWritten tb r n) 5 f in
+      let (j, z, w) = every-fails (operandWritten tb r n) 5 f in
       let b = not-false _ w in
       let u : reads (operandRole tb r j) ≡ true = and-left _ _ b in
       (operand tb r j, (j, z, u, refl), lacks n (operand tb r j) h (operand-slot tb g n i h l j z (reads-named _ u)) (and-right (reads (operandRole tb r j)) _ b))

@@ -6,10 +6,11 @@ use native.Mathlib.Decide.{le-ind}
 use mathlib.Core.Path.{_≡_, refl, sym, _∙_, ap}
 use mathlib.Core.Bool.{Bool, true, false, not, _&&_, cond}
 use mathlib.Core.List.{List, [], _∷_, _++_}
-use lib.Dec.{ltb}
+use mathlib.Core.Logic.{_≢_}
+use lib.Dec.{ltb, eqb}
 use lib.ListN.{length, getD}
 use lib.Seq.{ext-getD}
-use borrow.Author.Tests.{lt-ltb, le-ltb, ltb-true, ltb-false, not-true, not-false}
+use borrow.Author.Tests.{lt-ltb, le-ltb, ltb-true, ltb-false, eqb-true, eqb-false, not-true, not-false}
 use Rattle.numbers.specs.Tests.{clash, and-left, and-right}
 use Rattle.numbers.specs.Search.{every, first, some, sumTo, listFrom, tabulate}
 
@@ -193,6 +194,12 @@ module _ (p : ℕ → Bool) where
       (λ t. let (i, l, e) = some-elim m t in rw (t, some-intro n i (omega arith) e))
       (λ y. rw (y, some-void n (λ i l. caseB (ltb i m) (λ z. some-none m i y (ltb-true i m z)) (λ z. f i (ltb-false i m z) l))))
 
+-- one of those below n fails a test that not all pass
+pub every-fails : (p : ℕ → Bool) (n : ℕ) → every p n ≡ false → (i : ℕ) × (i < n) × (p i ≡ false)
+every-fails p n e = caseB (some (λ i. not (p i)) n)
+    (λ y. let (i, l, f) = some-elim (λ i. not (p i)) n y in (i, l, not-true (p i) f))
+    (λ y. contra (every-intro p n (λ i l. not-false (p i) (some-none (λ i. not (p i)) n i y l))) e)
+
 pub first-cong : (p q : ℕ → Bool) (n : ℕ) → ((i : ℕ) → i < n → p i ≡ q i) → first p n ≡ first q n
 unfolding first
 first-cong p q zero h = refl
@@ -220,6 +227,26 @@ module _ (f : ℕ → ℕ) where
   sum-mono m n h = le-ind (λ (k : ℕ). sumTo f m ≤ sumTo f k) (omega arith) (λ k j e. omega (arith, sum-suc k)) n h
 
 -- ---- lists
+
+-- ---- sums, place by place
+
+module _ (f g : ℕ → ℕ) where
+  pub sum-below : (n : ℕ) → ((i : ℕ) → i < n → f i ≤ g i) → sumTo f n ≤ sumTo g n
+  sum-below zero h = omega (arith, sum-none f)
+  sum-below (suc n) h = omega (arith, sum-suc f n, sum-suc g n, sum-below n (λ i l. h i (omega arith)), h n (omega arith))
+
+  -- where f may be above g at place k alone, the sum is above by no more than f is there
+  pub sum-but-one : (n k : ℕ) → k < n → ((i : ℕ) → i < n → i ≢ k → f i ≤ g i) → sumTo f n + g k ≤ sumTo g n + f k
+  sum-but-one zero k l h = absurd (omega arith)
+  sum-but-one (suc n) k l h = caseB (eqb k n)
+      (λ y. let q : k ≡ n = eqb-true k n y in
+      rw q (omega (arith, sum-suc f n, sum-suc g n, sum-below n (λ i m. h i (omega arith) (λ e. omega arith)))))
+      (λ y. let o : k ≢ n = eqb-false k n y in
+      omega (arith, sum-suc f n, sum-suc g n, sum-but-one n k (omega arith) (λ i m e. h i (omega arith) e), h n (omega arith) (λ e. omega arith)))
+
+pub sum-ones : (n : ℕ) → sumTo (λ i. 1) n ≡ n
+sum-ones zero = sum-none (λ i. 1)
+sum-ones (suc n) = omega (arith, sum-suc (λ i. 1) n, sum-ones n)
 
 pub getD-listFrom {ℓ} : {A : Type ℓ} (i n k : ℕ) (f : ℕ → A) (d : A) → k < n → getD (listFrom i n f) k d ≡ f (i + k)
 unfolding listFrom

@@ -21,6 +21,7 @@ use Rattle.table.specs.declared.Part.the-variants.{Nodes}
 use Rattle.rules.specs.Program.{kindOf, callee, branchAt, nextOf, childOf}
 use Rattle.profile.specs.Profile.{largest, isSpawn, nodeBound, branchBound, definitionBound}
 use Rattle.profile.specs.Equations.{Later, Rising, end-bound, own-call-bound, call-bound, choice-bound, spawn-bound, plain-bound}
+use Rattle.profile.specs.Finding.Calls.{node-cell}
 use Rattle.profile.specs.Finding.{above, capped, Kept, onward, rank, definitionRank}
 use Rattle.profile.specs.declared.Onward.{Onward}
 use Rattle.profile.specs.declared.Onward.the-variants.{Nowhere, Definition, Branches}
@@ -48,7 +49,7 @@ capped-high s h = omega arith
 
 module _ (tb : Table) (n r v : ℕ) (a : r ≡ nodeRow tb) (e : v ≡ at tb (r + n) Field.nodeKind) where
   kind-is : v ≡ kindOf tb n
-  kind-is = rw a at e
+  kind-is = node-cell tb n r Field.nodeKind v a e
 
   pub onward-choice : v ≡ 1 → Branches ≡ onward tb n
   unfolding onward
@@ -61,7 +62,7 @@ module _ (tb : Table) (n r v : ℕ) (a : r ≡ nodeRow tb) (e : v ≡ at tb (r +
 
     module _ (g : v ≡ 2) (x d : ℕ) (k : x ≡ at tb (r + n) Field.callee) (b : d ≡ definitionOf tb n) where
       callee-is : x ≡ callee tb n
-      callee-is = rw a at k
+      callee-is = node-cell tb n r Field.callee x a k
 
       pub onward-own : x ≡ d → Nowhere ≡ onward tb n
       unfolding onward

@@ -104,9 +104,13 @@ unfolding bit
 no-bit true = refl
 no-bit false = refl
 
+-- a number of a node's row, read from the first node's row on
+pub node-cell : (tb : Table) (n r k v : ℕ) → r ≡ nodeRow tb → v ≡ at tb (r + n) k → v ≡ at tb (nodeRow tb + n) k
+node-cell tb n r k v a e = rw a at e
+
 module _ (tb : Table) (n r v : ℕ) (a : r ≡ nodeRow tb) (e : v ≡ at tb (r + n) Field.nodeKind) where
   kind-is : v ≡ kindOf tb n
-  kind-is = rw a at e
+  kind-is = node-cell tb n r Field.nodeKind v a e
 
   pub allowed-other : (v ≡ 2 → ⊥) → true ≡ nodeAllowed tb n
   unfolding nodeAllowed
@@ -114,7 +118,7 @@ module _ (tb : Table) (n r v : ℕ) (a : r ≡ nodeRow tb) (e : v ≡ at tb (r +
 
   module _ (f : v ≡ 2) (d x : ℕ) (b : d ≡ definitionOf tb n) (k : x ≡ at tb (r + n) Field.callee) where
     callee-is : x ≡ callee tb n
-    callee-is = rw a at k
+    callee-is = node-cell tb n r Field.callee x a k
 
     to-call : nodeAllowed tb n ≡ callAllowed tb d x
     unfolding nodeAllowed
