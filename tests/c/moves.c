@@ -122,20 +122,64 @@ static void sum_is(bench *b, int32_t first, int32_t second, int32_t result) {
     closed(b);
 }
 
-static void sums_wrap(void) {
+/* Numbers whose sum or difference fits a slot, with what it is. */
+static void sums_fit(void) {
     static const int32_t plus[][3] = {
-        {INT32_MAX, 1, INT32_MIN}, {1, INT32_MAX, INT32_MIN}, {INT32_MIN, -1, INT32_MAX},
-        {INT32_MAX, INT32_MAX, -2}, {INT32_MIN, INT32_MIN, 0}, {INT32_MIN, INT32_MAX, -1},
+        {INT32_MAX - 1, 1, INT32_MAX}, {INT32_MIN + 1, -1, INT32_MIN}, {INT32_MIN, INT32_MAX, -1},
         {INT32_MAX, 0, INT32_MAX}, {-1, 1, 0}, {40, 2, 42}};
     static const int32_t minus[][3] = {
-        {INT32_MIN, 1, INT32_MAX}, {INT32_MAX, -1, INT32_MIN}, {0, INT32_MIN, INT32_MIN},
-        {-1, INT32_MIN, INT32_MAX}, {INT32_MIN, INT32_MAX, 1}, {INT32_MAX, INT32_MIN, -1},
-        {INT32_MIN, 0, INT32_MIN}, {INT32_MIN, INT32_MIN, 0}, {2, 40, -38}};
+        {INT32_MIN + 1, 1, INT32_MIN}, {-1, INT32_MIN, INT32_MAX}, {INT32_MIN, 0, INT32_MIN},
+        {INT32_MIN, INT32_MIN, 0}, {INT32_MAX, INT32_MAX, 0}, {2, 40, -38}};
     for (size_t place = 0; place < sizeof plus / sizeof *plus; place++) {
         sum_is(OPENED("plus", plus_file), plus[place][0], plus[place][1], plus[place][2]);
     }
     for (size_t place = 0; place < sizeof minus / sizeof *minus; place++) {
         sum_is(OPENED("minus", minus_file), minus[place][0], minus[place][1], minus[place][2]);
+    }
+}
+
+/* A sum, and behind it a tau. */
+#define SUM_OR_TAU_FILE(sum)                                                                                 \
+    {TYPE(0), DEFINITION(1, 3, 5), SLOT(1), SLOT(0), SLOT(0), CHOICE(1), CHOICE(1), CHOICE(2), CHOICE(1),    \
+     END, BRANCH(ALWAYS, RECEIVE(0, 1), 1), BRANCH(ALWAYS, RECEIVE(0, 2), 2), BRANCH(ALWAYS, sum, 3),        \
+     BRANCH(ALWAYS, TAU, 3), BRANCH(ALWAYS, SEND(0, 1), 4)}
+
+static const line plus_or_tau_file[] = SUM_OR_TAU_FILE(PLUS(1, 1, 2));
+static const line minus_or_tau_file[] = SUM_OR_TAU_FILE(MINUS(1, 1, 2));
+
+/* The branch of the sum is passed over: the next one is taken, and the slot keeps its number. */
+static void sum_passed_over(bench *b, int32_t first, int32_t second) {
+    give_two(b, first, second);
+    want_thread(b, 0, READY(3, 0, first, second));
+    step_takes(b, 0, 2, 1, PITHREAD_NOBODY);
+    closed(b);
+}
+
+/* With no other branch the thread waits, for good. */
+static void sum_waits(bench *b, int32_t first, int32_t second) {
+    give_two(b, first, second);
+    want_thread(b, 0, WAITS(2, 0, first, second));
+    want_channel(b, 0, 1, 2, 1);
+    step_waits(b, 0, 2);
+    step_refused(b, 0, PITHREAD_THREAD);
+    want_thread(b, 0, FREE);
+    want_channel(b, 0, 1, 1, 0);
+    collect(b, 1);
+    closed(b);
+}
+
+static void sums_passed_over(void) {
+    static const int32_t plus[][2] = {{INT32_MAX, 1},         {1, INT32_MAX},         {INT32_MIN, -1},
+                                      {INT32_MAX, INT32_MAX}, {INT32_MIN, INT32_MIN}};
+    static const int32_t minus[][2] = {{INT32_MIN, 1},         {INT32_MAX, -1},        {0, INT32_MIN},
+                                       {INT32_MIN, INT32_MAX}, {INT32_MAX, INT32_MIN}};
+    for (size_t place = 0; place < sizeof plus / sizeof *plus; place++) {
+        sum_passed_over(OPENED("plus or tau", plus_or_tau_file), plus[place][0], plus[place][1]);
+        sum_waits(OPENED("plus", plus_file), plus[place][0], plus[place][1]);
+    }
+    for (size_t place = 0; place < sizeof minus / sizeof *minus; place++) {
+        sum_passed_over(OPENED("minus or tau", minus_or_tau_file), minus[place][0], minus[place][1]);
+        sum_waits(OPENED("minus", minus_file), minus[place][0], minus[place][1]);
     }
 }
 
@@ -456,7 +500,8 @@ void check_moves(void) {
     start_fills_all();
     no_bytes_end();
     listing_by_steps();
-    sums_wrap();
+    sums_fit();
+    sums_passed_over();
     sums_read_first();
     guards_with_constants();
     guards_with_slots();

@@ -155,6 +155,17 @@ static void waiting_where_one_can(const bench *b) {
     unsound(b, "waiting at a spawn with a true guard", EDITS({NODE(1), 11}, {VALUE(1, 3), 4}));
 }
 
+/* Thread 1 waits at node 7, where a number is doubled. */
+static void waiting_at_a_sum(const bench *b) {
+    static const int32_t fits[] = {1073741823, -1073741824}, does_not_fit[] = {1073741824, -1073741825};
+    for (size_t place = 0; place < 2; place++) {
+        unsound(b, "waiting at a sum that fits",
+                EDITS({NODE(1), 7}, {VALUE(1, 2), 0}, {VALUE(1, 3), fits[place]}));
+        sound(b, "waiting at a sum that does not fit",
+              EDITS({NODE(1), 7}, {VALUE(1, 2), 0}, {VALUE(1, 3), does_not_fit[place]}));
+    }
+}
+
 /* Thread 1 at the end of definition 1, which has neither slot 1 as a channel nor slots 2 and 3. */
 static void waiting_at_an_end(const bench *b) {
     unsound(b, "waiting at an end",
@@ -212,6 +223,7 @@ void check_sound_states(void) {
     channel_slots_are_filled(b);
     counts_are_true(b);
     waiting_where_one_can(b);
+    waiting_at_a_sum(b);
     waiting_at_an_end(b);
     waiting_with_an_opposite(b);
     closed(b);

@@ -3,16 +3,21 @@ use Prim.Native.Nat.{ℕ, _<_}
 use mathlib.Core.Path.{_≡_, _∙_}
 use mathlib.Core.List.{List, _∷_}
 use lib.ListN.{set}
+use mir.Syntax.{w32}
+use mir.Val.{Fits, toZ}
+use mir.Facts.{ofZ-toZ}
 use Rattle.numbers.specs.Rows.{at}
+use Rattle.numbers.specs.declared.Checked.the-variants.{Exact}
 use Rattle.table.specs.Fields as Field
 use Rattle.table.specs.Table.{Table}
 use Rattle.state.specs.State.{State, stateOf, thread, channel, standsAt, slotsOf, withMark, withThread, withChannel, maxChannels, maxThreads}
-use Rattle.rules.specs.Program.{typeAt, branchAt, nextOf, childOf, actOf, assigned}
-use Rattle.rules.specs.Moves.{oneUp, resumed, stored, gone, goneBy, typed, createdBy, typeBy, spawnedBy, written}
+use Rattle.rules.specs.Program.{typeAt, branchAt, nextOf, childOf, actOf}
+use Rattle.rules.specs.Moves.{oneUp, resumed, stored, storedNumber, gone, typed, createdBy, typeBy, spawnedBy, written}
 use Rattle.rules.specs.declared.Direction.{Direction}
 use Rattle.rules.specs.declared.Act.{Act}
 use Rattle.rules.specs.declared.Act.the-variants.{Tau, Meeting, New, Spawn, Assignment}
-use Rattle.rules.specs.declared.Move.the-variants.{Goes, Creates, Spawns}
+use Rattle.rules.specs.declared.Move.the-variants.{Creates, Spawns}
+use Rattle.program.specs.Assigning.{goneStoring}
 use Rattle.thread_rows.specs.WrittenRows.Laws.{stored-after}
 
 -- ---- thread t goes on at node n: s₁ after the head of its row is written, and s₂ with v in slot k besides
@@ -20,33 +25,32 @@ use Rattle.thread_rows.specs.WrittenRows.Laws.{stored-after}
 module _ (b : List ℕ) (t n k v : ℕ) (s₁ : State) (e : s₁ ≡ withThread (stateOf b) t (resumed (thread (stateOf b) t) n)) where
   -- an act of its own that is no assignment
   module _ (a : Act) where
-    pub tau-passes : a ≡ Tau → s₁ ≡ withThread (stateOf b) t (gone a (thread (stateOf b) t) n k v)
+    pub tau-passes : a ≡ Tau → s₁ ≡ withThread (stateOf b) t (gone a (thread (stateOf b) t) n k (Exact (toZ w32 v)))
     unfolding gone
     tau-passes f = rw f e
 
-    pub meeting-passes : (d : Direction) → a ≡ Meeting d → s₁ ≡ withThread (stateOf b) t (gone a (thread (stateOf b) t) n k v)
+    pub meeting-passes : (d : Direction) → a ≡ Meeting d → s₁ ≡ withThread (stateOf b) t (gone a (thread (stateOf b) t) n k (Exact (toZ w32 v)))
     unfolding gone
     meeting-passes d f = rw f e
 
-    pub new-passes : a ≡ New → s₁ ≡ withThread (stateOf b) t (gone a (thread (stateOf b) t) n k v)
+    pub new-passes : a ≡ New → s₁ ≡ withThread (stateOf b) t (gone a (thread (stateOf b) t) n k (Exact (toZ w32 v)))
     unfolding gone
     new-passes f = rw f e
 
-    pub spawn-passes : a ≡ Spawn → s₁ ≡ withThread (stateOf b) t (gone a (thread (stateOf b) t) n k v)
+    pub spawn-passes : a ≡ Spawn → s₁ ≡ withThread (stateOf b) t (gone a (thread (stateOf b) t) n k (Exact (toZ w32 v)))
     unfolding gone
     spawn-passes f = rw f e
 
   module _ (s₂ : State) (g : s₂ ≡ withThread s₁ t (stored (thread s₁ t) k v)) (h : t < maxThreads) where
-    pub assignment-stores : (a : Act) → a ≡ Assignment → s₂ ≡ withThread (stateOf b) t (gone a (thread (stateOf b) t) n k v)
-    unfolding gone
-    assignment-stores a f = rw f (stored-after b t (resumed (thread (stateOf b) t) n) s₁ s₂ k v g e h)
+    pub assignment-stores : (a : Act) → a ≡ Assignment → Fits w32 v → s₂ ≡ withThread (stateOf b) t (gone a (thread (stateOf b) t) n k (Exact (toZ w32 v)))
+    unfolding gone storedNumber
+    assignment-stores a f w = rw (f, ofZ-toZ w) (stored-after b t (resumed (thread (stateOf b) t) n) s₁ s₂ k v g e h)
 
--- by its branch i, in row r of the table: m is the node before
-pub gone-written : (tb : Table) (s s₁ : State) (t i n k v m r : ℕ) (a : Act) → s₁ ≡ withThread s t (gone a (thread s t) n k v) → a ≡ actOf tb r
-    → n ≡ nextOf tb m r → k ≡ at tb r Field.a → v ≡ assigned tb r (thread s t) → r ≡ branchAt tb m i → m ≡ standsAt (thread s t)
-    → s₁ ≡ written tb s t (Goes i)
-unfolding written goneBy
-gone-written tb s s₁ t i n k v m r a e f g h j p q = e ∙ rw (f, g, h, j, p, q)
+-- by its branch in row r of the table: m is the node before
+pub gone-written : (tb : Table) (s s₁ : State) (t n k v m r : ℕ) (a : Act) → s₁ ≡ withThread s t (gone a (thread s t) n k (Exact (toZ w32 v))) → a ≡ actOf tb r
+    → n ≡ nextOf tb m r → k ≡ at tb r Field.a → m ≡ standsAt (thread s t) → s₁ ≡ withThread s t (goneStoring tb r v (thread s t))
+unfolding goneStoring
+gone-written tb s s₁ t n k v m r a e f g h q = e ∙ rw (f, g, h, q)
 
 pub ruleset lone-goings = (tau-passes, meeting-passes, new-passes, spawn-passes, assignment-stores)
 

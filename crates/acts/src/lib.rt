@@ -1,19 +1,23 @@
 // What a branch that is taken without a partner writes: alone, with a new channel, with a child.
 ghost use mathlib.Core.Path.{_≡_};
 ghost use Prim.Native.Nat.{_<_};
+ghost use mir.Syntax.{w32};
+ghost use mir.Val.{toZ};
+ghost use Rattle.numbers.specs.declared.Checked.the-variants.{Exact};
 ghost use Rattle.table.specs.Table.{tableOf};
 ghost use Rattle.table.specs.Index.{Indexed};
 ghost use Rattle.state.specs.State.{maxThreads, maxChannels, stateOf};
 ghost use Rattle.rules.specs.Moves.{gone, written};
-ghost use Rattle.rules.specs.declared.Move.the-variants.{Goes, Creates, Spawns};
+ghost use Rattle.rules.specs.declared.Move.the-variants.{Creates, Spawns};
 ghost use Rattle.thread_rows.specs.WrittenRows.{rewritten};
+ghost use Rattle.program.specs.Assigning.{goneStoring};
 use rules::Act;
 use table::field;
 
 // Thread t goes on after an act of its own: an assignment stores v in its slot.
 fn go_alone(state: &mut [u32; state::WORDS], t: u32, act: Act, node: u32, slot: u32, v: u32)
     requires { ⌜ t < maxThreads ⌝ }
-    ensures { λ _. ⌜ stateOf (now (state .exit)) ≡ rewritten (stateOf (now (state .entry))) t (λ row. gone act row node slot v) ⌝ }
+    ensures { λ _. ⌜ stateOf (now (state .exit)) ≡ rewritten (stateOf (now (state .entry))) t (λ row. gone act row node slot (Exact (toZ w32 v))) ⌝ }
 {
     thread_rows::resume(state, t, node);
     match act {
@@ -25,17 +29,22 @@ fn go_alone(state: &mut [u32; state::WORDS], t: u32, act: Act, node: u32, slot: 
     }
 }
 
-// Thread t goes on after its branch i, a tau or an assignment.
-pub fn write_gone(table: &[u8], index: &[u32], state: &mut [u32; state::WORDS], t: u32, i: u32)
+// Thread t goes on by its branch in a row, a tau or an assignment that comes to v.
+pub fn write_gone(
+    table: &[u8],
+    index: &[u32],
+    state: &mut [u32; state::WORDS],
+    t: u32,
+    row: usize,
+    v: u32,
+)
     requires { ⌜ Indexed (tableOf (now table)) (now index) ⌝ }
     requires { ⌜ t < maxThreads ⌝ }
-    ensures { λ _. ⌜ stateOf (now (state .exit)) ≡ written (tableOf (now (table .entry))) (stateOf (now (state .entry))) t (Goes i) ⌝ }
+    ensures { λ _. ⌜ stateOf (now (state .exit)) ≡ rewritten (stateOf (now (state .entry))) t (goneStoring (tableOf (now (table .entry))) row v) ⌝ }
 {
     let node = thread_rows::stands_at(state, t);
-    let row = program::branch_at(table, index, node, i);
     let next = program::next_of(table, index, node, row);
     let slot = table::cell_of(table, index, row, field::A);
-    let v = program::assigned_value(table, index, row, state, t);
     go_alone(state, t, program::act_of(table, index, row), next, slot, v);
 }
 

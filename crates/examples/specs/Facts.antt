@@ -1,6 +1,6 @@
 -- A case: the rows of a file, what is done from its start, and what then holds.
 use Prim.Native.Nat.{ℕ}
-use mathlib.Core.Bool.{Bool, true, not, _&&_}
+use mathlib.Core.Bool.{Bool, true, false, not, _&&_}
 use mathlib.Core.List.{List, [], _∷_}
 use lib.Dec.{eqb}
 use Rattle.table.specs.Table.{Table}
@@ -10,11 +10,13 @@ use Rattle.rules.specs.Holding.{holds}
 use Rattle.rules.specs.Start.{started}
 use Rattle.rules.specs.Offers.{offers, partnerOf}
 use Rattle.rules.specs.Moves.{metByBench}
-use Rattle.rules.specs.Calls.{bench, courseOf}
+use Rattle.rules.specs.Calls.{bench, stepEnd, canStep, stepOn, courseOf}
 use Rattle.rules.specs.declared.Direction.the-variants.{Out, In}
 use Rattle.rules.specs.declared.Partner.{Partner}
 use Rattle.rules.specs.declared.Partner.the-variants.{Nobody, At}
-use Rattle.engine.specs.Numbers.{reasonNumber}
+use Rattle.rules.specs.declared.Stepped.{Stepped}
+use Rattle.rules.specs.declared.Stepped.the-variants as Stepped
+use Rattle.engine.specs.Numbers.{actNumber, branchNumber, reasonNumber}
 use Rattle.collector.specs.Collect.{collected, takenCount}
 use Rattle.examples.specs.Computing.{collecting}
 
@@ -46,6 +48,8 @@ pub data Fact : Type 0 where
   receives : ℕ → ℕ → Fact
   knows : ℕ → ℕ → Fact
   slot : ℕ → ℕ → ℕ → Fact
+  -- a step of thread t is answered with act a and branch i
+  answers : ℕ → ℕ → ℕ → Fact
   -- the count of channel c is n
   counted : ℕ → ℕ → Fact
   -- a run of at most n steps makes k of them and ends for the reason of this number
@@ -56,6 +60,10 @@ pub data Fact : Type 0 where
   keeps : ℕ → Fact
   frees : ℕ → Fact
 
+unfoldable pub answered : Stepped → ℕ → ℕ → Bool
+answered (Stepped.Done n d) a i = eqb (actNumber d) a && eqb (branchNumber d) i
+answered (Stepped.Refused r) a i = false
+
 module _ (tb : Table) (s : State) where
   unfoldable pub holdsIn : Fact → Bool
   holdsIn (ready t) = isReady (thread s t)
@@ -64,6 +72,7 @@ module _ (tb : Table) (s : State) where
   holdsIn (receives t c) = offers tb (thread s t) In c
   holdsIn (knows t c) = holds tb (thread s t) c
   holdsIn (slot t k v) = inUse (thread s t) && eqb (slotOf (thread s t) k) v
+  holdsIn (answers t a i) = answered (stepOn tb s t .answer) a i
   holdsIn (counted c n) = eqb (countIn s c) n
   holdsIn (runs n k r) = eqb (courseOf tb n s .steps) k && eqb (reasonNumber (courseOf tb n s .reason)) r
   holdsIn (collects n) = eqb (takenCount tb s) n
@@ -97,5 +106,5 @@ allHold (x ∷ xs) = passes x && allHold xs
 
 -- opens what a case computes with
 unfoldable pub working : Unit {0}
-unfolding collecting metByBench reasonNumber afterGive afterDoing afterAll holdsIn allIn passes allHold
+unfolding collecting metByBench stepEnd canStep stepOn actNumber branchNumber reasonNumber answered afterGive afterDoing afterAll holdsIn allIn passes allHold
 working = tt

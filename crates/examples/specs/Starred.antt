@@ -2,18 +2,15 @@
 use mathlib.Core.Path.{_≡_, refl}
 use mathlib.Core.Bool.{Bool, true, _&&_}
 use mathlib.Core.List.{List, [], _∷_}
-use lib.IntN.{negsuc}
-use mir.Syntax.{w32}
-use mir.Val.{toZ}
 use Rattle.numbers.specs.Tests.{and-left, and-right}
 use Rattle.text.specs.Text.{fileText}
 use Rattle.file.specs.File.{fileTable}
 use Rattle.loader.specs.Verdict.{verdict}
 use Rattle.loader.specs.declared.Verdict.the-variants.{Sound}
-use Rattle.examples.specs.Facts.{steps, gives, ready, waits, sends, receives, knows, slot, counted, runs, collects, takes, keeps, frees, Case, case, tableIn, allHold, working}
+use Rattle.examples.specs.Facts.{steps, gives, ready, waits, sends, receives, knows, slot, answers, counted, runs, collects, takes, keeps, frees, Case, case, tableIn, allHold, working}
 use Rattle.examples.specs.Computing.{judging}
 use Rattle.examples.specs.Files.{prints, inOrder, rows-load}
-use Rattle.examples.specs.Tables.{loneReceiver, twoReceivers, chain, portReceiver, falseGuards, bothSides, twoSlots, overflow, swap, endOnly}
+use Rattle.examples.specs.Tables.{loneReceiver, twoReceivers, chain, portReceiver, falseGuards, bothSides, twoSlots, counter, onlyCounter, swap, endOnly}
 
 -- each case: its file's rows, what is done from the start, and what holds then
 abbrev pub cases : List Case
@@ -35,8 +32,12 @@ cases =
     ∷ case bothSides (steps 3 ∷ []) (waits 0 ∷ sends 0 0 ∷ receives 0 0 ∷ counted 0 1 ∷ runs 1 0 1 ∷ [])
     -- 7: a thread with one channel in two slots counts once
     ∷ case twoSlots (steps 2 ∷ []) (slot 0 0 0 ∷ slot 0 1 0 ∷ counted 0 1 ∷ [])
-    -- 8: 2147483647, here given by the bench, plus 1 gives -2147483648, whose pattern is 2147483648
-    ∷ case overflow (steps 1 ∷ gives 0 2147483647 ∷ steps 2 ∷ []) (slot 0 1 2147483647 ∷ slot 0 2 1 ∷ slot 0 3 2147483648 ∷ [])
+    -- 8, as document 02 has it (S-4): 2147483647, here given by the bench, plus 1 does not fit, and its branch is passed over. The step takes the next one,
+    -- branch 1, and the slot keeps its number; where the sum is the only branch, the thread waits and is collected
+    ∷ case counter (steps 1 ∷ gives 0 2147483647 ∷ steps 1 ∷ []) (slot 0 1 2147483647 ∷ slot 0 2 1 ∷ answers 0 3 1 ∷ [])
+    ∷ case counter (steps 1 ∷ gives 0 2147483647 ∷ steps 2 ∷ []) (ready 0 ∷ slot 0 1 2147483647 ∷ [])
+    ∷ case onlyCounter (steps 1 ∷ gives 0 2147483647 ∷ steps 1 ∷ []) (slot 0 1 2147483647 ∷ slot 0 2 1 ∷ answers 0 2 0 ∷ [])
+    ∷ case onlyCounter (steps 1 ∷ gives 0 2147483647 ∷ steps 2 ∷ []) (waits 0 ∷ slot 0 1 2147483647 ∷ collects 1 ∷ takes 0 ∷ [])
     -- 9: a call changes two slots round: slot 0 had port 0, and slot 1 had port 1
     ∷ case swap (steps 1 ∷ []) (slot 0 0 1 ∷ slot 0 1 0 ∷ [])
     -- 10: a run of at most 0 steps makes none and ends for reason 0, even where no thread is ready, which is reason 1 for a longer run
@@ -48,10 +49,6 @@ cases =
 pub starred-cases : allHold cases ≡ true
 unfolding working
 starred-cases = refl
-
--- the pattern of case 8 is that of -2147483648: negsuc n is -(n + 1)
-pub least-pattern : toZ w32 2147483648 ≡ negsuc 2147483647
-least-pattern = refl
 
 -- ---- each file is in order, and loading gives the table in which its case is worked
 

@@ -70,12 +70,19 @@ twoSlots =
     ∷ choice 1 ∷ call 1 0 0 ∷ ending
     ∷ new 0 1 ∷ []
 
--- slots: the port, three numbers. Nodes: 0 receive the first number on the port, 1 set the second to 1, 2 the third becomes their sum
-abbrev pub overflow : Table
-overflow =
-    header 1 1 4 4 3 1 ∷ ofNumbers ∷ definition 1 4 4 ∷ slot 1 ∷ slot 0 ∷ slot 0 ∷ slot 0
+-- slots: the port, two numbers. Nodes: 0 receive the first number on the port, 1 set the second to 1, 2 the first becomes their sum, or else go on
+abbrev pub counter : Table
+counter =
+    header 1 1 3 4 4 1 ∷ ofNumbers ∷ definition 1 3 4 ∷ slot 1 ∷ slot 0 ∷ slot 0
+    ∷ choice 1 ∷ choice 1 ∷ choice 2 ∷ ending
+    ∷ receive 0 1 1 ∷ set 2 1 2 ∷ add 1 1 2 3 ∷ pass 3 ∷ []
+
+-- the same without the branch that goes on
+abbrev pub onlyCounter : Table
+onlyCounter =
+    header 1 1 3 4 3 1 ∷ ofNumbers ∷ definition 1 3 4 ∷ slot 1 ∷ slot 0 ∷ slot 0
     ∷ choice 1 ∷ choice 1 ∷ choice 1 ∷ ending
-    ∷ receive 0 1 1 ∷ set 2 1 2 ∷ add 3 1 2 3 ∷ []
+    ∷ receive 0 1 1 ∷ set 2 1 2 ∷ add 1 1 2 3 ∷ []
 
 -- two ports, which are the parameters of definition 0; its one node calls it again with the two changed round
 abbrev pub swap : Table

@@ -11,5 +11,6 @@ pub mod OfReasons
 pub mod OfGuarantee
 pub mod OfTurns
 pub mod OfRefinement
+pub mod OfSums
 pub mod OfListing
 pub mod OfEmptyFile

@@ -30,7 +30,7 @@ use Rattle.published.specs.Choices.{commits}
 use Rattle.published.specs.Whole.{acted, WholeTurn, UpTo}
 use Rattle.published.specs.Enabling.{Disabled}
 use Rattle.published.specs.Polarity.{our-proposition-2}
-use Rattle.published_laws.specs.Standing.{channelsOf, guardOf, prefixOf, sumBefore, nodeProcess, unrolled, processAt, bodyOf, forNumbers, OurRules, readyThread, committed, commitmentsFrom, waitingThread, threadOf, threadsOf, agentOf}
+use Rattle.published_laws.specs.Standing.{channelsOf, printedGuardOf, guardBy, guardOf, prefixOf, sumBefore, nodeProcess, unrolled, processAt, bodyOf, forNumbers, OurRules, readyThread, committed, commitmentsFrom, waitingThread, threadOf, threadsOf, agentOf}
 use Rattle.published_laws.specs.Places.{rank}
 use Rattle.published_laws.specs.Products.{Bench}
 use Rattle.published_laws.specs.Benches.{portsAnd, bench-is}
@@ -98,7 +98,7 @@ named ĉ =
     (Agents.thread [] (bind (threadOf (filledUp listing) (thread (started (filledUp listing)) 0) .env) 0 (channel ĉ)) (processAt (filledUp listing) 1) ∷ benchAt none end ∷ [])
 
 named-whole : WholeTurn (bodyOf tb) (agentOf tb idle (started tb)) first (named 5)
-unfolding running agentOf threadsOf channelsOf threadOf readyThread processAt unrolled nodeProcess sumBefore guardOf prefixOf Agents.holds commits
+unfolding running agentOf threadsOf channelsOf threadOf readyThread processAt unrolled nodeProcess sumBefore printedGuardOf guardBy guardOf prefixOf Agents.holds commits
 named-whole = record {
   others = idle ∷ [];
   brought = swapped;

@@ -1,17 +1,21 @@
 -- What the conversions of signed numbers and their patterns need. Assumes nothing.
-use Prim.Native.Nat.{ℕ, zero, suc, _-_, _≤_}
+use Prim.Native.Nat.{ℕ, zero, suc, _-_, _<_, _≤_}
 use native.Mathlib.Omega.{arith}
+use native.Mathlib.Decide.{decLt}
 use mathlib.Core.Path.{_≡_, refl, sym, _∙_, ap}
 use mathlib.Core.Bool.{true, false}
-use lib.Dec.{T}
-use lib.IntN.{ℤ, pos, negsuc, natAbs, _+ℤ_, _-ℤ_}
-use lib.Signed.{mag, nonNeg, ltZ}
-use mir.Syntax.{w32}
+use lib.Dec.{T, leb}
+use lib.IntN.{ℤ, pos, negsuc, subℕ, natAbs, _+ℤ_, _-ℤ_}
+use lib.Signed.{mag, nonNeg, ltZ, leZ}
+use mir.Syntax.{w32, w64}
 use mir.Val.{Fits, SFits, toZ, ofZ}
 use mir.Facts.{toZ-pos, toZ-ofZ, ofZ-toZ, sfits-toZ, fits-ofZ}
-use borrow.Author.Tests.{le-ltb, ltb-true}
-use Rattle.numbers.specs.Signed.{residue, wrap, lower, sum, difference}
-use Rattle.numbers.specs.Signed.Laws.{toZ-high, residue-below, residue-add, residue-sub}
+use borrow.Author.Tests.{le-ltb, lt-ltb, leb-true, ltb-true}
+use Rattle.numbers.specs.Search.Laws.{caseB}
+use Rattle.numbers.specs.Signed.{inRange, narrowed, lower}
+use Rattle.numbers.specs.Signed.Laws.{toZ-high, narrowed-fits}
+use Rattle.numbers.specs.declared.Checked.{Checked}
+use Rattle.numbers.specs.declared.Checked.the-variants.{Exact, Overflow}
 
 -- -1 - n, which turns every bit of a pattern
 flip-pos : (n : ℕ) → negsuc 0 -ℤ pos n ≡ negsuc n
@@ -74,27 +78,81 @@ module _ (x : ℤ) (f : SFits w32 x) (h : ltZ (toZ w32 (ofZ w32 x)) (pos 0) ≡ 
   pub pos-pattern : natAbs (toZ w32 (ofZ w32 x)) ≡ ofZ w32 x
   pos-pattern = rw (toZ-ofZ f) (pos-is x (rw (toZ-ofZ f) at h) .1)
 
--- what a number that a pattern gives is read back as
-wrapped : (z r : ℤ) (x : ℕ) → r ≡ toZ w32 x → residue z ≡ x → toZ w32 (ofZ w32 r) ≡ wrap z
-wrapped z r x e g =
-    let f : Fits w32 x = record { fits = omega (arith, residue-below z) } in
-    rw (e, toZ-ofZ (sfits-toZ f), g)
-
-module _ (a b : ℤ) (f : SFits w32 a) (g : SFits w32 b) (p q x : ℕ) (r : ℤ) (i : p ≡ ofZ w32 (toZ w32 (ofZ w32 a))) (j : q ≡ ofZ w32 (toZ w32 (ofZ w32 b))) (e : r ≡ toZ w32 x) where
-  p-is : p ≡ ofZ w32 a
-  p-is = rw (toZ-ofZ f) at i
-
-  q-is : q ≡ ofZ w32 b
-  q-is = rw (toZ-ofZ g) at j
-
-  pub add-is : x ≡ sum p q → toZ w32 (ofZ w32 r) ≡ wrap (a +ℤ b)
-  unfolding sum
-  add-is k = wrapped (a +ℤ b) r x e (rw (k, p-is, q-is) (residue-add a b f g))
-
-  pub sub-is : x ≡ difference p q → toZ w32 (ofZ w32 r) ≡ wrap (a -ℤ b)
-  unfolding difference
-  sub-is k = wrapped (a -ℤ b) r x e (rw (k, p-is, q-is) (residue-sub a b f g))
-
 pub below-is : (x y : ℕ) (a b : ℤ) → Fits w32 x → Fits w32 y → a ≡ toZ w32 x → b ≡ toZ w32 y → ltZ (toZ w32 (ofZ w32 a)) (toZ w32 (ofZ w32 b)) ≡ lower x y
 unfolding lower
 below-is x y a b f g i j = rw (i, j, ofZ-toZ f, ofZ-toZ g)
+
+-- ---- a number of 64 signed bits, narrowed
+
+-- a number from -(m + 1) to n
+between : (m n : ℕ) (z : ℤ) → leZ (negsuc m) z ≡ true → leZ z (pos n) ≡ true → leb m 2147483647 ≡ true → leb n 2147483647 ≡ true → SFits w32 z
+between m n (pos k) l h p q = record { sfits = omega (arith, leb-true k n h, leb-true n 2147483647 q) }
+between m n (negsuc k) l h p q = record { sfits = omega (arith, leb-true k m l, leb-true m 2147483647 p) }
+
+above-overflows : (z : ℤ) → leZ z (pos 2147483647) ≡ false → narrowed z ≡ Overflow
+unfolding narrowed inRange
+above-overflows z h = caseB (leZ (negsuc 2147483647) z) (λ y. rw (y, h)) (λ y. rw y)
+
+module _ (z : ℤ) (f : SFits w64 z) where
+  -- it was tested against bounds within the range
+  module _ (m n : ℕ) (l : leZ (negsuc m) (toZ w64 (ofZ w64 z)) ≡ true) (h : leZ (toZ w64 (ofZ w64 z)) (pos n) ≡ true)
+      (p : leb m 2147483647 ≡ true) (q : leb n 2147483647 ≡ true) where
+    within-fits : SFits w32 z
+    within-fits = between m n z (rw (toZ-ofZ f) at l) (rw (toZ-ofZ f) at h) p q
+
+    pub narrow-casts : SFits w32 (toZ w64 (ofZ w64 z))
+    narrow-casts = rw (toZ-ofZ f) within-fits
+
+    pub narrow-exact : Exact (toZ w32 (ofZ w32 (toZ w64 (ofZ w64 z)))) ≡ narrowed z
+    narrow-exact = rw (toZ-ofZ f, toZ-ofZ within-fits) (sym (narrowed-fits z within-fits))
+
+  -- it is above the range, or below it
+  pub narrow-above : leZ (toZ w64 (ofZ w64 z)) (pos 2147483647) ≡ false → Overflow ≡ narrowed z
+  narrow-above h = sym (above-overflows z (rw (toZ-ofZ f) at h))
+
+  pub narrow-below : leZ (negsuc 2147483647) (toZ w64 (ofZ w64 z)) ≡ false → Overflow ≡ narrowed z
+  unfolding narrowed inRange
+  narrow-below h = rw (rw (toZ-ofZ f) at h)
+
+-- ---- two numbers of 32 signed bits, in 64
+
+apart-small : (m n k : ℕ) → m ≤ k → n ≤ suc k → mag (subℕ m n) ≤ k
+apart-small m n k f g = go (decLt m n)
+  where
+    go : Dec (m < n) → mag (subℕ m n) ≤ k
+    go (yes h) = rw (lt-ltb m n h) (omega arith)
+    go (no h) = rw (le-ltb m n (omega arith)) (omega arith)
+
+sum-small : (a b : ℤ) → SFits w32 a → SFits w32 b → SFits w64 (a +ℤ b)
+sum-small (pos m) (pos n) f g = record { sfits = omega arith }
+sum-small (pos m) (negsuc n) f g = record { sfits = omega (arith, apart-small m (suc n) 2147483648 (omega arith) (omega arith)) }
+sum-small (negsuc m) (pos n) f g = record { sfits = omega (arith, apart-small n (suc m) 2147483648 (omega arith) (omega arith)) }
+sum-small (negsuc m) (negsuc n) f g = record { sfits = omega arith }
+
+difference-small : (a b : ℤ) → SFits w32 a → SFits w32 b → SFits w64 (a -ℤ b)
+difference-small (pos m) (pos zero) f g = record { sfits = omega arith }
+difference-small (pos m) (pos (suc n)) f g = record { sfits = omega (arith, apart-small m (suc n) 2147483648 (omega arith) (omega arith)) }
+difference-small (pos m) (negsuc n) f g = record { sfits = omega arith }
+difference-small (negsuc m) (pos zero) f g = record { sfits = omega (arith, apart-small 0 (suc m) 2147483648 (omega arith) (omega arith)) }
+difference-small (negsuc m) (pos (suc n)) f g = record { sfits = omega arith }
+difference-small (negsuc m) (negsuc n) f g = record { sfits = omega (arith, apart-small (suc n) (suc m) 2147483648 (omega arith) (omega arith)) }
+
+pub wide-fits : (a : ℤ) → SFits w32 a → SFits w64 (toZ w32 (ofZ w32 a))
+wide-fits a f = rw (toZ-ofZ f) (record { sfits = omega arith })
+
+wide-is : (a : ℤ) → SFits w32 a → toZ w64 (ofZ w64 (toZ w32 (ofZ w32 a))) ≡ a
+wide-is a f = toZ-ofZ (wide-fits a f) ∙ toZ-ofZ f
+
+module _ (a b : ℤ) (f : SFits w32 a) (g : SFits w32 b) where
+  pub sum-fits : SFits w64 (toZ w64 (ofZ w64 (toZ w32 (ofZ w32 a))) +ℤ toZ w64 (ofZ w64 (toZ w32 (ofZ w32 b))))
+  sum-fits = rw (wide-is a f, wide-is b g) (sum-small a b f g)
+
+  pub difference-fits : SFits w64 (toZ w64 (ofZ w64 (toZ w32 (ofZ w32 a))) -ℤ toZ w64 (ofZ w64 (toZ w32 (ofZ w32 b))))
+  difference-fits = rw (wide-is a f, wide-is b g) (difference-small a b f g)
+
+  module _ (r : Checked) where
+    pub sum-narrowed : r ≡ narrowed (toZ w64 (ofZ w64 (toZ w64 (ofZ w64 (toZ w32 (ofZ w32 a))) +ℤ toZ w64 (ofZ w64 (toZ w32 (ofZ w32 b)))))) → r ≡ narrowed (a +ℤ b)
+    sum-narrowed e = e ∙ ap narrowed (toZ-ofZ sum-fits ∙ rw (wide-is a f, wide-is b g))
+
+    pub difference-narrowed : r ≡ narrowed (toZ w64 (ofZ w64 (toZ w64 (ofZ w64 (toZ w32 (ofZ w32 a))) -ℤ toZ w64 (ofZ w64 (toZ w32 (ofZ w32 b)))))) → r ≡ narrowed (a -ℤ b)
+    difference-narrowed e = e ∙ ap narrowed (toZ-ofZ difference-fits ∙ rw (wide-is a f, wide-is b g))

@@ -2,21 +2,26 @@
 -- pattern into the whole number. A test that a pattern lies between 0 and a small limit also keeps out every negative number: those have large patterns.
 pub mod Laws
 use Prim.Native.Nat.{ℕ, _+_, _-_, _%_}
-use mathlib.Core.Bool.{Bool, cond}
+use mathlib.Core.Bool.{Bool, true, false, _&&_, cond}
 use lib.Dec.{ltb}
 use lib.IntN.{ℤ, pos, negsuc}
-use lib.Signed.{ltZ}
+use lib.Signed.{ltZ, leZ}
 use mir.Syntax.{w32}
 use mir.Val.{toZ}
+use Rattle.numbers.specs.declared.Checked.{Checked}
+use Rattle.numbers.specs.declared.Checked.the-variants.{Exact, Overflow}
 
--- what z leaves modulo 4294967296, counted from 0
-unfoldable pub residue : ℤ → ℕ
-residue (pos n) = n % 4294967296
-residue (negsuc n) = 4294967295 - n % 4294967296
+-- z lies from -2147483648 to 2147483647, the numbers of 32 signed bits (`negsuc n` is -(n + 1))
+unfoldable pub inRange : ℤ → Bool
+inRange z = leZ (negsuc 2147483647) z && leZ z (pos 2147483647)
 
--- the number from -2147483648 to 2147483647 that differs from z by a multiple of 4294967296
-abbrev pub wrap : ℤ → ℤ
-wrap z = toZ w32 (residue z)
+-- the whole number z, if it fits into 32 signed bits
+unfoldable pub narrowed : ℤ → Checked
+narrowed z = cond (inRange z) (Exact z) Overflow
+
+unfoldable pub isExact : Checked → Bool
+isExact (Exact z) = true
+isExact Overflow = false
 
 -- of patterns of 32 bits: whether the number of x is below that of y
 unfoldable pub lower : ℕ → ℕ → Bool

@@ -37,6 +37,10 @@ module _ (t b r : Bool) where
   pub and-no : t ≡ false → r ≡ false → r ≡ (t && b)
   and-no e f = rw (e, f)
 
+pub and-true : (t : Bool) → t ≡ (t && true)
+and-true true = refl
+and-true false = refl
+
 pub cond-self : (t : Bool) → t ≡ cond t true false
 cond-self true = refl
 cond-self false = refl

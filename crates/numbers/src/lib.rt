@@ -8,7 +8,7 @@ ghost use lib.IntN.{_+ℤ_, _-ℤ_};
 ghost use mir.Syntax.{w32};
 ghost use mir.Val.{toZ, ofZ};
 ghost use Rattle.numbers.specs.Bytes.{little, shorts, words};
-ghost use Rattle.numbers.specs.Signed.{wrap, lower, sum, difference, widened};
+ghost use Rattle.numbers.specs.Signed.{narrowed, lower, sum, difference, widened};
 
 // The number of two bytes, the lower first.
 pub fn pair(a: u8, b: u8) -> u32
@@ -118,18 +118,36 @@ pub fn below(x: u32, y: u32) -> bool
     signed(x) < signed(y)
 }
 
-// The sum, taken back into range.
-pub fn wrapping_add(a: i32, b: i32) -> i32
-    ensures { λ r. ⌜ r ≡ wrap (a +ℤ b) ⌝ }
-{
-    signed(add(pattern(a), pattern(b)))
+// What a sum or a difference comes to: just this number, or one that does not fit into 32 signed bits.
+pub enum Checked {
+    Exact(i32),
+    Overflow,
 }
 
-// The difference, taken back into range.
-pub fn wrapping_sub(a: i32, b: i32) -> i32
-    ensures { λ r. ⌜ r ≡ wrap (a -ℤ b) ⌝ }
+// The number z, if it fits into 32 signed bits.
+fn narrow(z: i64) -> Checked
+    ensures { λ r. ⌜ r ≡ narrowed z ⌝ }
 {
-    signed(subtract(pattern(a), pattern(b)))
+    if -2147483648 <= z {
+        if z <= 2147483647 {
+            return Checked::Exact(z as i32);
+        }
+    }
+    Checked::Overflow
+}
+
+// The sum, if it fits.
+pub fn checked_add(a: i32, b: i32) -> Checked
+    ensures { λ r. ⌜ r ≡ narrowed (a +ℤ b) ⌝ }
+{
+    narrow(a as i64 + b as i64)
+}
+
+// The difference, if it fits.
+pub fn checked_sub(a: i32, b: i32) -> Checked
+    ensures { λ r. ⌜ r ≡ narrowed (a -ℤ b) ⌝ }
+{
+    narrow(a as i64 - b as i64)
 }
 
 // The pattern of the sum, by the patterns of the two numbers.

@@ -13,7 +13,7 @@ use Rattle.table.specs.Table.{Table, nodeRow, branchRow}
 use Rattle.table.specs.Layout.{branchCount, start}
 use Rattle.table.specs.declared.Part.the-variants.{Branches}
 use Rattle.state.specs.State.{State, standsAt, slotOf}
-use Rattle.rules.specs.Program.{branchAt, actOf, guardHolds, same}
+use Rattle.rules.specs.Program.{fitting, branchAt, actOf, printedGuard, guardHolds, same}
 use Rattle.rules.specs.Offers.{meets?, offersAt}
 use Rattle.rules.specs.declared.Direction.{Direction}
 use Rattle.rules.specs.declared.Direction.the-variants.{Out, In}
@@ -40,13 +40,13 @@ module _ (tb : Table) (row : List ℕ) (c r : ℕ) (a : Act) (e : a ≡ actOf tb
     unfolding offerOn
     offers-elsewhere h = rw (← f, ← g, ne-eqb x c h)
 
-    module _ (h : x ≡ c) (q : Bool) (i : q ≡ guardHolds tb r row) where
+    module _ (h : x ≡ c) (q : Bool) (i : q ≡ printedGuard tb r row) where
       pub offers-shut : q ≡ false → Nothing ≡ offerOn tb row c r
-      unfolding offerOn
+      unfolding guardHolds offerOn
       offers-shut j = rw (← f, ← g, eq-eqb x c h, ← i, j)
 
       pub offers-open : (d : Direction) → a ≡ Meeting d → q ≡ true → Of d ≡ offerOn tb row c r
-      unfolding offerOn offerOf
+      unfolding fitting guardHolds offerOn offerOf
       offers-open d l j = rw (← f, ← g, eq-eqb x c h, ← i, j, ← e, l)
 
 pub ruleset offering = (offers-nothing, offers-elsewhere, offers-shut, offers-open)

@@ -27,8 +27,8 @@ pub enum Offer {
     Of(Direction),
 }
 
-// What the branch in a row, of thread u, offers on channel c: a meeting on it whose guard is true. The guard is read last, since in a search most
-// branches fail by their act or by their channel.
+// What the branch in a row, of thread u, offers on channel c: a meeting on it whose guard is true, which assigns nothing that would have to fit. The
+// guard is read last, since in a search most branches fail by their act or by their channel.
 pub fn offer_on(
     table: &[u8],
     index: &[u32],
@@ -45,7 +45,7 @@ pub fn offer_on(
             if program::slot(state, u, table::cell_of(table, index, row, field::A)) != c {
                 return Offer::Nothing;
             }
-            if program::guard_holds(table, index, row, state, u) {
+            if program::printed_guard(table, index, row, state, u) {
                 return Offer::Of(d);
             }
             Offer::Nothing

@@ -8,6 +8,7 @@ use mathlib.Core.List.{List, []}
 use mathlib.Core.Logic.{inl, inr, _≢_}
 use lib.ListN.{length, getD-replicate}
 use Rattle.numbers.specs.Search.Laws.{caseB, contra, sum-below, sum-but-one}
+use Rattle.numbers.specs.declared.Checked.{Checked}
 use Rattle.table.specs.Table.{Table, nodes}
 use Rattle.table.specs.Layout.{start, branchCount}
 use Rattle.table.specs.declared.Part.the-variants.{Nodes}
@@ -22,9 +23,9 @@ use Rattle.rules.specs.Calls.{bench}
 use Rattle.rules.specs.declared.Direction.{Direction}
 use Rattle.rules.specs.declared.Direction.the-variants.{Out, In}
 use Rattle.rules.specs.declared.Act.{Act}
-use Rattle.rules.specs.declared.Act.the-variants.{Tau, Meeting, New, Spawn, Assignment}
 use Rattle.rules.specs.declared.Move.{Move}
 use Rattle.rules.specs.declared.Move.the-variants.{Ends, Calls, Waits, Goes, Creates, Spawns, Meets, LacksThread, LacksChannel}
+use Rattle.rules_laws.specs.Guards.{gone-rows}
 use Rattle.rules_laws.specs.Reading.Laws.{ready-used, waiting-used}
 use Rattle.rules_laws.specs.Soundness.{Sound}
 use Rattle.rules_laws.specs.Chosen.{Answering, Spawning, Joining, Chosen, chosen}
@@ -37,22 +38,17 @@ use Rattle.profile_laws.specs.Weight.{nodeWeight, rowWeight, weight, fir
 
 -- ---- the node at which a thread's row stands once the thread has gone on
 
-module _ (row : List ℕ) (n k v : ℕ) where
-  stored-next : standsAt (stored (resumed row n) k v) ≡ n
-  stored-next = stored-node (resumed row n) k v ∙ resumed-node row n
+module _ (row : List ℕ) (n k : ℕ) where
+  stored-next : (v : ℕ) → standsAt (stored (resumed row n) k v) ≡ n
+  stored-next v = stored-node (resumed row n) k v ∙ resumed-node row n
 
-  gone-node : (a : Act) → standsAt (gone a row n k v) ≡ n
-  unfolding gone
-  gone-node Tau = resumed-node row n
-  gone-node (Meeting d) = resumed-node row n
-  gone-node New = resumed-node row n
-  gone-node Spawn = resumed-node row n
-  gone-node Assignment = stored-next
+  gone-node : (v : Checked) (a : Act) → standsAt (gone a row n k v) ≡ n
+  gone-node = gone-rows (λ r. standsAt r ≡ n) row n k (resumed-node row n) stored-next
 
-  met-node : (d : Direction) → standsAt (met d row n k v) ≡ n
+  met-node : (v : ℕ) (d : Direction) → standsAt (met d row n k v) ≡ n
   unfolding met
-  met-node Out = resumed-node row n
-  met-node In = stored-next
+  met-node v Out = resumed-node row n
+  met-node v In = stored-next v
 
 -- a thread in use, at a node of the table, whose branch i is taken
 module _ (tb : Table) (a : Allowed tb) (row : List ℕ) (u : inUse row ≡ true) (h : standsAt row < nodes tb) (i : ℕ) (l : i < branchCount tb (standsAt row)) where

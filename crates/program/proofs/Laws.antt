@@ -11,77 +11,95 @@ use mir.Val.{Fits, toZ, ofZ}
 use mir.Facts.{toZ-ofZ, ofZ-toZ, sfits-toZ}
 use borrow.Author.Tests.{ne-eqb, lt-ltb, le-ltb}
 use Rattle.numbers.specs.Rows.{at}
-use Rattle.numbers.specs.Signed.{residue, wrap, lower, widened}
-use Rattle.numbers.specs.Signed.Laws.{residue-below}
+use Rattle.numbers.specs.Signed.{narrowed, lower, widened}
+use Rattle.numbers.specs.declared.Checked.{Checked}
+use Rattle.numbers.specs.declared.Checked.the-variants.{Exact}
 use Rattle.table.specs.Fields as Field
 use Rattle.table.specs.Table.{Table, slotRow, branchRow, slotCount}
 use Rattle.table.specs.Layout.{start, definitionOf, slotType}
 use Rattle.table.specs.declared.Part.the-variants.{Slots, Nodes, Branches}
 use Rattle.state.specs.State.{slotOf}
-use Rattle.rules.specs.Program.{wrappedSum, wrappedDifference, typeAt, channelSlot, branchAt, nextOf, childOf, actOf, guardHolds, assigned, opposite}
+use Rattle.rules.specs.Program.{checkedSum, checkedDifference, fitting, typeAt, channelSlot, branchAt, nextOf, childOf, actOf, printedGuard, assigned, guardHolds, opposite}
+use Rattle.rules.specs.declared.Act.{Act}
 use Rattle.rules.specs.declared.Act.the-variants.{Meeting, New, Spawn, Tau, Assignment}
 use Rattle.rules.specs.declared.Direction.{Direction}
 use Rattle.rules.specs.declared.Direction.the-variants.{Out, In}
 
 -- the guard in row r of the table: k is its kind, a and b are its operands, l is the first slot's number
 module _ (tb : Table) (r : ℕ) (row : List ℕ) (k : ℕ) where
-  pub guard-always : k ≡ at tb r Field.guard → k ≡ 0 → true ≡ guardHolds tb r row
-  unfolding guardHolds
+  pub guard-always : k ≡ at tb r Field.guard → k ≡ 0 → true ≡ printedGuard tb r row
+  unfolding printedGuard
   guard-always e i = rw (← e, i)
 
   module _ (a b l : ℕ) where
     pub guard-equals-constant : (w : ℕ) → w ≡ widened b → l ≡ slotOf row a → a ≡ at tb r Field.first → b ≡ at tb r Field.second
-        → k ≡ at tb r Field.guard → k ≡ 1 → eqb l w ≡ guardHolds tb r row
-    unfolding guardHolds
+        → k ≡ at tb r Field.guard → k ≡ 1 → eqb l w ≡ printedGuard tb r row
+    unfolding printedGuard
     guard-equals-constant w j h f g e i = rw (← e, i, h, j, f, g)
 
     pub guard-equals-slot : (m : ℕ) → m ≡ slotOf row b → l ≡ slotOf row a → a ≡ at tb r Field.first → b ≡ at tb r Field.second
-        → k ≡ at tb r Field.guard → k ≡ 3 → eqb l m ≡ guardHolds tb r row
-    unfolding guardHolds
+        → k ≡ at tb r Field.guard → k ≡ 3 → eqb l m ≡ printedGuard tb r row
+    unfolding printedGuard
     guard-equals-slot m j h f g e i = rw (← e, i, h, j, f, g)
 
     module _ (m : ℕ) (x : Bool) (q : x ≡ lower l m) where
       pub guard-below-constant : m ≡ widened b → l ≡ slotOf row a → a ≡ at tb r Field.first → b ≡ at tb r Field.second → k ≡ at tb r Field.guard
-          → k ≡ 2 → x ≡ guardHolds tb r row
-      unfolding guardHolds
+          → k ≡ 2 → x ≡ printedGuard tb r row
+      unfolding printedGuard
       guard-below-constant j h f g e i = rw (← e, i, q, h, j, f, g)
 
       pub guard-below-slot : m ≡ slotOf row b → l ≡ slotOf row a → a ≡ at tb r Field.first → b ≡ at tb r Field.second → k ≡ at tb r Field.guard
-          → (k ≡ 0 → ⊥) → (k ≡ 1 → ⊥) → (k ≡ 2 → ⊥) → (k ≡ 3 → ⊥) → x ≡ guardHolds tb r row
-      unfolding guardHolds
+          → (k ≡ 0 → ⊥) → (k ≡ 1 → ⊥) → (k ≡ 2 → ⊥) → (k ≡ 3 → ⊥) → x ≡ printedGuard tb r row
+      unfolding printedGuard
       guard-below-slot j h f g e n0 n1 n2 n3 = rw (← e, ne-eqb k 0 n0, ne-eqb k 1 n1, ne-eqb k 2 n2, ne-eqb k 3 n3, q, h, j, f, g)
 
--- a and b are the numbers of words x and y, z what they gave, taken back into range, and v its pattern
-module _ (x y : ℕ) (a b z : ℤ) (v : ℕ) (f : Fits w32 x) (g : Fits w32 y) (p : a ≡ toZ w32 x) (q : b ≡ toZ w32 y) (e : v ≡ ofZ w32 (toZ w32 (ofZ w32 z))) where
-  wrapped-is : (w : ℤ) → z ≡ wrap w → v ≡ ofZ w32 (wrap w)
-  wrapped-is w h =
-      let l : Fits w32 (residue w) = record { fits = residue-below w } in
-      rw (e, h, toZ-ofZ (sfits-toZ l))
+-- a and b are the numbers of words x and y, and v is what was said of them
+module _ (x y : ℕ) (a b : ℤ) (v : Checked) (f : Fits w32 x) (g : Fits w32 y) (p : a ≡ toZ w32 x) (q : b ≡ toZ w32 y) where
+  pub sum-is : v ≡ narrowed (toZ w32 (ofZ w32 a) +ℤ toZ w32 (ofZ w32 b)) → v ≡ checkedSum x y
+  unfolding checkedSum
+  sum-is h = rw (p, q, ofZ-toZ f, ofZ-toZ g) at h
 
-  pub sum-is : z ≡ wrap (toZ w32 (ofZ w32 a) +ℤ toZ w32 (ofZ w32 b)) → v ≡ wrappedSum x y
-  unfolding wrappedSum
-  sum-is h = wrapped-is (toZ w32 x +ℤ toZ w32 y) (rw (p, q, ofZ-toZ f, ofZ-toZ g) at h)
-
-  pub difference-is : z ≡ wrap (toZ w32 (ofZ w32 a) -ℤ toZ w32 (ofZ w32 b)) → v ≡ wrappedDifference x y
-  unfolding wrappedDifference
-  difference-is h = wrapped-is (toZ w32 x -ℤ toZ w32 y) (rw (p, q, ofZ-toZ f, ofZ-toZ g) at h)
+  pub difference-is : v ≡ narrowed (toZ w32 (ofZ w32 a) -ℤ toZ w32 (ofZ w32 b)) → v ≡ checkedDifference x y
+  unfolding checkedDifference
+  difference-is h = rw (p, q, ofZ-toZ f, ofZ-toZ g) at h
 
 -- the assignment in row r of the table: k is its action, a and b are its fields
-module _ (tb : Table) (r : ℕ) (row : List ℕ) (k a v : ℕ) where
-  pub assigned-constant : v ≡ widened a → a ≡ at tb r Field.b → k ≡ at tb r Field.action → k ≡ 5 → v ≡ assigned tb r row
+module _ (tb : Table) (r : ℕ) (row : List ℕ) (k a : ℕ) where
+  pub assigned-constant : (z : ℤ) (w : ℕ) → z ≡ toZ w32 w → w ≡ widened a → Fits w32 w → a ≡ at tb r Field.b → k ≡ at tb r Field.action → k ≡ 5
+      → Exact (toZ w32 (ofZ w32 z)) ≡ assigned tb r row
   unfolding assigned
-  assigned-constant h f e i = rw (← e, i, h, f)
+  assigned-constant z w h j l f e i = rw (← e, i, h, toZ-ofZ (sfits-toZ l), j, f)
 
-  module _ (b x y : ℕ) where
-    pub assigned-sum : v ≡ wrappedSum x y → x ≡ slotOf row a → y ≡ slotOf row b → a ≡ at tb r Field.b → b ≡ at tb r Field.c
+  module _ (v : Checked) (b x y : ℕ) where
+    pub assigned-sum : v ≡ checkedSum x y → x ≡ slotOf row a → y ≡ slotOf row b → a ≡ at tb r Field.b → b ≡ at tb r Field.c
         → k ≡ at tb r Field.action → k ≡ 6 → v ≡ assigned tb r row
     unfolding assigned
     assigned-sum h p q f g e i = rw (← e, i, h, p, q, f, g)
 
-    pub assigned-difference : v ≡ wrappedDifference x y → x ≡ slotOf row a → y ≡ slotOf row b → a ≡ at tb r Field.b → b ≡ at tb r Field.c
+    pub assigned-difference : v ≡ checkedDifference x y → x ≡ slotOf row a → y ≡ slotOf row b → a ≡ at tb r Field.b → b ≡ at tb r Field.c
         → k ≡ at tb r Field.action → (k ≡ 5 → ⊥) → (k ≡ 6 → ⊥) → v ≡ assigned tb r row
     unfolding assigned
     assigned-difference h p q f g e n5 n6 = rw (← e, ne-eqb k 5 n5, ne-eqb k 6 n6, h, p, q, f, g)
+
+-- what the branch in row r assigns, if anything: its act is a, and it comes to v
+module _ (tb : Table) (r : ℕ) (row : List ℕ) (a b : Act) (e : a ≡ actOf tb r) (f : a ≡ b) where
+  -- every act but an assignment
+  pub fits-always : true ≡ fitting b (assigned tb r row) → true ≡ fitting (actOf tb r) (assigned tb r row)
+  fits-always h = rw (← e, f) h
+
+  module _ (v w : Checked) (g : v ≡ assigned tb r row) (h : v ≡ w) where
+    pub fits-assigned : (t : Bool) → t ≡ fitting b w → t ≡ fitting (actOf tb r) (assigned tb r row)
+    fits-assigned t i = rw (← e, f, ← g, h) i
+
+-- the guard of the branch in row r: p is what it says, and q whether what is assigned fits
+module _ (tb : Table) (r : ℕ) (row : List ℕ) (p : Bool) (e : p ≡ printedGuard tb r row) where
+  pub guard-open : (q : Bool) → q ≡ fitting (actOf tb r) (assigned tb r row) → p ≡ true → q ≡ guardHolds tb r row
+  unfolding guardHolds
+  guard-open q f h = rw (← e, h) f
+
+  pub guard-shut : p ≡ false → false ≡ guardHolds tb r row
+  unfolding guardHolds
+  guard-shut h = rw (← e, h)
 
 -- what the branch in row r of the table does: k is its action
 module _ (tb : Table) (r k : ℕ) (e : k ≡ at tb r Field.action) where

@@ -6,7 +6,8 @@ ghost use Rattle.table.specs.Layout.{start, definitionOf};
 ghost use Rattle.table.specs.declared.Part.the-variants.{Slots, Nodes};
 ghost use Rattle.table.specs.Index.{Indexed};
 ghost use Rattle.state.specs.State.{stateOf, thread, slotOf};
-ghost use Rattle.rules.specs.Program.{wrappedSum, wrappedDifference, typeAt, channelSlot, blank, branchAt, nextOf, childOf, actOf, guardHolds, assigned, opposite};
+ghost use Rattle.rules.specs.Program.{checkedSum, checkedDifference, fitting, typeAt, channelSlot, blank, branchAt, nextOf, childOf, actOf, printedGuard, assigned, guardHolds, opposite};
+use numbers::Checked;
 use rules::Act;
 use rules::Direction;
 use table::Part;
@@ -134,8 +135,8 @@ pub fn slot(state: &[u32; state::WORDS], t: u32, k: u32) -> u32
     state::thread_word(state, t as usize, state::FIRST_SLOT + k as usize)
 }
 
-// Whether the guard of the branch in a row is true of thread t.
-pub fn guard_holds(
+// Whether the guard of the branch in a row, as the file has it, is true of thread t.
+pub fn printed_guard(
     table: &[u8],
     index: &[u32],
     row: usize,
@@ -143,7 +144,7 @@ pub fn guard_holds(
     t: u32,
 ) -> bool
     requires { ⌜ Indexed (tableOf (now table)) (now index) ⌝ }
-    ensures { λ r. ⌜ r ≡ guardHolds (tableOf (now (table .entry))) row (thread (stateOf (now (state .entry))) t) ⌝ }
+    ensures { λ r. ⌜ r ≡ printedGuard (tableOf (now (table .entry))) row (thread (stateOf (now (state .entry))) t) ⌝ }
 {
     let guard = table::cell_of(table, index, row, field::GUARD);
     if guard == 0 {
@@ -159,38 +160,72 @@ pub fn guard_holds(
     }
 }
 
-// The sum of the numbers in two slots, taken back into range.
-fn sum_of(x: u32, y: u32) -> u32
-    ensures { λ r. ⌜ r ≡ wrappedSum x y ⌝ }
+// The sum of the numbers in two slots, if it fits into one.
+fn sum_of(x: u32, y: u32) -> Checked
+    ensures { λ r. ⌜ r ≡ checkedSum x y ⌝ }
 {
-    numbers::pattern(numbers::wrapping_add(numbers::signed(x), numbers::signed(y)))
+    numbers::checked_add(numbers::signed(x), numbers::signed(y))
 }
 
-// The difference of the numbers in two slots, taken back into range.
-fn difference_of(x: u32, y: u32) -> u32
-    ensures { λ r. ⌜ r ≡ wrappedDifference x y ⌝ }
+// The difference of the numbers in two slots, if it fits into one.
+fn difference_of(x: u32, y: u32) -> Checked
+    ensures { λ r. ⌜ r ≡ checkedDifference x y ⌝ }
 {
-    numbers::pattern(numbers::wrapping_sub(numbers::signed(x), numbers::signed(y)))
+    numbers::checked_sub(numbers::signed(x), numbers::signed(y))
 }
 
-// What the assignment in a row gives thread t.
+// What the assignment in a row comes to for thread t.
 pub fn assigned_value(
     table: &[u8],
     index: &[u32],
     row: usize,
     state: &[u32; state::WORDS],
     t: u32,
-) -> u32
+) -> Checked
     requires { ⌜ Indexed (tableOf (now table)) (now index) ⌝ }
     ensures { λ r. ⌜ r ≡ assigned (tableOf (now (table .entry))) row (thread (stateOf (now (state .entry))) t) ⌝ }
 {
     let first = table::cell_of(table, index, row, field::B);
     let second = table::cell_of(table, index, row, field::C);
     match table::cell_of(table, index, row, field::ACTION) {
-        5 => numbers::widen(first),
+        5 => Checked::Exact(numbers::signed(numbers::widen(first))),
         6 => sum_of(slot(state, t, first), slot(state, t, second)),
         _ => difference_of(slot(state, t, first), slot(state, t, second)),
     }
+}
+
+// Whether what the branch in a row assigns thread t, if anything, fits.
+fn is_fitting(table: &[u8], index: &[u32], row: usize, state: &[u32; state::WORDS], t: u32) -> bool
+    requires { ⌜ Indexed (tableOf (now table)) (now index) ⌝ }
+    ensures { λ r. ⌜ r ≡ fitting (actOf (tableOf (now (table .entry))) row) (assigned (tableOf (now (table .entry))) row (thread (stateOf (now (state .entry))) t)) ⌝ }
+{
+    match act_of(table, index, row) {
+        Act::Tau => true,
+        Act::Meeting(_) => true,
+        Act::New => true,
+        Act::Spawn => true,
+        Act::Assignment => match assigned_value(table, index, row, state, t) {
+            Checked::Exact(_) => true,
+            Checked::Overflow => false,
+        },
+    }
+}
+
+// Whether the guard of the branch in a row counts as true of thread t: it is true, and what the branch assigns fits.
+pub fn guard_holds(
+    table: &[u8],
+    index: &[u32],
+    row: usize,
+    state: &[u32; state::WORDS],
+    t: u32,
+) -> bool
+    requires { ⌜ Indexed (tableOf (now table)) (now index) ⌝ }
+    ensures { λ r. ⌜ r ≡ guardHolds (tableOf (now (table .entry))) row (thread (stateOf (now (state .entry))) t) ⌝ }
+{
+    if printed_guard(table, index, row, state, t) {
+        return is_fitting(table, index, row, state, t);
+    }
+    false
 }
 
 // The side that answers a direction.

@@ -2,17 +2,19 @@
 use Prim.Native.Nat.{ℕ, zero, suc}
 use mathlib.Core.Path.{_≡_}
 use mathlib.Core.Logic.{_⊎_}
-use mathlib.Core.Bool.{Bool, true, false, _||_}
+use mathlib.Core.Bool.{Bool, true, false, _&&_, _||_}
 use mathlib.Core.List.{List, [], _∷_}
 use mathlib.Core.Option.{Option, none, some}
 use lib.Dec.{eqb}
 use lib.ListN.{getD}
 use lib.IntN.{_+ℤ_, _-ℤ_}
 use mir.Syntax.{w32}
-use mir.Val.{toZ, ofZ}
+use mir.Val.{toZ}
 use Rattle.numbers.specs.Count.{count}
-use Rattle.numbers.specs.Signed.{wrap, lower}
-use Rattle.published.specs.Syntax.{Guard, always, equals, below, same, less, Expression, constant, plus, minus, Process, end}
+use Rattle.numbers.specs.Signed.{narrowed, isExact, lower}
+use Rattle.numbers.specs.declared.Checked.{Checked}
+use Rattle.numbers.specs.declared.Checked.the-variants.{Exact}
+use Rattle.published.specs.Syntax.{Expression, constant, plus, minus, Guard, always, equals, below, same, less, andFits, Process, end}
 
 infix 4 _∈_
 -- a is one of a list
@@ -50,6 +52,12 @@ numeric (some (number n)) = n
 abbrev pub numberOf : Env → ℕ → ℕ
 numberOf δ x = numeric (look δ x)
 
+-- what an assignment's expression evaluates to: sums and differences of whole numbers, if they fit into 32 signed bits
+unfoldable pub valueOf : Env → Expression → Checked
+valueOf δ (constant n) = Exact (toZ w32 n)
+valueOf δ (plus x y) = narrowed (toZ w32 (numberOf δ x) +ℤ toZ w32 (numberOf δ y))
+valueOf δ (minus x y) = narrowed (toZ w32 (numberOf δ x) -ℤ toZ w32 (numberOf δ y))
+
 -- whether a guard evaluates to true
 unfoldable pub holds : Env → Guard → Bool
 holds δ always = true
@@ -57,12 +65,7 @@ holds δ (equals x n) = eqb (numberOf δ x) n
 holds δ (below x n) = lower (numberOf δ x) n
 holds δ (same x y) = eqb (numberOf δ x) (numberOf δ y)
 holds δ (less x y) = lower (numberOf δ x) (numberOf δ y)
-
--- what an assignment's expression evaluates to: sums and differences of whole numbers, taken back into range
-unfoldable pub valueOf : Env → Expression → ℕ
-valueOf δ (constant n) = n
-valueOf δ (plus x y) = ofZ w32 (wrap (toZ w32 (numberOf δ x) +ℤ toZ w32 (numberOf δ y)))
-valueOf δ (minus x y) = ofZ w32 (wrap (toZ w32 (numberOf δ x) -ℤ toZ w32 (numberOf δ y)))
+holds δ (andFits g e) = holds δ g && isExact (valueOf δ e)
 
 -- ---- threads and agents
 

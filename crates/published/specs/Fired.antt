@@ -79,7 +79,7 @@ nothing-fires A B m = absurd m
 
 unfoldable pub ours-fire : (def : ℕ → Process) (forNumbers : ℕ → ℕ → Bool) → Labels (Ours def forNumbers)
 ours-fire def forNumbers A B (skip g) = fired 0 by-passing
-ours-fire def forNumbers A B (assigns g) = fired 0 by-assigns
+ours-fire def forNumbers A B (assigns z g e) = fired 0 by-assigns
 ours-fire def forNumbers A B (zeros D z) = fired 0 by-zeros
 
 module _ (def : ℕ → Process) (More : Agent → Agent → Type 0) (own : Labels More) where

@@ -125,7 +125,7 @@ nothing-kept A B z h = absurd z
 module _ (def : ℕ → Process) (forNumbers : ℕ → ℕ → Bool) where
   ours-polar : {A B : Agent} → Ours def forNumbers A B → Polar (A .threads) → Polar (B .threads)
   ours-polar (skip g) h = h
-  ours-polar (assigns {B = B} g) h = bare B (h .1)
+  ours-polar (assigns {B = B} z g e) h = bare B (h .1)
   ours-polar (zeros D z) h = h
 
   ours-kept : (A B : Agent) → Ours def forNumbers A B → Polar (A .threads) → Polar (B .threads)

@@ -11,6 +11,10 @@ use mathlib.Core.Path.{_≡_}
 use mathlib.Core.Bool.{Bool, true, false}
 use mathlib.Core.List.{List, [], _∷_, _++_, map}
 use mathlib.Core.Option.{Option, none, some}
+use lib.IntN.{ℤ}
+use mir.Syntax.{w32}
+use mir.Val.{ofZ}
+use Rattle.numbers.specs.declared.Checked.the-variants.{Exact}
 use Rattle.published.specs.Syntax.{Guard, Expression, Process, end, choice, invoke, Sum, branch, Prefix, tau, output, input, newChannel, newThread, assign, andWait, waiting}
 use Rattle.published.specs.Agents.{_∈_, Value, channel, number, Env, look, bind, holds, valueOf, Commitment, gives, takes, Thread, thread, Channels, adding, Agent, agent, globalrc, Commits}
 
@@ -148,7 +152,7 @@ pub record Stepped (def : ℕ → Process) (More : Agent → Agent → Type 0) (
 --  - skip: a branch with a false guard is passed over, and a wait left in its place as by (out) and (in). By 002 alone a branch with a false guard goes
 --    only together with a reduction of the branches behind it (next). So a thread whose last guards are false, or all of them, never comes to Σ wait and
 --    counts as active for ever; in document 01 it waits.
---  - assign: an assignment goes ahead as a tau does, and binds its variable to a number.
+--  - assign: an assignment that has a value goes ahead as a tau does, and binds its variable to it.
 --  - zeros: where a definition begins, its variables for numbers that have no value yet are 0, and no other variable changes. (An environment is a list;
 --    variables behind its end are unbound too.)
 
@@ -165,10 +169,11 @@ module _ (def : ℕ → Process) (forNumbers : ℕ → ℕ → Bool) where
     skip : {Δ : Channels} {Γ : List Commitment} {δ : Env} {g : Guard} {α : Prefix} {P : Process} {Q : Sum} {B : List Thread}
         → holds δ g ≡ false
         → Ours (agent Δ (thread Γ δ (choice (branch g α P Q)) ∷ B)) (agent Δ (thread Γ δ (choice (andWait Q)) ∷ B))
-    -- ḡ = true: Δ ⊢ [Γ; δ] : [g] x := e, P + Σ Qᵢ ∥ B → Δ ⊢ [∅; δ, x ▷ ē] : P ∥ B
-    assigns : {Δ : Channels} {Γ : List Commitment} {δ : Env} {g : Guard} {x : ℕ} {e : Expression} {P : Process} {Q : Sum} {B : List Thread}
+    -- ḡ = true, ē = z: Δ ⊢ [Γ; δ] : [g] x := e, P + Σ Qᵢ ∥ B → Δ ⊢ [∅; δ, x ▷ z] : P ∥ B
+    assigns : {Δ : Channels} {Γ : List Commitment} {δ : Env} {g : Guard} {x : ℕ} {e : Expression} {P : Process} {Q : Sum} {B : List Thread} (z : ℤ)
         → holds δ g ≡ true
-        → Ours (agent Δ (thread Γ δ (choice (branch g (assign x e) P Q)) ∷ B)) (agent Δ (thread [] (bind δ x (number (valueOf δ e))) P ∷ B))
+        → valueOf δ e ≡ Exact z
+        → Ours (agent Δ (thread Γ δ (choice (branch g (assign x e) P Q)) ∷ B)) (agent Δ (thread [] (bind δ x (number (ofZ w32 z))) P ∷ B))
     -- def D(..) = P: Δ ⊢ [∅; δ] : P ∥ B → Δ ⊢ [∅; δ, x ▷ 0, ..] : P ∥ B for each x that is for numbers in D and that δ does not bind
     zeros : {Δ : Channels} {δ δ′ : Env} {B : List Thread} (D : ℕ)
         → ((x : ℕ) → look δ′ x ≡ zeroed (forNumbers D x) (look δ x))

@@ -138,7 +138,7 @@ module _ (def : ℕ → Process) (forNumbers : ℕ → ℕ → Bool) where
   acts-stands (recv ĉ v w g c i e) n = inr (g, inr (_, _, refl))
   acts-stands (inn ĉ g c f) n = inr (g, inl refl)
   acts-stands (more (skip g)) n = inl (g, refl)
-  acts-stands (more (assigns g)) n = inr (g, refl)
+  acts-stands (more (assigns z g v)) n = inr (g, refl)
   acts-stands (more (zeros D z)) n = absurd (n refl)
 
   -- what stands behind a branch that is passed over
@@ -156,7 +156,7 @@ module _ (def : ℕ → Process) (forNumbers : ℕ → ℕ → Bool) where
   acts-past (recv ĉ v w g c i y) e f x = apart e refl
   acts-past (inn {δ = δ} {Q = Q} ĉ g c y) e f x = rw (one-more (f .branch)) (inr tt, and-wait δ Q (f .branch) (f .rule) x)
   acts-past (more (skip {δ = δ} {Q = Q} g)) e f x = rw (one-more (f .branch)) (inl g, and-wait δ Q (f .branch) (f .rule) x)
-  acts-past (more (assigns g)) e f x = apart e refl
+  acts-past (more (assigns z g v)) e f x = apart e refl
   acts-past (more (zeros D z)) e f x = apart e refl
 
   run-stands : {A B : Agent} (w : Run def More A B) (f : Fired) → Ends def More own w f → f .rule ≢ by-zeros → StandsFirst (A .threads) f
@@ -188,7 +188,7 @@ module _ (def : ℕ → Process) (forNumbers : ℕ → ℕ → Bool) where
   acts-met (recv ĉ v w g c i e) u k (p, q) = (inl p, rw (q, p) i)
   acts-met (inn ĉ g c f) u k m = absurd m
   acts-met (more (skip g)) u k m = absurd m
-  acts-met (more (assigns g)) u k m = absurd m
+  acts-met (more (assigns z g v)) u k m = absurd m
   acts-met (more (zeros D z)) u k m = absurd m
 
   run-met : {A B : Agent} (w : Run def More A B) (f : Fired) → Ends def More own w f → (u : Thread) (k : Commitment) → MeetsWith (f .rule) u k

@@ -1,19 +1,21 @@
 -- The process expressions of 002 (Table 1), with the wait of its section 3. Variables, channels and definitions are numbers, and the parameters of a
--- definition are its first variables. 002 leaves the guards' expressions open; those here are document 01's. One prefix, `assign`, is document 01's
--- own: no rule of 002 speaks of it.
+-- definition are its first variables. 002 leaves the guards' expressions open; those here are document 01's and document 02's. One prefix, `assign`, is
+-- document 01's own: no rule of 002 speaks of it.
 use Prim.Native.Nat.{ℕ, zero, suc}
 use mathlib.Core.Bool.{Bool, true, false}
 use mathlib.Core.List.{List}
-
--- always; a variable equals a constant, is below a constant; two variables are equal, the first is below the second
-pub data Guard : Type 0 where
-  always : Guard
-  equals below same less : ℕ → ℕ → Guard
 
 -- what document 01 assigns: a constant, the sum of two variables, their difference
 pub data Expression : Type 0 where
   constant : ℕ → Expression
   plus minus : ℕ → ℕ → Expression
+
+-- always; a variable equals a constant, is below a constant; two variables are equal, the first is below the second; and document 02's (S-4): a guard, and
+-- that an expression fits
+pub data Guard : Type 0 where
+  always : Guard
+  equals below same less : ℕ → ℕ → Guard
+  andFits : Guard → Expression → Guard
 
 mutual
   -- termination, guarded choice, call

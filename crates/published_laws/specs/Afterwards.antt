@@ -4,22 +4,24 @@ use mathlib.Core.Path.{_≡_, sym, _∙_}
 use mathlib.Core.Bool.{true}
 use mathlib.Core.List.{List, []}
 use mathlib.Core.Option.{some}
+use mir.Syntax.{w32}
+use mir.Val.{ofZ}
 use Rattle.table.specs.Table.{Table, slotCount}
 use Rattle.table.specs.Layout.{branchCount, definitionOf, slotType}
 use Rattle.state.specs.State.{maxChannels, standsAt, slotOf, inUse, isReady}
-use Rattle.rules.specs.Program.{branchAt, nextOf, childOf, fieldA, fieldB, actOf, assigned}
+use Rattle.rules.specs.Program.{branchAt, nextOf, childOf, fieldA, fieldB, actOf}
 use Rattle.rules.specs.Moves.{resumed, stored, met, gone, sideOf, goneBy, createdBy, metBy}
 use Rattle.rules.specs.declared.Direction.the-variants.{Out, In}
 use Rattle.rules.specs.declared.Act.the-variants.{Tau, Meeting, New, Spawn, Assignment}
 use Rattle.rules_laws.specs.Granted.{Granted}
+use Rattle.rules_laws.specs.Guards.{Assigning}
 use Rattle.rules_laws.specs.Soundness.{RowSound}
 use Rattle.rules_laws.specs.ThreadRow.{resumed-ready, resumed-node, resumed-slot, resumed-long, stored-node, stored-same, stored-other}
 use Rattle.rules_laws.specs.Onward.{own-slot, branching, stored-ready}
 use Rattle.published.specs.Agents as Agents
-use Rattle.published.specs.Agents.{Value, Env, bind, valueOf}
-use Rattle.published_laws.specs.Readable.{Readable}
-use Rattle.published_laws.specs.Standing.{expressionOf, processAt, valueAs, slotValue, envOf, readyThread, threadOf}
-use Rattle.published_laws.specs.Environments.{channel-value, number-value, slot-value, env-same, env-bound, assigned-same}
+use Rattle.published.specs.Agents.{Value, Env, bind}
+use Rattle.published_laws.specs.Standing.{processAt, valueAs, slotValue, envOf, readyThread, threadOf}
+use Rattle.published_laws.specs.Environments.{channel-value, number-value, slot-value, env-same, env-bound}
 use Rattle.published_laws.specs.Products.{ready-thread}
 
 module _ (tb : Table) where
@@ -29,7 +31,7 @@ module _ (tb : Table) where
   unfolding readyThread
   thread-is row m δ r n e = ready-thread tb row r ∙ rw (n, e)
 
-module _ (tb : Table) (g : Granted tb) (rd : Readable tb) (ty : ℕ → ℕ) (row : List ℕ) (r : RowSound tb ty row) (u : inUse row ≡ true)
+module _ (tb : Table) (g : Granted tb) (ty : ℕ → ℕ) (row : List ℕ) (r : RowSound tb ty row) (u : inUse row ≡ true)
     (i : ℕ) (l : i < branchCount tb (standsAt row)) where
   abbrev b : ℕ
   b = branchAt tb (standsAt row) i
@@ -73,17 +75,15 @@ module _ (tb : Table) (g : Granted tb) (rd : Readable tb) (ty : ℕ → ℕ) (ro
   unfolding goneBy gone
   tau-thread e = rw e next-thread
 
-  pub assigned-thread : actOf tb (branchAt tb (standsAt row) i) ≡ Assignment
+  -- by an assignment that is taken and comes to a number
+  pub assigned-thread : actOf tb (branchAt tb (standsAt row) i) ≡ Assignment → (a : Assigning tb row i)
       → threadOf tb (goneBy tb row i)
-      ≡ Agents.thread [] (bind (envOf tb row) (fieldA tb (branchAt tb (standsAt row) i))
-      (Agents.number (valueOf (envOf tb row) (expressionOf tb (branchAt tb (standsAt row) i)))))
+      ≡ Agents.thread [] (bind (envOf tb row) (fieldA tb (branchAt tb (standsAt row) i)) (Agents.number (ofZ w32 (a .z))))
       (processAt tb (nextOf tb (standsAt row) (branchAt tb (standsAt row) i)))
-  unfolding goneBy gone
-  assigned-thread e =
+  assigned-thread e a =
       let (o, z) = branching tb g ty row r u i l .assigns e in
-      let v = assigned tb b row in
-      rw (e, assigned-same tb g rd ty row r u i l e)
-      (stored-thread (fieldA tb b) v (Agents.number v) o (number-value (slotType tb (definitionOf tb (standsAt row)) (fieldA tb b)) v z))
+      let v = ofZ w32 (a .z) in
+      rw (a .goes) (stored-thread (fieldA tb b) v (Agents.number v) o (number-value (slotType tb (definitionOf tb (standsAt row)) (fieldA tb b)) v z))
 
   pub created-thread : actOf tb (branchAt tb (standsAt row) i) ≡ New → (c : ℕ) → c < maxChannels
       → threadOf tb (createdBy tb row i c)

@@ -18,6 +18,7 @@ use Rattle.rules.specs.Moves.{waitingRow, typed, goneBy, createdBy, typeBy, wri
 use Rattle.rules.specs.declared.Act.the-variants.{Tau, Assignment}
 use Rattle.rules.specs.declared.Move.the-variants.{Ends, Waits, Goes, Creates}
 use Rattle.rules_laws.specs.Granted.{Granted}
+use Rattle.rules_laws.specs.Guards.{assigning}
 use Rattle.rules_laws.specs.Reading.Laws.{ready-used, waiting-used}
 use Rattle.rules_laws.specs.Soundness.{RowSound, Orderly}
 use Rattle.rules_laws.specs.ThreadRow.{waiting-waits, waiting-node, waiting-slot, waiting-guard}
@@ -34,7 +35,7 @@ use Rattle.published.specs.ProductLaws.{same-order, turned-back}
 use Rattle.published_laws.specs.Readable.{Readable}
 use Rattle.published_laws.specs.Standing.{guardOf, prefixOf, sumBefore, nodeProcess, processAt, bodyOf, forNumbers, envOf, commitmentsFrom, waitingThread, readyThread, threadOf, threadsOf, channelsOf, agentOf, OurRules, OurLabels}
 use Rattle.published_laws.specs.Unrolled.{process-at}
-use Rattle.published_laws.specs.Environments.{env-same, guard-same}
+use Rattle.published_laws.specs.Environments.{env-same, assigned-same, guard-same}
 use Rattle.published_laws.specs.Products.{Bench, ready-thread, waiting-thread, stored-first, row-first}
 use Rattle.published_laws.specs.Commitments.{commitments-same}
 use Rattle.published_laws.specs.Passing.{Passed, others, tip, midway, leads-run, lead, pass-all}
@@ -190,7 +191,7 @@ module _ (tb : Table) (g : Granted tb) (rd : Readable tb) (s : State) (o : Order
     tau-reduced x =
         let row = thread s t in
         single by-step (goneBy tb row k) (ready-used (goneBy tb row k) (goneBy-ready tb row k)) (channelsOf s)
-        (λ Γ q. rw (tau-thread tb g rd (typeIn s) row sound used k m (x .does), x .does) (step (guard-true (x .passes)), refl))
+        (λ Γ q. rw (tau-thread tb g (typeIn s) row sound used k m (x .does), x .does) (step (guard-true (x .passes)), refl))
 
     -- (new)
     module _ (c : ℕ) (x : Creating tb s t k c) where
@@ -215,7 +216,7 @@ module _ (tb : Table) (g : Granted tb) (rd : Readable tb) (s : State) (o : Order
           let free : channelsOf s c ≡ false = rw (x .untyped) in
           rw channels-with
           (single (by-new c) (createdBy tb row k c) (ready-used (createdBy tb row k c) (createdBy-ready tb row k c)) (adding (channelsOf s) c)
-          (λ Γ q. rw (created-thread tb g rd (typeIn s) row sound used k m (x .takes .does) c (x .channel-in), x .takes .does)
+          (λ Γ q. rw (created-thread tb g (typeIn s) row sound used k m (x .takes .does) c (x .channel-in), x .takes .does)
           (new c (guard-true (x .takes .passes)) free, refl)))
 
   -- an assignment, document 01's own
@@ -225,6 +226,10 @@ module _ (tb : Table) (g : Granted tb) (rd : Readable tb) (s : State) (o : Order
   unfolding agentOf channelsOf written withThread tip prefixOf firing ours-fire
   assignment-reduced k kind m before x =
       let row = thread s t in
+      let a = assigning tb row k (x .passes) (x .does) in
       single (OurRules tb) (OurLabels tb) k kind m before by-assigns (goneBy tb row k) (ready-used (goneBy tb row k) (goneBy-ready tb row k)) (channelsOf s)
-      (λ Γ q. rw (assigned-thread tb g rd (typeIn s) row sound used k m (x .does), x .does)
-      (more (assigns (guard-true (OurRules tb) (OurLabels tb) k kind m before (x .passes))), refl))
+      (λ Γ q. rw (assigned-thread tb g (typeIn s) row sound used k m (x .does) a, x .does) (
+        more (assigns (a .z) (guard-true (OurRules tb) (OurLabels tb) k kind m before (x .passes))
+            (assigned-same tb g rd (typeIn s) row sound used k m (x .does) ∙ a .comes-to)),
+        refl,
+      ))

@@ -6,6 +6,9 @@ use mathlib.Core.Path.{_≡_, refl}
 use mathlib.Core.Bool.{true, false}
 use mathlib.Core.List.{List, [], _∷_}
 use mathlib.Core.Option.{Option, none, some}
+use mir.Syntax.{w32}
+use mir.Val.{Fits, toZ, ofZ}
+use mir.Facts.{ofZ-toZ}
 use lib.ListN.{length, getD}
 use Rattle.numbers.specs.Tests.{clash}
 use Rattle.table.specs.Table.{Table, tableOf, ports}
@@ -201,9 +204,13 @@ module _ (table : List ℕ) (ok : accepted table ≡ true) (fit : (i : ℕ) → 
     abbrev sending : ℕ → Process
     sending p = choice (branch always (output p (ports (tableOf table))) E nothing)
 
-    set-first : (p v : ℕ) → Leads state state o (choice (branch always (assign (ports tb) (constant v)) (sending p) nothing)) (some (Agents.number v)) (sending p)
+    set-first : (p v : ℕ) → v < 4294967296 → Leads state state o (choice (branch always (assign (ports tb) (constant v)) (sending p) nothing)) (some (Agents.number v)) (sending p)
     unfolding agentOf Agents.holds valueOf
-    set-first p v = rw (← bind-own tb o (Agents.number v)) (goes (acts (more (assigns refl))) stays)
+    set-first p v l =
+        let f : Fits w32 v = record { fits = l } in
+        let moved : Leads state state o (choice (branch always (assign (ports tb) (constant v)) (sending p) nothing)) (some (Agents.number (ofZ w32 (toZ w32 v)))) (sending p) =
+        rw (← bind-own tb o (Agents.number (ofZ w32 (toZ w32 v)))) (goes (acts (more (assigns (toZ w32 v) refl refl))) stays) in
+        rw (ofZ-toZ f) at moved
 
     given-by : (p v : ℕ) → v < 4294967296 → (a : Given) → giveCall table state p v .answer ≡ a
         → Leads state (giveCall table state p v .state) o (giving (ports tb) p v a E) (numberGiven v a o) E
@@ -213,7 +220,7 @@ module _ (table : List ℕ) (ok : accepted table ≡ true) (fit : (i : ℕ) → 
         let bn = bench-is tb n (own-refers n (a-number v)) E w in
         let sent = give-call-reduced table ok fit state sb (bodyOf tb) (OurRules tb) (OurLabels tb) p (portsAnd tb n) p (ports tb) E nothing
         (look-port tb n p (given-port p v u e)) v l (look-own tb n) bn u e .1 .stepped in
-        many-on (Reduces (bodyOf tb) (OurRules tb)) (set-first p v)
+        many-on (Reduces (bodyOf tb) (OurRules tb)) (set-first p v l)
         (stepped-reaches (bodyOf tb) (OurRules tb) (agentOf tb (benchAt n (sending p)) (view state)) (benchAt n (sending p))
         (agentOf tb (benchAt n E) (view (giveCall table state p v .state))) sent)
     given-by p v l Given.Nobody e = nothing-happens state (giveCall table state p v .state) (give-nobody-keeps table state (sb .small) p v e) o E

@@ -269,7 +269,7 @@ module _ (tb : Table) (g : Granted tb) (rd : Readable tb) (s : State) (o : Order
           let (c, p) = is-end (channelsOf s) _ (by-action Tau x (λ Γ Q U y. y)) in (
             c,
             twice (turned-back (own-row (goneBy tb row k) (ready-used (goneBy tb row k) (goneBy-ready tb row k)) _
-                (tau-thread tb g rd (typeIn s) row sound used k (x .branch-in) (x .does)))) p,
+                (tau-thread tb g (typeIn s) row sound used k (x .branch-in) (x .does)))) p,
           )
 
       -- document 01's own: 002 has no rule for it
@@ -288,7 +288,7 @@ module _ (tb : Table) (g : Granted tb) (rd : Readable tb) (s : State) (o : Order
           (is-end _ _ q) (
             channels-with tb g rd s o t l ready b bn Nothing nothing-fires k kind (x .takes .branch-in) before-it c x,
             own-row (createdBy tb row k c) (ready-used (createdBy tb row k c) (createdBy-ready tb row k c)) _
-                (created-thread tb g rd (typeIn s) row sound used k (x .takes .branch-in) (x .takes .does) c (x .channel-in)),
+                (created-thread tb g (typeIn s) row sound used k (x .takes .branch-in) (x .takes .does) c (x .channel-in)),
           )
 
       -- (spawn)
@@ -298,8 +298,8 @@ module _ (tb : Table) (g : Granted tb) (rd : Readable tb) (s : State) (o : Order
           let row = thread s t in
           let (c, p) = is-end (channelsOf s) _ (by-action Spawn (x .takes) (λ Γ Q U y. y)) in
           let q = rw (
-            next-thread tb g rd (typeIn s) row sound used k (x .takes .branch-in),
-            child-thread tb g rd (typeIn s) row sound used k (x .takes .branch-in) (x .takes .does),
+            next-thread tb g (typeIn s) row sound used k (x .takes .branch-in),
+            child-thread tb g (typeIn s) row sound used k (x .takes .branch-in) (x .takes .does),
           ) at (family-first tb g rd s o t l ready b bn Nothing nothing-fires k kind (x .takes .branch-in) before-it u x) in
           (c, twice (twice q (same-first (same-first same-others))) p)
 
@@ -359,8 +359,8 @@ module _ (tb : Table) (g : Granted tb) (rd : Readable tb) (s : State) (o : Order
               let c : ĉ ≡ channelBy tb s t k = same-as Out does ĉ q in
               let f : w ≡ w′ = same-value (envOf tb (thread s t)) (fieldB tb (branchAt tb (standsAt (thread s t)) k)) w w′ e has in
               let both = rw (
-                gave-thread tb g rd (typeIn s) (thread s t) sound used k (x .branch-in) does (valueBy tb (thread s u) j),
-                received-thread tb g rd (typeIn s) (thread s u) mate-sound mate-used j (a .branch-in) does′ (valueBy tb (thread s t) k) w′ gets,
+                gave-thread tb g (typeIn s) (thread s t) sound used k (x .branch-in) does (valueBy tb (thread s u) j),
+                received-thread tb g (typeIn s) (thread s u) mate-sound mate-used j (a .branch-in) does′ (valueBy tb (thread s t) k) w′ gets,
               ) at (both-first tb g rd s o t l ready b bn Nothing nothing-fires k kind (x .branch-in) before-it u j d x a) in
               other-taker v (waitingThread tb (thread s u)) C apart (nextBy tb g rd s o t l ready b bn k) (channelBy tb s t k) y slot′ R next′ w′ p two-first
               (rw c at i) mate-takes (is-end _ _ (rw f at z)) (refl, turned-back both)
@@ -391,8 +391,8 @@ module _ (tb : Table) (g : Granted tb) (rd : Readable tb) (s : State) (o : Order
               does′ does (a .is) in
               let c : ĉ ≡ channelBy tb s t k = same-as In does ĉ q in
               let both = rw (
-                received-thread tb g rd (typeIn s) (thread s t) sound used k (x .branch-in) does (valueBy tb (thread s u) j) w′ gets,
-                gave-thread tb g rd (typeIn s) (thread s u) mate-sound mate-used j (a .branch-in) does′ (valueBy tb (thread s t) k),
+                received-thread tb g (typeIn s) (thread s t) sound used k (x .branch-in) does (valueBy tb (thread s u) j) w′ gets,
+                gave-thread tb g (typeIn s) (thread s u) mate-sound mate-used j (a .branch-in) does′ (valueBy tb (thread s t) k),
               ) at (both-first tb g rd s o t l ready b bn Nothing nothing-fires k kind (x .branch-in) before-it u j d x a) in
               other-giver v (waitingThread tb (thread s u)) C apart (nextBy tb g rd s o t l ready b bn k) (channelBy tb s t k)
               (fieldB tb (branchAt tb (standsAt (thread s t)) k)) y slot′ R next′ w w′ p two-first (rw c at i) mate-gives e has

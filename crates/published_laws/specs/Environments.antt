@@ -2,9 +2,9 @@
 -- nothing but what the table grants.
 use Prim.Native.Nat.{ℕ, _<_, _≤_}
 use native.Mathlib.Omega.{arith}
-use mathlib.Core.Path.{_≡_, sym, _∙_, ap}
+use mathlib.Core.Path.{_≡_, refl, sym, _∙_, ap}
 use mathlib.Core.Logic.{_≢_}
-use mathlib.Core.Bool.{true, false}
+use mathlib.Core.Bool.{true, false, _&&_}
 use mathlib.Core.List.{List}
 use mathlib.Core.Option.{none, some}
 use lib.Dec.{ltb, eqb}
@@ -13,16 +13,18 @@ use borrow.Author.Tests.{ltb-true, ltb-false, lt-ltb, eqb-true, eqb-false, eq-eq
 use Rattle.numbers.specs.Rows.{at}
 use Rattle.numbers.specs.Search.{tabulate}
 use Rattle.numbers.specs.Search.Laws.{caseB, contra, same-truth, getD-tabulate, length-tabulate, tabulate-cong, is-tabulate}
-use Rattle.numbers.specs.Tests.{clash}
+use Rattle.numbers.specs.Tests.{clash, and-true}
 use Rattle.table.specs.Fields as Field
 use Rattle.table.specs.Table.{Table, slotCount}
 use Rattle.table.specs.Layout.{branchCount, definitionOf, slotType}
 use Rattle.flow.specs.Flow.{mayLack}
 use Rattle.state.specs.State.{maxChannels, rowSlots, standsAt, slotOf, inUse}
-use Rattle.rules.specs.Program.{wrappedSum, wrappedDifference, branchAt, fieldB, fieldC, actOf, guardHolds, assigned}
+use Rattle.rules.specs.Program.{checkedSum, checkedDifference, fitting, branchAt, fieldB, fieldC, actOf, printedGuard, assigned, guardHolds}
 use Rattle.rules.specs.Holding.{holds}
-use Rattle.rules.specs.declared.Act.the-variants.{Assignment}
+use Rattle.rules.specs.declared.Act.{Act}
+use Rattle.rules.specs.declared.Act.the-variants.{Tau, Meeting, New, Spawn, Assignment}
 use Rattle.rules_laws.specs.Granted.{Granted}
+use Rattle.rules_laws.specs.Codes.{assigns-by}
 use Rattle.rules_laws.specs.Reading.Laws.{holds-elim, holds-intro}
 use Rattle.rules_laws.specs.Soundness.{SlotSound, spare, number, unfilled, filled, RowSound}
 use Rattle.rules_laws.specs.Onward.{own-slot}
@@ -30,7 +32,7 @@ use Rattle.published.specs.Agents as Agents
 use Rattle.published.specs.Agents.{Value, look, bind, numeric, numberOf, valueOf, Thread, knows}
 use Rattle.published.specs.Bindings.{look-bound, look-other, length-bound, knows-iff}
 use Rattle.published_laws.specs.Readable.{NumberSlot, Readable}
-use Rattle.published_laws.specs.Standing.{guardOf, expressionOf, valueAs, slotValue, trimmed, envOf}
+use Rattle.published_laws.specs.Standing.{printedGuardOf, expressionOf, guardBy, guardOf, valueAs, slotValue, trimmed, envOf}
 use Rattle.published_laws.specs.Trimmed.{look-trimmed, trimmed-bound}
 
 -- ---- values
@@ -166,10 +168,10 @@ module _ (tb : Table) (g : Granted tb) (rd : Readable tb) (ty : ℕ → ℕ) (ro
     abbrev b : ℕ
     b = branchAt tb (standsAt row) i
 
-    -- a guard is true in the environment just if it is in the row
-    pub guard-same : Agents.holds (envOf tb row) (guardOf tb (branchAt tb (standsAt row) i)) ≡ guardHolds tb (branchAt tb (standsAt row) i) row
-    unfolding guardHolds guardOf Agents.holds
-    guard-same =
+    -- a guard, as the file has it, is true in the environment just if it is in the row
+    pub printed-same : Agents.holds (envOf tb row) (printedGuardOf tb (branchAt tb (standsAt row) i)) ≡ printedGuard tb (branchAt tb (standsAt row) i) row
+    unfolding printedGuard printedGuardOf Agents.holds
+    printed-same =
         let h = rd .reading (standsAt row) i (r .node-in u) l in
         caseB (eqb (at tb b Field.guard) 0) (λ e. rw e)
         (λ e. let x = number-read (at tb b Field.first) (h .guard-first (eqb-false (at tb b Field.guard) 0 e)) in
@@ -178,32 +180,30 @@ module _ (tb : Table) (g : Granted tb) (rd : Readable tb) (ty : ℕ → ℕ) (ro
         (λ j. let y = number-read (at tb b Field.second) (h .guard-second (omega (arith, eqb-false (at tb b Field.guard) 0 e, eqb-false (at tb b Field.guard) 1 f, eqb-false (at tb b Field.guard) 2 j))) in
         caseB (eqb (at tb b Field.guard) 3) (λ k. rw (e, f, j, k, x, y)) (λ k. rw (e, f, j, k, x, y)))))
 
-    assignment-code : actOf tb b ≡ Assignment → 5 ≤ at tb b Field.action
-    unfolding actOf
-    assignment-code m =
-        caseB (eqb (at tb b Field.action) 1) (λ e. clash (let q = rw e at m in cc))
-        (λ e. caseB (eqb (at tb b Field.action) 2) (λ f. clash (let q = rw (e, f) at m in cc))
-        (λ f. caseB (eqb (at tb b Field.action) 3) (λ j. clash (let q = rw (e, f, j) at m in cc))
-        (λ j. caseB (eqb (at tb b Field.action) 4) (λ k. clash (let q = rw (e, f, j, k) at m in cc))
-        (λ k. caseB (eqb (at tb b Field.action) 0) (λ z. clash (let q = rw (e, f, j, k, z) at m in cc))
-        (λ z. omega (
-          arith,
-          eqb-false (at tb b Field.action) 0 z,
-          eqb-false (at tb b Field.action) 1 e,
-          eqb-false (at tb b Field.action) 2 f,
-          eqb-false (at tb b Field.action) 3 j,
-          eqb-false (at tb b Field.action) 4 k,
-        ))))))
-
     -- what is assigned
     pub assigned-same : actOf tb (branchAt tb (standsAt row) i) ≡ Assignment
         → valueOf (envOf tb row) (expressionOf tb (branchAt tb (standsAt row) i)) ≡ assigned tb (branchAt tb (standsAt row) i) row
-    unfolding assigned wrappedSum wrappedDifference expressionOf valueOf
+    unfolding assigned checkedSum checkedDifference expressionOf valueOf
     assigned-same m =
         let h = rd .reading (standsAt row) i (r .node-in u) l in
-        let c = assignment-code m in
+        let c = assigns-by tb b m in
         caseB (eqb (at tb b Field.action) 5) (λ e. rw e)
         (λ e. let above : 5 < at tb b Field.action = omega (arith, eqb-false (at tb b Field.action) 5 e) in
         let x = number-read (fieldB tb b) (h .sum-first above) in
         let y = number-read (fieldC tb b) (h .sum-second above) in
         caseB (eqb (at tb b Field.action) 6) (λ f. rw (e, f, x, y)) (λ f. rw (e, f, x, y)))
+
+    guard-by : (a : Act) → actOf tb (branchAt tb (standsAt row) i) ≡ a
+        → Agents.holds (envOf tb row) (guardBy tb (branchAt tb (standsAt row) i) a)
+        ≡ (printedGuard tb (branchAt tb (standsAt row) i) row && fitting a (assigned tb (branchAt tb (standsAt row) i) row))
+    unfolding guardBy fitting Agents.holds
+    guard-by Tau e = printed-same ∙ and-true (printedGuard tb b row)
+    guard-by (Meeting d) e = printed-same ∙ and-true (printedGuard tb b row)
+    guard-by New e = printed-same ∙ and-true (printedGuard tb b row)
+    guard-by Spawn e = printed-same ∙ and-true (printedGuard tb b row)
+    guard-by Assignment e = rw (printed-same, assigned-same e)
+
+    -- so is the guard that counts
+    pub guard-same : Agents.holds (envOf tb row) (guardOf tb (branchAt tb (standsAt row) i)) ≡ guardHolds tb (branchAt tb (standsAt row) i) row
+    unfolding guardHolds guardOf
+    guard-same = guard-by (actOf tb b) refl

@@ -3,6 +3,7 @@ pub mod Trimmed
 pub mod Readable
 pub mod Unrolled
 pub mod Environments
+pub mod Fitting
 pub mod Products
 pub mod Reclaims
 pub mod Commitments

@@ -97,7 +97,7 @@ module _ (tb : Table) (g : Granted tb) (rd : Readable tb) (s : State) (ok : Soun
         let fits = number-value (slotType tb (definitionOf tb (standsAt (thread s u))) (fieldB tb b)) v (number-slot In a) in
         let end : Rearranged (gave ∷ (Agents.thread [] (bind (envOf tb (thread s u)) (fieldB tb b) (Agents.number v)) _ ∷ rest))
         (gave ∷ threadsOf tb (set (s .threads) u (metBy tb (thread s u) j v))) =
-        rw (received-thread tb g rd (typeIn s) (thread s u) (sound In a) (used In a) j (a .branch-in) (a .does) v (Agents.number v) fits)
+        rw (received-thread tb g (typeIn s) (thread s u) (sound In a) (used In a) j (a .branch-in) (a .does) v (Agents.number v) fits)
         at (same-first {t = gave} (turned-back (after-first In a v))) in
         turn-by def More own (fired 0 (by-send (waitingThread tb (thread s u)) (used-up In a))) (same-first (met-first In a))
         (last (send p (fieldB tb b) (Agents.number v) refl on (met-commits tb s bench u j p In a) has), refl) end
@@ -141,7 +141,7 @@ module _ (tb : Table) (g : Granted tb) (rd : Readable tb) (s : State) (ok : Soun
         let m = meets-by tb g (typeIn s) (thread s u) (sound Out a) (used Out a) j (a .branch-in) Out (a .does) in
         let has = look-filled tb g rd (typeIn s) (thread s u) (sound Out a) (used Out a) (fieldB tb b) (m .with-slot)
         ∙ number-value (slotType tb (definitionOf tb (standsAt (thread s u))) (fieldB tb b)) (valueBy tb (thread s u) j) (number-slot Out a) in
-        let end = rw (gave-thread tb g rd (typeIn s) (thread s u) (sound Out a) (used Out a) j (a .branch-in) (a .does) 0)
+        let end = rw (gave-thread tb g (typeIn s) (thread s u) (sound Out a) (used Out a) j (a .branch-in) (a .does) 0)
         at (same-first {t = took} (turned-back (after-first Out a 0))) in
         turn-by def More own (fired 0 (by-recv (waitingThread tb (thread s u)) (used-up Out a))) (same-first (met-first Out a))
         (last (recv p (fieldB tb b) (Agents.number (valueBy tb (thread s u) j)) refl on (met-commits tb s bench u j p Out a) has), refl) end

@@ -17,7 +17,7 @@ use Rattle.rules.specs.Program.{kindOf, callee, argument, branchAt, nextOf, chi
 use Rattle.rules.specs.declared.Direction.the-variants.{Out, In}
 use Rattle.rules.specs.declared.Act.{Act}
 use Rattle.rules.specs.declared.Act.the-variants.{Tau, Meeting, New, Spawn, Assignment}
-use Rattle.published.specs.Syntax.{Guard, always, equals, below, same, less, Expression, constant, plus, minus, Process, end, choice, invoke, Sum, nothing, branch, Prefix, tau, output, input, newChannel, newThread, assign, waits}
+use Rattle.published.specs.Syntax.{Expression, constant, plus, minus, Guard, always, equals, below, same, less, andFits, Process, end, choice, invoke, Sum, nothing, branch, Prefix, tau, output, input, newChannel, newThread, assign, waits}
 use Rattle.published.specs.Agents.{Value, channel, number, Env, Commitment, gives, takes, Thread, thread, Channels, Agent, agent}
 use Rattle.published.specs.Rules.{Ours}
 use Rattle.published.specs.Fired.{Labels, ours-fire}
@@ -43,9 +43,9 @@ channelsOf s c = not (eqb (typeIn s c) 0)
 module _ (tb : Table) where
   -- ---- processes
 
-  -- the guard of the branch in row r
-  unfoldable pub guardOf : ℕ → Guard
-  guardOf r =
+  -- the guard of the branch in row r, as the file has it
+  unfoldable pub printedGuardOf : ℕ → Guard
+  printedGuardOf r =
       cond (eqb (at tb r Field.guard) 0) always
       (cond (eqb (at tb r Field.guard) 1) (equals (at tb r Field.first) (widened (at tb r Field.second)))
       (cond (eqb (at tb r Field.guard) 2) (below (at tb r Field.first) (widened (at tb r Field.second)))
@@ -57,6 +57,17 @@ module _ (tb : Table) where
   expressionOf r =
       cond (eqb (at tb r Field.action) 5) (constant (widened (fieldB tb r)))
       (cond (eqb (at tb r Field.action) 6) (plus (fieldB tb r) (fieldC tb r)) (minus (fieldB tb r) (fieldC tb r)))
+
+  -- the guard that counts, by the act of the branch: an assignment has to fit (document 02, S-4)
+  unfoldable pub guardBy : ℕ → Act → Guard
+  guardBy r Tau = printedGuardOf r
+  guardBy r (Meeting d) = printedGuardOf r
+  guardBy r New = printedGuardOf r
+  guardBy r Spawn = printedGuardOf r
+  guardBy r Assignment = andFits (printedGuardOf r) (expressionOf r)
+
+  unfoldable pub guardOf : ℕ → Guard
+  guardOf r = guardBy r (actOf tb r)
 
   -- the prefix of the branch in row r, by its act, where a child would begin with the process P
   unfoldable pub prefixOf : Process → ℕ → Act → Prefix

@@ -131,8 +131,8 @@ module _ (tb : Table) (g : Granted tb) (rd : Readable tb) (s : State) (o : Order
           led tb g rd s o t l ready b bn More labels k kind m before (by-spawn (threadOf tb child)) rest (channelsOf s) (threadOf tb child) (threadOf tb parent ∷ rest)
           (b ∷ threadsOf tb (set (set (s .threads) t parent) u child)) (same-order rest) (λ y i. i)
           (λ Γ q. rw (
-            next-thread tb g rd (typeIn s) (thread s t) sound used k m,
-            child-thread tb g rd (typeIn s) (thread s t) sound used k m (x .takes .does),
+            next-thread tb g (typeIn s) (thread s t) sound used k m,
+            child-thread tb g (typeIn s) (thread s t) sound used k m (x .takes .does),
             x .takes .does,
           )
           (spawn (guard-true (x .takes .passes)), refl))
@@ -199,8 +199,8 @@ module _ (tb : Table) (g : Granted tb) (rd : Readable tb) (s : State) (o : Order
           let commits = rw dir at (met-commits tb s t u j (channelBy tb s t k) (opposite d) a) in
           let c = channel-is tb g rd s o t l ready b bn k m Out does in
           rw (
-            gave-thread tb g rd (typeIn s) (thread s t) sound used k m does (valueBy tb (thread s u) j),
-            received-thread tb g rd (typeIn s) (thread s u) mate-sound mate-used j (a .branch-in) does′ (valueBy tb (thread s t) k) w gets,
+            gave-thread tb g (typeIn s) (thread s t) sound used k m does (valueBy tb (thread s u) j),
+            received-thread tb g (typeIn s) (thread s u) mate-sound mate-used j (a .branch-in) does′ (valueBy tb (thread s t) k) w gets,
             does,
           )
           (send (channelBy tb s t k) (fieldB tb (branchAt tb (standsAt (thread s u)) j)) w (guard-true (x .passes)) c commits has, refl)
@@ -215,8 +215,8 @@ module _ (tb : Table) (g : Granted tb) (rd : Readable tb) (s : State) (o : Order
           let commits = rw dir at (met-commits tb s t u j (channelBy tb s t k) (opposite d) a) in
           let c = channel-is tb g rd s o t l ready b bn k m In does in
           rw (
-            received-thread tb g rd (typeIn s) (thread s t) sound used k m does (valueBy tb (thread s u) j) w gets,
-            gave-thread tb g rd (typeIn s) (thread s u) mate-sound mate-used j (a .branch-in) does′ (valueBy tb (thread s t) k),
+            received-thread tb g (typeIn s) (thread s t) sound used k m does (valueBy tb (thread s u) j) w gets,
+            gave-thread tb g (typeIn s) (thread s u) mate-sound mate-used j (a .branch-in) does′ (valueBy tb (thread s t) k),
             does,
           )
           (recv (channelBy tb s t k) (fieldB tb (branchAt tb (standsAt (thread s u)) j)) w (guard-true (x .passes)) c commits has, refl)

@@ -4,7 +4,11 @@ use mathlib.Core.Bool.{Bool, true, false, not, _&&_, cond}
 use mathlib.Core.List.{List, _∷_}
 use lib.Dec.{ltb, leb, eqb}
 use lib.ListN.{set}
+use mir.Syntax.{w32}
+use mir.Val.{ofZ}
 use Rattle.numbers.specs.Search.{first}
+use Rattle.numbers.specs.declared.Checked.{Checked}
+use Rattle.numbers.specs.declared.Checked.the-variants.{Exact, Overflow}
 use Rattle.table.specs.Table.{Table}
 use Rattle.table.specs.Layout.{branchCount}
 use Rattle.state.specs.Words as Word
@@ -121,13 +125,18 @@ unfoldable pub met : Direction → List ℕ → ℕ → ℕ → ℕ → List ℕ
 met Out row n b v = resumed row n
 met In row n b v = stored (resumed row n) b v
 
+-- a row with what an assignment comes to in slot k. No move stores an overflow: the guard of such a branch counts as false
+unfoldable pub storedNumber : List ℕ → ℕ → Checked → List ℕ
+storedNumber row k (Exact z) = stored row k (ofZ w32 z)
+storedNumber row k Overflow = row
+
 -- the row after a tau or an assignment in row r
-unfoldable pub gone : Act → List ℕ → ℕ → ℕ → ℕ → List ℕ
+unfoldable pub gone : Act → List ℕ → ℕ → ℕ → Checked → List ℕ
 gone Tau row n a v = resumed row n
 gone (Meeting d) row n a v = resumed row n
 gone New row n a v = resumed row n
 gone Spawn row n a v = resumed row n
-gone Assignment row n a v = stored (resumed row n) a v
+gone Assignment row n a v = storedNumber (resumed row n) a v
 
 -- the direction of an act
 unfoldable pub sideOf : Act → Direction

@@ -6,9 +6,11 @@ use mathlib.Core.List.{List}
 use lib.Dec.{ltb, eqb}
 use lib.IntN.{_+ℤ_, _-ℤ_}
 use mir.Syntax.{w32}
-use mir.Val.{toZ, ofZ}
+use mir.Val.{toZ}
 use Rattle.numbers.specs.Rows.{at}
-use Rattle.numbers.specs.Signed.{wrap, lower, widened}
+use Rattle.numbers.specs.Signed.{narrowed, isExact, lower, widened}
+use Rattle.numbers.specs.declared.Checked.{Checked}
+use Rattle.numbers.specs.declared.Checked.the-variants.{Exact}
 use Rattle.table.specs.Fields as Field
 use Rattle.table.specs.Table.{Table, nodeRow, branchRow, slotCount}
 use Rattle.table.specs.Layout.{start, definitionOf, slotType}
@@ -19,13 +21,21 @@ use Rattle.rules.specs.declared.Direction.the-variants.{Out, In}
 use Rattle.rules.specs.declared.Act.{Act}
 use Rattle.rules.specs.declared.Act.the-variants.{Tau, Meeting, New, Spawn, Assignment}
 
--- ---- numbers in slots, each by its pattern: the sum of two whole numbers, taken back into range, and their difference
+-- ---- numbers in slots, each by its pattern: the sum of two whole numbers, if it fits a slot, and their difference (document 02, S-4)
 
-unfoldable pub wrappedSum : ℕ → ℕ → ℕ
-wrappedSum x y = ofZ w32 (wrap (toZ w32 x +ℤ toZ w32 y))
+unfoldable pub checkedSum : ℕ → ℕ → Checked
+checkedSum x y = narrowed (toZ w32 x +ℤ toZ w32 y)
 
-unfoldable pub wrappedDifference : ℕ → ℕ → ℕ
-wrappedDifference x y = ofZ w32 (wrap (toZ w32 x -ℤ toZ w32 y))
+unfoldable pub checkedDifference : ℕ → ℕ → Checked
+checkedDifference x y = narrowed (toZ w32 x -ℤ toZ w32 y)
+
+-- whether what a branch assigns fits: an assignment that comes to v; other acts assign nothing
+unfoldable pub fitting : Act → Checked → Bool
+fitting Tau v = true
+fitting (Meeting d) v = true
+fitting New v = true
+fitting Spawn v = true
+fitting Assignment v = isExact v
 
 module _ (tb : Table) where
   -- ---- slots
@@ -86,21 +96,27 @@ module _ (tb : Table) where
         (cond (eqb (at tb r Field.action) 4) Spawn
         (cond (eqb (at tb r Field.action) 0) Tau Assignment))))
 
-    -- whether its guard is true of a thread's row: always; slot equals constant; slot below constant; two slots equal; first slot below second
-    unfoldable pub guardHolds : List ℕ → Bool
-    guardHolds row =
+    -- whether its guard, as the file has it, is true of a thread's row: always; slot equals constant; slot below constant; two slots equal; first
+    -- slot below second
+    unfoldable pub printedGuard : List ℕ → Bool
+    printedGuard row =
         cond (eqb (at tb r Field.guard) 0) true
         (cond (eqb (at tb r Field.guard) 1) (eqb (slotOf row (at tb r Field.first)) (widened (at tb r Field.second)))
         (cond (eqb (at tb r Field.guard) 2) (lower (slotOf row (at tb r Field.first)) (widened (at tb r Field.second)))
         (cond (eqb (at tb r Field.guard) 3) (eqb (slotOf row (at tb r Field.first)) (slotOf row (at tb r Field.second)))
         (lower (slotOf row (at tb r Field.first)) (slotOf row (at tb r Field.second))))))
 
-    -- what an assignment gives: the constant b, the sum of slots b and c, or their difference
-    unfoldable pub assigned : List ℕ → ℕ
+    -- what an assignment comes to: the constant b, the sum of slots b and c, or their difference
+    unfoldable pub assigned : List ℕ → Checked
     assigned row =
-        cond (eqb (at tb r Field.action) 5) (widened fieldB)
-        (cond (eqb (at tb r Field.action) 6) (wrappedSum (slotOf row fieldB) (slotOf row fieldC))
-        (wrappedDifference (slotOf row fieldB) (slotOf row fieldC)))
+        cond (eqb (at tb r Field.action) 5) (Exact (toZ w32 (widened fieldB)))
+        (cond (eqb (at tb r Field.action) 6) (checkedSum (slotOf row fieldB) (slotOf row fieldC))
+        (checkedDifference (slotOf row fieldB) (slotOf row fieldC)))
+
+    -- whether its guard counts as true, for whoever goes by guards: the file's is true, and what the branch assigns, if anything, fits. So a sum or
+    -- difference that does not fit makes its branch one with a false guard (document 02, S-4)
+    unfoldable pub guardHolds : List ℕ → Bool
+    guardHolds row = printedGuard row && fitting actOf (assigned row)
 
 -- the side that answers a direction
 unfoldable pub opposite : Direction → Direction

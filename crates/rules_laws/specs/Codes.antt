@@ -83,13 +83,13 @@ module _ (tb : Table) (r : ℕ) where
       rw (ne-eqb (at tb r Field.action) 1 (λ e. omega arith), ne-eqb (at tb r Field.action) 2 (λ e. omega arith), ne-eqb (at tb r Field.action) 3 (λ e. omega arith))
       (caseB (eqb (at tb r Field.action) 5) (λ e. rw e) (λ e. rw (e, lt-ltb 5 (at tb r Field.action) (omega (arith, eqb-false (at tb r Field.action) 5 e)))))
 
-  assignment-code : Coded → actOf tb r ≡ Assignment → operandRole tb r 2 ≡ WriteNumber
-  assignment-code (tau c a) m = clash cc
-  assignment-code (out c a) m = clash cc
-  assignment-code (inn c a) m = clash cc
-  assignment-code (new c a) m = clash cc
-  assignment-code (spawn c a) m = clash cc
-  assignment-code (assignment c a) m = assigned-role c
+  assigns-code : Coded → actOf tb r ≡ Assignment → 5 ≤ at tb r Field.action
+  assigns-code (tau c a) m = clash cc
+  assigns-code (out c a) m = clash cc
+  assigns-code (inn c a) m = clash cc
+  assigns-code (new c a) m = clash cc
+  assigns-code (spawn c a) m = clash cc
+  assigns-code (assignment c a) m = c
 
   spawn-code : Coded → actOf tb r ≡ Spawn → at tb r Field.action ≡ 4
   spawn-code (tau c a) m = clash cc
@@ -127,7 +127,10 @@ module _ (tb : Table) (r : ℕ) where
   creates-in m = new-code coded m
 
   pub assigns-in : actOf tb r ≡ Assignment → operandRole tb r 2 ≡ WriteNumber
-  assigns-in m = assignment-code coded m
+  assigns-in m = assigned-role (assigns-code coded m)
+
+  pub assigns-by : actOf tb r ≡ Assignment → 5 ≤ at tb r Field.action
+  assigns-by m = assigns-code coded m
 
   pub spawns-by : actOf tb r ≡ Spawn → at tb r Field.action ≡ 4
   spawns-by m = spawn-code coded m

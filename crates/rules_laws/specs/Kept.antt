@@ -87,7 +87,7 @@ module _ (tb : Table) (g : Granted tb) (s : State) (o : Orderly tb s) (t : ℕ) 
   goes-kept : (i : ℕ) → Chosen tb s t (Goes i) → Orderly tb (written tb s t (Goes i))
   unfolding Chosen
   goes-kept i (inl p) = gone-kept i (tau-sound tb g (typeIn s) (thread s t) old used i (p .branch-in) (p .does))
-  goes-kept i (inr p) = gone-kept i (assigned-sound tb g (typeIn s) (thread s t) old used i (p .branch-in) (p .does))
+  goes-kept i (inr p) = gone-kept i (assigned-sound tb g (typeIn s) (thread s t) old used i (p .branch-in) (p .passes) (p .does))
 
   -- ---- a new channel
 

@@ -26,6 +26,7 @@ use Rattle.rules_laws.specs.Granted.{Granted}
 use Rattle.rules_laws.specs.Reading.Laws.{ready-used, waiting-used, holds-elim, holds-intro}
 use Rattle.rules_laws.specs.Soundness.{RowSound, Orderly, Sound}
 use Rattle.rules_laws.specs.Chosen.{Open, Answering, Joining, Creating, Chosen, chosen, partner-answers}
+use Rattle.rules_laws.specs.Guards.{assigning}
 use Rattle.rules_laws.specs.Onward.{own-slot, branching}
 use Rattle.rules_laws.specs.Meetings.{meets-by, value-type}
 use Rattle.rules_laws.specs.Replaced.{set-read}
@@ -134,7 +135,7 @@ module _ (tb : Table) (g : Granted tb) (s : State) (ok : Orderly tb s) (t : ℕ)
       let (k, z) = b .assigns (o .does) in
       ⊎-elim (λ (v, n). absurd (n z)) (λ y. y)
       (stored-held tb (thread s t) used _ (b .next .same) (ok .row t l .long) _ _ (own-slot tb g (typeIn s) (thread s t) (ok .row t l) used _ k) c
-      (rw (o .does) at h))
+      (rw (assigning tb (thread s t) i (o .passes) (o .does) .goes) at h))
 
   created-from : (i k : ℕ) → Creating tb s t i k → From tb s (t ∷ []) (createdBy tb (thread s t) i k)
   unfolding createdBy

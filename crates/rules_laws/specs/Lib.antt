@@ -5,6 +5,7 @@ pub mod Accepted
 pub mod Filled
 pub mod Shape
 pub mod Reading
+pub mod Guards
 pub mod Soundness
 pub mod Decided
 pub mod Chosen

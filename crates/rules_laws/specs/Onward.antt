@@ -5,47 +5,37 @@ use mathlib.Core.Path.{_≡_, refl}
 use mathlib.Core.Bool.{true}
 use mathlib.Core.List.{List}
 use mathlib.Core.Logic.{⊎-elim}
-use lib.Dec.{ltb, eqb}
-use lib.IntN.{ℤ, _+ℤ_, _-ℤ_}
 use mir.Syntax.{w32}
-use mir.Val.{Fits, toZ, ofZ}
-use mir.Facts.{sfits-toZ, fits-ofZ}
-use Rattle.numbers.specs.Rows.{at}
-use Rattle.numbers.specs.Signed.{residue, wrap, widened}
-use Rattle.numbers.specs.Signed.Laws.{residue-below, sum-below}
-use Rattle.numbers.specs.Search.Laws.{caseB}
-use Rattle.table.specs.Fields as Field
+use mir.Val.{ofZ}
+use mir.Facts.{fits-ofZ}
+use Rattle.numbers.specs.declared.Checked.{Checked}
 use Rattle.table.specs.Table.{Table, slotCount}
 use Rattle.table.specs.Layout.{branchCount, definitionOf}
-use Rattle.state.specs.State.{maxChannels, rowSlots, standsAt, slotOf, inUse, isReady}
-use Rattle.rules.specs.Program.{wrappedSum, wrappedDifference, typeAt, branchAt, nextOf, childOf, fieldA, fieldB, fieldC, actOf, assigned}
+use Rattle.state.specs.State.{maxChannels, rowSlots, standsAt, inUse, isReady}
+use Rattle.rules.specs.Program.{typeAt, branchAt, nextOf, childOf, fieldA, fieldB, actOf, assigned, guardHolds}
 use Rattle.rules.specs.Moves.{resumed, stored, met, gone, sideOf, goneBy, createdBy, metBy, typeBy}
 use Rattle.rules.specs.declared.Direction.{Direction}
 use Rattle.rules.specs.declared.Direction.the-variants.{Out, In}
 use Rattle.rules.specs.declared.Act.{Act}
 use Rattle.rules.specs.declared.Act.the-variants.{Tau, Meeting, New, Spawn, Assignment}
 use Rattle.rules_laws.specs.Granted.{Writes, Branching, Granted}
+use Rattle.rules_laws.specs.Guards.{assigned-fits, gone-rows, assigning}
 use Rattle.rules_laws.specs.Soundness.{SlotSound, number, filled, RowSound}
 use Rattle.rules_laws.specs.ThreadRow.{resumed-ready, stored-status, resumed-sound, stored-sound}
 
 -- ---- it is ready
 
-module _ (row : List ℕ) (n k v : ℕ) where
-  pub stored-ready : isReady (stored (resumed row n) k v) ≡ true
-  stored-ready = rw (stored-status (resumed row n) k v) (resumed-ready row n)
+module _ (row : List ℕ) (n k : ℕ) where
+  pub stored-ready : (v : ℕ) → isReady (stored (resumed row n) k v) ≡ true
+  stored-ready v = rw (stored-status (resumed row n) k v) (resumed-ready row n)
 
-  gone-ready : (a : Act) → isReady (gone a row n k v) ≡ true
-  unfolding gone
-  gone-ready Tau = resumed-ready row n
-  gone-ready (Meeting d) = resumed-ready row n
-  gone-ready New = resumed-ready row n
-  gone-ready Spawn = resumed-ready row n
-  gone-ready Assignment = stored-ready
+  gone-ready : (v : Checked) (a : Act) → isReady (gone a row n k v) ≡ true
+  gone-ready = gone-rows (λ r. isReady r ≡ true) row n k (resumed-ready row n) stored-ready
 
-  met-ready : (d : Direction) → isReady (met d row n k v) ≡ true
+  met-ready : (v : ℕ) (d : Direction) → isReady (met d row n k v) ≡ true
   unfolding met
-  met-ready Out = resumed-ready row n
-  met-ready In = stored-ready
+  met-ready v Out = resumed-ready row n
+  met-ready v In = stored-ready v
 
 module _ (tb : Table) (row : List ℕ) (i : ℕ) where
   pub goneBy-ready : isReady (goneBy tb row i) ≡ true
@@ -61,26 +51,6 @@ module _ (tb : Table) (row : List ℕ) (i : ℕ) where
   unfolding metBy
   metBy-ready v = met-ready row (nextOf tb (standsAt row) (branchAt tb (standsAt row) i)) (fieldB tb (branchAt tb (standsAt row) i)) v
       (sideOf (actOf tb (branchAt tb (standsAt row) i)))
-
--- ---- what is assigned is a word
-
-widened-small : (v : ℕ) → v < 65536 → widened v < 4294967296
-unfolding widened
-widened-small v h = caseB (ltb v 32768) (λ e. rw e (omega arith)) (λ e. rw e (sum-below v 4294901760))
-
-wrapped-small : (z : ℤ) → ofZ w32 (wrap z) < 4294967296
-wrapped-small z =
-    let b : Fits w32 (residue z) = record { fits = residue-below z } in
-    fits-ofZ (sfits-toZ b) .fits
-
-assigned-small : (tb : Table) → Granted tb → (r : ℕ) (row : List ℕ) → assigned tb r row < 4294967296
-unfolding assigned wrappedSum wrappedDifference
-assigned-small tb g r row =
-    caseB (eqb (at tb r Field.action) 5)
-    (λ e. rw e (widened-small (fieldB tb r) (g .small r 6)))
-    (λ e. rw e (caseB (eqb (at tb r Field.action) 6)
-    (λ f. rw f (wrapped-small (toZ w32 (slotOf row (fieldB tb r)) +ℤ toZ w32 (slotOf row (fieldC tb r)))))
-    (λ f. rw f (wrapped-small (toZ w32 (slotOf row (fieldB tb r)) -ℤ toZ w32 (slotOf row (fieldC tb r)))))))
 
 -- ---- a thread in use, with a sound row, and branch i of its node
 
@@ -121,12 +91,14 @@ module _ (tb : Table) (g : Granted tb) (ty : ℕ → ℕ) (row : List ℕ) (r : 
     unfolding goneBy gone Writes
     tau-sound e = rw e (same-sound (λ k w. rw e at w))
 
-    pub assigned-sound : actOf tb b ≡ Assignment → RowSound tb ty (goneBy tb row i)
-    unfolding goneBy gone Writes
-    assigned-sound e =
+    pub assigned-sound : guardHolds tb b row ≡ true → actOf tb b ≡ Assignment → RowSound tb ty (goneBy tb row i)
+    unfolding Writes
+    assigned-sound p e =
         let (o, z) = branching .assigns e in
         let q = branching .next .same in
-        rw e (store-sound (fieldA tb b) (assigned tb b row) o (assigned-small tb g b row) (λ k w. rw e at w) (number (rw q o) (rw q z)))
+        let a = assigning tb row i p e in
+        let f = assigned-fits tb b row (g .small b 6) (a .z) (a .comes-to) in
+        rw (a .goes) (store-sound (fieldA tb b) (ofZ w32 (a .z)) o (fits-ofZ f .fits) (λ k w. rw e at w) (number (rw q o) (rw q z)))
 
     -- channel c has the type of the slot
     pub created-sound : actOf tb b ≡ New → (c : ℕ) → c < maxChannels → ty c ≡ typeBy tb row i → RowSound tb ty (createdBy tb row i c)

@@ -17,7 +17,7 @@ use Rattle.table.specs.Table.{Table, maxNodes, nodes, slotCount}
 use Rattle.table.specs.Layout.{branchCount, definitionOf, slotType}
 use Rattle.flow.specs.Flow.{mayLack}
 use Rattle.state.specs.State.{maxChannels, threadWords, rowSlots, status, standsAt, slotOf, inUse, isReady, isWaiting}
-use Rattle.rules.specs.Program.{kindOf, branchAt, actOf, guardHolds}
+use Rattle.rules.specs.Program.{kindOf, branchAt, fieldB, fieldC, actOf, printedGuard, assigned, guardHolds}
 use Rattle.rules.specs.Moves.{resumed, waitingRow, stored}
 use Rattle.rules.specs.declared.Direction.{Direction}
 use Rattle.rules.specs.declared.Act.the-variants.{Meeting}
@@ -79,10 +79,11 @@ module _ (row : List ℕ) where
   unfolding waitingRow
   waiting-small h k = headed-small 2 (standsAt row) (omega arith) (h 1) h k
 
-  -- guards look at slots alone
+  -- guards and sums look at slots alone
   pub waiting-guard : (tb : Table) (r : ℕ) → guardHolds tb r (waitingRow row) ≡ guardHolds tb r row
-  unfolding guardHolds
-  waiting-guard tb r = rw (waiting-slot (at tb r Field.first), waiting-slot (at tb r Field.second))
+  unfolding guardHolds printedGuard assigned
+  waiting-guard tb r =
+      rw (waiting-slot (at tb r Field.first), waiting-slot (at tb r Field.second), waiting-slot (fieldB tb r), waiting-slot (fieldC tb r))
 
 -- ---- the words of a row with v in slot b
 

@@ -2,7 +2,7 @@
 use Prim.Native.Nat.{ℕ, _+_, _≤_, _<_}
 use native.Mathlib.Nat.{zero-add}
 use mathlib.Core.Path.{_≡_, refl, _∙_}
-use mathlib.Core.Bool.{Bool, true, false, _&&_, _||_}
+use mathlib.Core.Bool.{Bool, true, false, _||_}
 use mathlib.Core.List.{List}
 use lib.Dec.{ltb, eqb}
 use lib.ListN.{getD}
@@ -11,6 +11,7 @@ use Rattle.numbers.specs.Count.{bit}
 use Rattle.numbers.specs.Rows.{at}
 use Rattle.numbers.specs.Search.{every, tabulate}
 use Rattle.numbers.specs.Search.Laws.{every-more, every-not, every-all, getD-tabulate}
+use Rattle.numbers.specs.Tests.{and-true}
 use Rattle.table.specs.Table.{Table, nodes, ports, slotCount}
 use Rattle.table.specs.Layout.{definitionOf, slotType}
 use Rattle.flow.specs.Flow.{Marks, flow, marked, mayLack}
@@ -20,10 +21,6 @@ use Rattle.rules.specs.Holding.{countOf, holders, waiters}
 use Rattle.rules.specs.Sound.{marksInRange, freeZero, rowInRange, spareZero, slotTyped, slotsTyped, slotFilled, slotsFilled, countTrue, portTyped, waitsRightly, sound}
 use Rattle.sound.specs.SoundRows.{wordZero, spareAt, slotSound, rowSound}
 use Rattle.sound.specs.SoundRows.Laws.{slots-sound, sound-rows}
-
-and-true : (b : Bool) → b ≡ (b && true)
-and-true true = refl
-and-true false = refl
 
 or-true : (b : Bool) → (b || true) ≡ true
 or-true true = refl

@@ -15,6 +15,7 @@ ghost use Rattle.rules_laws.specs.Granted.{Granted};
 ghost use Rattle.rules_laws.specs.Soundness.{Sound};
 ghost use Rattle.turns.specs.Counted.{Counted, weighed};
 ghost use Rattle.turns.specs.Running.{Running, MoveMade, TurnTaken};
+ghost use Rattle.program.specs.Assigning.{Carries};
 ghost use Rattle.next_rows.specs.UsedBelow.{UsedBelow};
 ghost use Rattle.turns.specs.Made.{ChildIn};
 ghost use Rattle.turns.specs.TopRaised.{raisedBy};
@@ -156,19 +157,28 @@ fn make_meeting(
     );
 }
 
-// Thread t, which is ready, makes the move that was decided; one that lacks a row changes nothing.
-fn make_move(table: &[u8], index: &[u32], state: &mut [u32; state::WORDS], t: u32, m: Move)
+// Thread t, which is ready, makes the move that was decided, with what is handed on with it; one that lacks a row changes nothing.
+fn make_move(
+    table: &[u8],
+    index: &[u32],
+    state: &mut [u32; state::WORDS],
+    t: u32,
+    m: Move,
+    row: usize,
+    v: u32,
+)
     requires { ⌜ Running (tableOf (now table)) (now index) (stateOf (now state)) ⌝ }
     requires { ⌜ t < maxThreads ⌝ }
     requires { ⌜ isReady (thread (stateOf (now state)) t) ≡ true ⌝ }
     requires { ⌜ m ≡ move (tableOf (now table)) (stateOf (now state)) t ⌝ }
+    requires { ⌜ Carries (tableOf (now table)) row v (stateOf (now state)) t m ⌝ }
     ensures { λ _. ⌜ MoveMade (tableOf (now (table .entry))) (stateOf (now (state .entry))) t m (stateOf (now (state .exit))) ⌝ }
 {
     match m {
         Move::Ends => make_end(table, index, state, t),
         Move::Calls => make_call(table, index, state, t),
         Move::Waits => thread_rows::write_waiting(state, t),
-        Move::Goes(i) => acts::write_gone(table, index, state, t, i),
+        Move::Goes(_) => acts::write_gone(table, index, state, t, row, v),
         Move::Creates(i, c) => make_channel(table, index, state, t, i, c),
         Move::Spawns(i, u) => make_child(table, index, state, t, i, u),
         Move::Meets(i, u, j) => make_meeting(table, index, state, t, i, u, j),
@@ -276,8 +286,9 @@ pub fn turn_of(
     requires { ⌜ isReady (thread (stateOf (now state)) t) ≡ true ⌝ }
     ensures { λ r. ⌜ TurnTaken (tableOf (now (table .entry))) (now (index .entry)) (stateOf (now (state .entry))) t r (stateOf (now (state .exit))) ⌝ }
 {
-    let m = decision::decide(table, index, state, t, top);
-    make_move(table, index, state, t, m);
+    let d = decision::decide(table, index, state, t, top);
+    let m = d.made;
+    make_move(table, index, state, t, m, d.row, d.number);
     state::put_mark(state, state::TURN, next_rows::one_up(state::THREADS, t));
     let turn = turn_by(t, m);
     Round {

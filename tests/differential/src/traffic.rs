@@ -2,8 +2,8 @@
 
 use std::collections::BTreeMap;
 
-use generate::{Layout, Words, WAITING};
-use interface::{Answer, Call, Profiled, Stepped, Written, BRANCH, CALLED, NOBODY};
+use generate::{guard_holds, Layout, Words, WAITING};
+use interface::{Answer, Call, Profiled, Stepped, Written, BRANCH, CALLED, NOBODY, WAITS};
 use reference::Fault;
 
 /// Something that was met: what it was, and a number that says more.
@@ -71,7 +71,16 @@ impl Traffic {
     /// Counts what a step that was done did, by the file and by the state before it.
     pub fn add_step(&mut self, layout: &Layout, before: &Words, thread: usize, stepped: &Stepped) {
         match stepped.act {
-            BRANCH => self.add_branch(layout, before, thread, stepped),
+            BRANCH => {
+                self.add_branch(layout, before, thread, stepped);
+                let passed = passes_sum(layout, before.thread(thread), stepped.branch);
+                self.note("sum passed over for a branch", i32::from(passed));
+            }
+            WAITS => {
+                let branches = layout.node(stepped.node)[2];
+                let passed = passes_sum(layout, before.thread(thread), i32::from(branches));
+                self.note("sum passed over for a wait", i32::from(passed));
+            }
             CALLED => {
                 let row = layout.node(stepped.node);
                 let own = layout.definition_of(stepped.node) == Some(row[2] as usize);
@@ -88,7 +97,6 @@ impl Traffic {
         self.note("action", i32::from(row[4]));
         self.note("guard", i32::from(row[1]));
         self.note("branch", stepped.branch);
-        self.note("overflow", i32::from(overflows(row, before.thread(thread))));
         if SEND_AND_RECEIVE.contains(&row[4]) {
             let types = layout.definition_of(stepped.node).map(|definition| layout.slot_types(definition));
             let channel = types.is_some_and(|types| types[row[6] as usize] != 0);
@@ -125,6 +133,12 @@ impl Traffic {
             assert!(met >= times, "{what} {number}: {met} times, wanted {times}");
         }
     }
+}
+
+/// Whether among so many branches of a thread's node one has a true guard and a sum that does not fit.
+fn passes_sum(layout: &Layout, thread: &[i32], branches: i32) -> bool {
+    let mut rows = (0..branches).map(|branch| layout.branch(thread[1], branch));
+    rows.any(|row| guard_holds(row, &thread[2..]) && overflows(row, thread))
 }
 
 /// Whether the sum or difference of a branch leaves the range of a word.

@@ -77,7 +77,8 @@ fn expect_moves(traffic: &Traffic) {
     traffic.expect("another like the partner", [1], 150);
     traffic.expect("guard", 0..=4, 50);
     traffic.expect("branch", 0..=7, 5);
-    traffic.expect("overflow", [1], 20);
+    traffic.expect("sum passed over for a branch", [1], 20);
+    traffic.expect("sum passed over for a wait", [1], 20);
     traffic.expect("call of itself", [0, 1], 2_000);
     traffic.expect("call that swaps", [1], 2_000);
     traffic.expect("given to somebody", [0, 1], 1_000);

@@ -99,14 +99,30 @@ impl Example {
 fn the_first_file_answers_with_one_more() {
     let mut example = Example::start("first/3.txt", "run");
     example.run();
-    for number in [41, -1, i32::MAX] {
+    for number in [41, -1, i32::MAX - 1] {
         assert_eq!(example.give(0, number), Some(0));
         assert_eq!(example.give(0, number), None);
         example.run();
-        assert_eq!(example.take(0), Some((number.wrapping_add(1), 0)));
+        assert_eq!(example.take(0), Some((number + 1, 0)));
         example.run();
     }
     assert_eq!(example.collect(), (0, 1, 1));
+    // There is no larger number, and nothing else that the thread could do.
+    assert_eq!(example.give(0, i32::MAX), Some(0));
+    example.run();
+    assert_eq!(example.take(0), None);
+    assert_eq!(example.collect(), (1, 0, 1));
+}
+
+#[test]
+fn the_soak_counts_to_its_end() {
+    let mut example = Example::start("soak.txt", "run");
+    example.run();
+    let count = example.words().thread(0)[2];
+    assert_eq!(count, 32_767 << 16);
+    assert_eq!(count.checked_add(count), None);
+    assert_eq!(example.count_at(4..=4), 1);
+    assert_eq!(example.collect(), (1, 0, 0));
 }
 
 #[test]

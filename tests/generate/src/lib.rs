@@ -31,4 +31,4 @@ pub use size::Size;
 pub use states::{changed_state, woken_state};
 pub use tables::{damaged_table, table_of, TABLE_BYTES};
 pub use valid::{any_valid, profiled, valid};
-pub use words::{Layout, Offer, Words, FREE, READY, WAITING};
+pub use words::{guard_holds, Layout, Offer, Words, FREE, READY, WAITING};

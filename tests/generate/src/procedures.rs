@@ -133,12 +133,13 @@ pub fn wide(places: usize) -> File {
     compose(&[0], 0, &[definition(0, &[1, 1, 0, 0], nodes)])
 }
 
-/// One thread that only reckons: guards, sums, differences and calls, for ever.
+/// One thread that only reckons: guards, sums, differences and calls, for ever. Its number goes from -20,000 up
+/// to 20,000 and begins again.
 pub fn reckoner() -> File {
     let opening = definition(
         0,
         &[0, 0, 0],
-        vec![one(go(set(0, 1), 1)), one(go(set(1, 1), 2)), one(go(set(2, 0), 3)), call(1, &[0, 1, 2])],
+        vec![one(go(set(0, -20_000), 1)), one(go(set(1, 1), 2)), one(go(set(2, 0), 3)), call(1, &[0, 1, 2])],
     );
     let body = definition(
         3,
@@ -152,7 +153,7 @@ pub fn reckoner() -> File {
                 go(plus(2, 2, 1), 2),
             ]),
             choice(&[when(below(0, 1), minus(0, 1, 0), 3), go(set(1, 1), 3)]),
-            one(go(plus(0, 3, 2), 4)),
+            choice(&[when(below_constant(3, 20_000), plus(0, 3, 2), 4), go(set(0, -20_000), 4)]),
             call(1, &[0, 1, 2]),
         ],
     );

@@ -193,7 +193,7 @@ impl Words {
             return Vec::new();
         }
         let branches = (0..i32::from(layout.node(*node)[2])).map(|branch| layout.branch(*node, branch));
-        let open = branches.enumerate().filter(|(_, branch)| is_open(branch, slots));
+        let open = branches.enumerate().filter(|(_, branch)| guard_holds(branch, slots));
         open.filter(|(_, branch)| EXCHANGES.contains(&branch[4]))
             .map(|(number, branch)| Offer {
                 branch: number,
@@ -204,7 +204,8 @@ impl Words {
     }
 }
 
-fn is_open(branch: &Row, slots: &[i32]) -> bool {
+/// Whether the guard of a branch, by itself, is true.
+pub fn guard_holds(branch: &Row, slots: &[i32]) -> bool {
     let [guard, one, other] = [branch[1], branch[2], branch[3]];
     let slot = |number: i16| slots[number as usize];
     match guard {

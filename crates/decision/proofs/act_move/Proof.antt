@@ -1,4 +1,4 @@
-use Rattle.decision.proofs.Choice.{acts}
+use Rattle.decision.proofs.Choice.{acts, carried}
 use borrow.Author.Needs.{needs}
 use Rattle.decision.proofs.act_move.Statement.{statement}
 use Rattle.decision.proofs.act_move.Tie as tie
@@ -13,13 +13,18 @@ act-move-spec =
     (λ c κs. search needs)
     (λ c κs. search needs)
     (λ c κs. search needs)
-    (λ c. search needs)
     (λ c κs. search needs)
     (λ c. search needs)
     (λ c κs. search needs)
+    (λ c κs. search needs)
     (λ c. search needs)
-    (λ c. search acts)
-    (λ c. search acts)
-    (λ c. search acts)
-    (λ c. search acts)
-    (λ c. search acts))
+    (λ c κs. search needs)
+    (λ c κs. search needs)
+    (λ c. search needs)
+    (λ c κs. search needs)
+    (λ c κs. search needs)
+    (λ c. (search acts, search carried))
+    (λ c. (search acts, search carried))
+    (λ c. (search acts, search carried))
+    (λ c. (search acts, search carried))
+    (λ c. (search acts, search carried)))

@@ -1,5 +1,6 @@
-use Rattle.decision.proofs.Choice.{branch-true, branch-false}
+use Rattle.decision.proofs.Choice.{branch-shut, carried}
 use borrow.Author.Needs.{needs}
+use Rattle.numbers.specs.Tests.{flag-yes}
 use Rattle.decision.proofs.branch_move.Statement.{statement}
 use Rattle.decision.proofs.branch_move.Tie as tie
 
@@ -8,6 +9,7 @@ branch-move-spec =
     tie.close
     (tie.spec
     (λ c κs. search needs)
+    (λ c κs. (search, (search, (search, (search, search flag-yes)))))
+    (λ c. search needs)
     (λ c κs. search needs)
-    (λ c. search (branch-true, branch-false))
-    (λ c. search (branch-true, branch-false)))
+    (λ c. (search branch-shut, search carried)))

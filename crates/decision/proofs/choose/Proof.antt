@@ -7,7 +7,7 @@ use Rattle.numbers.specs.Search.Laws.{first-none}
 use Rattle.table.specs.Table.{tableOf}
 use Rattle.state.specs.State.{stateOf}
 use Rattle.rules.specs.Moves.{ahead}
-use Rattle.decision.proofs.Choice.{branch-row, choice-passed, choice-taken, choice-waits}
+use Rattle.decision.proofs.Choice.{branch-row, choice-passed, choice-taken, choice-waits, carried}
 use Rattle.decision.proofs.choose.Statement.{statement}
 use Rattle.decision.proofs.choose.Tie as tie
 
@@ -28,8 +28,9 @@ choose-spec =
     (λ c. search needs)
     (λ c κs. search (branch-row, needs))
     (λ c κs. search needs)
-    (λ c. search choice-taken)
+    (λ c. (search choice-taken, search needs))
     (λ c. search needs)
     (λ c. search needs)
     (λ c. search (choice-passed, needs))
-    (λ c. search choice-waits))
+    (λ c κs. search needs)
+    (λ c. (search choice-waits, search carried)))

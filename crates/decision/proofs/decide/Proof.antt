@@ -1,4 +1,4 @@
-use Rattle.decision.proofs.Choice.{from-read, count-read, kinds}
+use Rattle.decision.proofs.Choice.{from-read, count-read, kinds, carried}
 use borrow.Author.Needs.{needs}
 use Rattle.decision.proofs.decide.Statement.{statement}
 use Rattle.decision.proofs.decide.Tie as tie
@@ -15,6 +15,8 @@ decide-spec =
     (λ c κs. search needs)
     (λ c κs. search needs)
     (λ c κs. (search, (search, (search, (search count-read, (search from-read, search needs))))))
-    (λ c. search kinds)
-    (λ c. search kinds)
-    (λ c. search kinds))
+    (λ c κs. search needs)
+    (λ c κs. search needs)
+    (λ c. (search kinds, search needs))
+    (λ c. (search kinds, search carried))
+    (λ c. (search kinds, search carried)))

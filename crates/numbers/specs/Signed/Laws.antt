@@ -1,48 +1,59 @@
 -- The laws of numbers and their patterns. Assumes nothing.
-use Prim.Native.Nat.{ℕ, zero, suc, _+_, _-_, _%_, _<_, _≤_}
+use Prim.Native.Nat.{ℕ, _+_, _-_, _%_, _<_, _≤_}
 use native.Mathlib.Omega.{arith}
 use native.Mathlib.Decide.{decLt}
-use mathlib.Core.Path.{_≡_, refl, _∙_, ap}
-use lib.IntN.{ℤ, pos, negsuc, subℕ, _+ℤ_, _-ℤ_}
+use mathlib.Core.Path.{_≡_, refl, sym, _∙_, ap}
+use mathlib.Core.Bool.{true}
+use lib.Dec.{leb}
+use lib.IntN.{ℤ, pos, negsuc}
 use mir.Syntax.{w16, w32}
-use mir.Val.{Fits, SFits, toZ, ofZ}
-use borrow.Author.Tests.{le-ltb, lt-ltb}
-use Rattle.numbers.specs.Signed.{residue, sum, difference, widened}
+use mir.Val.{Fits, SFits, toZ}
+use borrow.Author.Tests.{le-ltb, lt-ltb, le-leb, leb-true}
+use Rattle.numbers.specs.Search.Laws.{caseB}
+use Rattle.numbers.specs.Signed.{inRange, narrowed, isExact, sum, difference, widened}
+use Rattle.numbers.specs.Tests.{clash, and-left}
+use Rattle.numbers.specs.declared.Checked.{Checked}
+use Rattle.numbers.specs.declared.Checked.the-variants.{Exact, Overflow}
 
 -- a pattern whose highest bit is set is that of a negative number
 pub toZ-high : (x : ℕ) → 2147483648 ≤ x → x < 4294967296 → toZ w32 x ≡ negsuc (4294967295 - x)
 toZ-high x h f = rw (le-ltb x 2147483648 h) (ap negsuc (omega arith))
 
--- ---- numbers modulo 4294967296
+-- ---- numbers of 32 signed bits
 
-pub residue-below : (z : ℤ) → residue z < 4294967296
-unfolding residue
-residue-below (pos n) = omega arith
-residue-below (negsuc n) = omega arith
+range-fits : (z : ℤ) → inRange z ≡ true → SFits w32 z
+unfolding inRange
+range-fits (pos n) e = record { sfits = omega (arith, leb-true n 2147483647 e) }
+range-fits (negsuc n) e = record { sfits = omega (arith, leb-true n 2147483647 (and-left (leb n 2147483647) true e)) }
 
-residue-subℕ : (m n : ℕ) → m < 4294967296 → n ≤ 4294967296 → residue (subℕ m n) ≡ (m + (4294967296 - n)) % 4294967296
-unfolding residue
-residue-subℕ m n f g = go (decLt m n)
-  where
-    go : Dec (m < n) → residue (subℕ m n) ≡ (m + (4294967296 - n)) % 4294967296
-    go (yes h) = rw (lt-ltb m n h) (omega arith)
-    go (no h) = rw (le-ltb m n (omega arith)) (omega arith)
+fits-range : (z : ℤ) → SFits w32 z → inRange z ≡ true
+unfolding inRange
+fits-range (pos n) f = le-leb n 2147483647 (omega arith)
+fits-range (negsuc n) f = rw (le-leb n 2147483647 (omega arith))
 
-pub residue-add : (a b : ℤ) → SFits w32 a → SFits w32 b → residue (a +ℤ b) ≡ (ofZ w32 a + ofZ w32 b) % 4294967296
-unfolding residue
-residue-add (pos m) (pos n) f g = refl
-residue-add (pos m) (negsuc n) f g = residue-subℕ m (suc n) (omega arith) (omega arith)
-residue-add (negsuc m) (pos n) f g = residue-subℕ n (suc m) (omega arith) (omega arith) ∙ omega arith
-residue-add (negsuc m) (negsuc n) f g = omega arith
+-- what fits is exact
+pub narrowed-fits : (z : ℤ) → SFits w32 z → narrowed z ≡ Exact z
+unfolding narrowed
+narrowed-fits z f = rw (fits-range z f)
 
-pub residue-sub : (a b : ℤ) → SFits w32 a → SFits w32 b → residue (a -ℤ b) ≡ (ofZ w32 a + (4294967296 - ofZ w32 b)) % 4294967296
-unfolding residue
-residue-sub (pos m) (pos zero) f g = omega arith
-residue-sub (pos m) (pos (suc n)) f g = residue-subℕ m (suc n) (omega arith) (omega arith)
-residue-sub (pos m) (negsuc n) f g = omega arith
-residue-sub (negsuc m) (pos zero) f g = residue-subℕ 0 (suc m) (omega arith) (omega arith) ∙ omega arith
-residue-sub (negsuc m) (pos (suc n)) f g = omega arith
-residue-sub (negsuc m) (negsuc n) f g = residue-subℕ (suc n) (suc m) (omega arith) (omega arith) ∙ omega arith
+-- what is exact is the number itself, and fits
+pub narrowed-exact : (z w : ℤ) → narrowed z ≡ Exact w → (w ≡ z) × SFits w32 z
+unfolding narrowed
+narrowed-exact z w e =
+    caseB (inRange z)
+    (λ y. (let q : Exact z ≡ Exact w = rw y at e in cc, range-fits z y))
+    (λ n. clash (let q : Overflow ≡ Exact w = rw n at e in cc))
+
+-- what overflows does not fit
+pub narrowed-overflow : (z : ℤ) → narrowed z ≡ Overflow → SFits w32 z → ⊥
+narrowed-overflow z e f = clash (let q : Overflow ≡ Exact z = sym e ∙ narrowed-fits z f in cc)
+
+-- ---- what a sum or difference comes to
+
+pub exact-is : (v : Checked) → isExact v ≡ true → (z : ℤ) × (v ≡ Exact z)
+unfolding isExact
+exact-is (Exact z) e = (z, refl)
+exact-is Overflow e = clash cc
 
 -- ---- patterns
 

@@ -1,11 +1,12 @@
 -- A branch offers d on a channel, as the rules say it, where its offer on that channel is one of direction d. Assumes nothing.
 use Prim.Native.Nat.{ℕ}
-use mathlib.Core.Path.{_≡_, refl, _∙_}
+use mathlib.Core.Path.{_≡_, refl, sym, _∙_}
 use mathlib.Core.Bool.{Bool, true, false, _&&_, cond}
 use mathlib.Core.List.{List}
 use lib.Dec.{eqb}
 use borrow.Author.Tests.{eq-eqb}
 use Rattle.numbers.specs.Search.Laws.{caseB, contra}
+use Rattle.numbers.specs.Tests.{and-true}
 use Rattle.table.specs.Table.{Table}
 use Rattle.state.specs.State.{slotOf}
 use Rattle.rules.specs.Program.{fieldA, actOf, guardHolds, opposite, same}
@@ -43,10 +44,6 @@ meeting-offer New d = refl
 meeting-offer Spawn d = refl
 meeting-offer Assignment d = refl
 
-and-true : (a : Bool) → (a && true) ≡ a
-and-true true = refl
-and-true false = refl
-
 and-false : (a : Bool) → (a && false) ≡ false
 and-false true = refl
 and-false false = refl
@@ -61,7 +58,7 @@ module _ (tb : Table) (row : List ℕ) (c r : ℕ) where
   unfolding offersIn offerOn isOf
   offers-in d =
       caseB (eqb (slotOf row (fieldA tb r)) c && guardHolds tb r row)
-      (λ y. rw y (and-true (meets? (actOf tb r) d) ∙ meeting-offer (actOf tb r) d))
+      (λ y. rw y (sym (and-true (meets? (actOf tb r) d)) ∙ meeting-offer (actOf tb r) d))
       (λ n. rw n (and-false (meets? (actOf tb r) d)))
 
   -- what was read as the offer is v

@@ -17,6 +17,7 @@ assigned-value-spec =
     (λ c κs. search needs)
     (λ c κs. search needs)
     (λ c κs. search needs)
+    (λ c κs. search needs)
     (λ c. search assigned-constant)
     (λ c. search assigned-sum)
     (λ c. search assigned-difference))

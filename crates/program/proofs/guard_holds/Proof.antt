@@ -1,4 +1,4 @@
-use Rattle.program.proofs.Laws.{guard-always, guard-equals-constant, guard-below-constant, guard-equals-slot, guard-below-slot}
+use Rattle.program.proofs.Laws.{guard-open, guard-shut}
 use borrow.Author.Needs.{needs}
 use Rattle.program.proofs.guard_holds.Statement.{statement}
 use Rattle.program.proofs.guard_holds.Tie as tie
@@ -8,17 +8,6 @@ guard-holds-spec =
     tie.close
     (tie.spec
     (λ c κs. search needs)
-    (λ c. search guard-always)
     (λ c κs. search needs)
-    (λ c κs. search needs)
-    (λ c κs. search needs)
-    (λ c κs. search needs)
-    (λ c κs. search needs)
-    (λ c κs. search needs)
-    (λ c κs. search needs)
-    (λ c κs. search needs)
-    (λ c κs. search needs)
-    (λ c. search guard-equals-constant)
-    (λ c. search guard-below-constant)
-    (λ c. search guard-equals-slot)
-    (λ c. search guard-below-slot))
+    (λ c. search guard-open)
+    (λ c. search guard-shut))

@@ -9,7 +9,7 @@ turn-of-spec =
     tie.close
     (tie.spec
     (λ c κs. (search, (search, search running-apart)))
-    (λ c κs. search needs)
+    (λ c κs. (search, (search, (search, (search, search)))))
     (λ c κs. search needs)
     (λ c κs. search needs)
     (λ c κs. search needs)

@@ -28,7 +28,10 @@ use Rattle.rules.specs.declared.Move.{Move}
 use Rattle.rules.specs.declared.Move.the-variants.{Calls, Waits, Goes, Spawns, Meets}
 use Rattle.call_rows.specs.CalledRow.{callKeeps}
 use Rattle.meetings.specs.Sides.{Facing}
+use Rattle.program.specs.Assigning.{goneStoring, Carries}
+use Rattle.program.specs.Assigning.Laws.{gone-storing, goes-assigns}
 use Rattle.rules_laws.specs.Granted.{Granted}
+use Rattle.rules_laws.specs.Guards.{assigning}
 use Rattle.rules_laws.specs.Decided.{spawns-other}
 use Rattle.rules_laws.specs.Chosen.{Open, Joining, Chosen, chosen, partner-answers}
 use Rattle.rules_laws.specs.Learnt.{port-number}
@@ -72,7 +75,7 @@ module _ (tb : Table) (g : Granted tb) (s : State) (ok : Sound tb (settled tb s)
     gone-holds i (inl o) = rw (o .does) (resumed-holds tb (thread s t) used _ 0 0 (branching tb g _ (thread s t) (row-sound t h) used i (o .branch-in) .next .same))
     gone-holds i (inr o) =
         let b = branching tb g _ (thread s t) (row-sound t h) used i (o .branch-in) in
-        rw (o .does) (stored-holds tb (thread s t) used _ _ _ (b .next .same) (b .assigns (o .does) .1))
+        rw (assigning tb (thread s t) i (o .passes) (o .does) .goes) (stored-holds tb (thread s t) used _ _ _ (b .next .same) (b .assigns (o .does) .1))
 
     -- both after a meeting at which thread t gives or receives a number
     module _ (i u j : ℕ) (o : Joining tb s t i u j) (z : slotType tb (definitionOf tb (standsAt (thread s t))) (fieldB tb (rowOf tb (thread s t) i)) ≡ 0) where
@@ -128,14 +131,15 @@ module _ (tb : Table) (b : List ℕ) (t : ℕ) (s₁ : State) where
     waits-made f n e h r =
         rw n (wrote e Waits f (kept-counted tb (stateOf b) e (length-threads b) t h (waitingRow (thread (stateOf b) t)) (waiting-holds tb (thread (stateOf b) t) (ready-used (thread (stateOf b) t) r))))
 
-    pub goes-made : (index : List ℕ) (i : ℕ) → s₁ ≡ written tb (stateOf b) t (Goes i) → m ≡ Goes i → m ≡ move tb (stateOf b) t → Running tb index (stateOf b)
+    pub goes-made : (index : List ℕ) (i r v : ℕ) → s₁ ≡ withThread (stateOf b) t (goneStoring tb r v (thread (stateOf b) t)) → Carries tb r v (stateOf b) t m → m ≡ Goes i → m ≡ move tb (stateOf b) t → Running tb index (stateOf b)
         → t < maxThreads
         → isReady (thread (stateOf b) t) ≡ true → MoveMade tb (stateOf b) t m s₁
     unfolding Chosen written
-    goes-made index i f n d run h r =
+    goes-made index i x v f c n d run h r =
+        let g : s₁ ≡ written tb (stateOf b) t (Goes i) = f ∙ ap (withThread (stateOf b) t) (gone-storing tb x v (stateOf b) t i (goes-assigns tb x v (stateOf b) t i m c n)) in
         let q : move tb (stateOf b) t ≡ Goes i = sym d ∙ n in
         let o : Chosen tb (stateOf b) t (Goes i) = rw q at (chosen tb (stateOf b) t) in
-        rw n (wrote (run .counted) (Goes i) f
+        rw n (wrote (run .counted) (Goes i) g
         (kept-counted tb (stateOf b) (run .counted) (length-threads b) t h (goneBy tb (thread (stateOf b) t) i) (gone-holds tb (run .accepted) (stateOf b) (run .sound) t h r i o)))
 
 -- ---- what is known of threads that can meet

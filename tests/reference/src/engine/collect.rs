@@ -44,8 +44,8 @@ impl State {
         let mut sleepers = [0; CHANNELS];
         for thread in members(self.waiting) {
             let Thread { node, slots } = &self.threads[thread];
-            for branch in code.branches_at(*node).iter().filter(|branch| branch.guard.holds(slots)) {
-                // A waiting thread has nothing else behind a true guard, and its channel is there.
+            for branch in code.branches_at(*node).iter().filter(|branch| branch.is_open(slots)) {
+                // A waiting thread has no other open branches, and its channel is there.
                 if let Action::Exchange(offered) = branch.action {
                     sleepers[slots[usize::from(offered.channel)] as usize] |= only(thread);
                 }

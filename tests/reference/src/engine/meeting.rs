@@ -44,7 +44,7 @@ impl State {
             let Action::Exchange(offered) = branch.action else { return None };
             let fits = offered.direction == direction
                 && slots[usize::from(offered.channel)] == channel as i32
-                && branch.guard.holds(slots);
+                && branch.is_open(slots);
             let (value, next) = (usize::from(offered.value), usize::from(branch.next));
             fits.then_some(Offer { thread, value, next })
         })

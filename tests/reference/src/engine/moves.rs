@@ -25,6 +25,26 @@ impl Guard {
     }
 }
 
+impl Action {
+    /// What a sum or a difference comes to, in more bits than a slot has. Other actions have none.
+    fn sum(&self, slots: &Slots) -> Option<i64> {
+        let number = |slot: u8| i64::from(slots[usize::from(slot)]);
+        match *self {
+            Action::Plus { one, other, .. } => Some(number(one) + number(other)),
+            Action::Minus { one, other, .. } => Some(number(one) - number(other)),
+            _ => None,
+        }
+    }
+}
+
+impl Branch {
+    /// Whether its guard is true and its sum, if it has one, fits a slot; else the branch counts as one with
+    /// a false guard.
+    pub fn is_open(&self, slots: &Slots) -> bool {
+        self.guard.holds(slots) && self.action.sum(slots).is_none_or(|sum| i32::try_from(sum).is_ok())
+    }
+}
+
 impl State {
     /// Steps a ready thread. If it lacks a row nothing has changed.
     pub fn step(&mut self, code: &Code, thread: usize) -> Result<Stepped, Lack> {
@@ -70,7 +90,7 @@ impl State {
     /// Takes a branch if it can go ahead. Answers the partner or the child, or else nobody.
     fn try_branch(&mut self, code: &Code, thread: usize, branch: &Branch) -> Result<Option<i32>, Lack> {
         let slots = &mut self.threads[thread].slots;
-        if !branch.guard.holds(slots) {
+        if !branch.is_open(slots) {
             return Ok(None);
         }
         let read = |number: u8, slots: &Slots| slots[usize::from(number)];
@@ -79,10 +99,10 @@ impl State {
             Action::Tau => {}
             Action::Set { slot, constant } => slots[usize::from(slot)] = constant,
             Action::Plus { slot, one, other } => {
-                slots[usize::from(slot)] = read(one, slots).wrapping_add(read(other, slots));
+                slots[usize::from(slot)] = read(one, slots) + read(other, slots)
             }
             Action::Minus { slot, one, other } => {
-                slots[usize::from(slot)] = read(one, slots).wrapping_sub(read(other, slots));
+                slots[usize::from(slot)] = read(one, slots) - read(other, slots)
             }
             Action::New { slot } => self.make_channel(code, thread, usize::from(slot))?,
             Action::Spawn { child } => partner = self.spawn(code, thread, usize::from(child))? as i32,

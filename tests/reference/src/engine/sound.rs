@@ -38,7 +38,7 @@ pub enum Fault {
     WaitingCount,
     /// A thread waits at an end or a call.
     WaitsElsewhere,
-    /// A waiting thread has a true guard before something that needs no partner.
+    /// A waiting thread has an open branch that needs no partner.
     GoesAlone,
     /// Two waiting threads could meet.
     Meets,
@@ -167,7 +167,7 @@ impl State {
         let Thread { node, slots } = &self.threads[thread];
         let choice = matches!(code.node(*node).kind, Kind::Choice { .. });
         test(choice, Fault::WaitsElsewhere)?;
-        for branch in code.branches_at(*node).iter().filter(|branch| branch.guard.holds(slots)) {
+        for branch in code.branches_at(*node).iter().filter(|branch| branch.is_open(slots)) {
             let Action::Exchange(exchange) = branch.action else { return Err(Fault::GoesAlone) };
             let offered = match exchange.direction {
                 Direction::Send => &mut offers.sends,

@@ -4,39 +4,77 @@ use generate::compose::{
     below, below_constant, call, choice, compose, definition, equal, equal_to, go, minus, new, one, plus,
     receive, set, when, Action, Guard, Node, TAU,
 };
-use generate::{File, READY, WAITING};
+use generate::{Row, READY, WAITING};
 
 use crate::bench::Bench;
 
-/// Two numbers come in over a port, and then one action is done on slots 1 and 2, into slot 3.
-fn with_two_numbers(action: Action) -> File {
-    let nodes = vec![one(go(receive(0, 1), 1)), one(go(receive(0, 2), 2)), one(go(action, 3)), Node::End];
-    compose(&[0], 1, &[definition(1, &[1, 0, 0, 0], nodes)])
-}
-
-fn reckoned(action: Action, one: i32, other: i32) -> i32 {
-    let mut bench = Bench::new(&with_two_numbers(action));
-    for number in [one, other] {
+/// Two numbers come in over a port into slots 1 and 2, and then there is a choice of these branches.
+fn with_two_numbers(branches: &[Row], numbers: [i32; 2]) -> Bench {
+    let nodes = vec![one(go(receive(0, 1), 1)), one(go(receive(0, 2), 2)), choice(branches), Node::End];
+    let mut bench = Bench::new(&compose(&[0], 1, &[definition(1, &[1, 0, 0, 0], nodes)]));
+    for number in numbers {
         assert_eq!(bench.stepped(0), (2, 0, -1));
         assert_eq!(bench.give(0, number).thread, 0);
     }
-    assert_eq!(bench.stepped(0), (3, 0, -1));
-    let [_, left, right, result] = bench.slots(0);
-    assert_eq!((left, right), (one, other));
-    result
+    bench
+}
+
+/// What an action puts into slot 3. If the number does not fit, the branch is passed over for a tau, and with
+/// nothing behind it the thread waits and is collected.
+fn reckoned(action: Action, left: i32, right: i32) -> Option<i32> {
+    let mut bench = with_two_numbers(&[go(action, 3), go(TAU, 3)], [left, right]);
+    let (act, branch, partner) = bench.stepped(0);
+    assert_eq!((act, partner), (3, -1));
+    let [_, one_kept, other_kept, result] = bench.slots(0);
+    assert_eq!((one_kept, other_kept), (left, right));
+    let mut alone = with_two_numbers(&[go(action, 3)], [left, right]);
+    if branch == 0 {
+        assert_eq!(alone.stepped(0), (3, 0, -1));
+        return Some(result);
+    }
+    assert_eq!((branch, result), (1, 0));
+    assert_eq!(alone.stepped(0), (2, 0, -1));
+    assert_eq!((alone.place(0), alone.slots(0)), ((WAITING, 2), [0, left, right, 0]));
+    alone.refused(0, 11);
+    assert_eq!(alone.unchanged(|bench| bench.run(5)).reason, 1);
+    assert_eq!(alone.collect().threads, 1);
+    None
 }
 
 #[test]
-fn sums_and_differences_come_back_into_range() {
-    let (sum, difference) = (plus(3, 1, 2), minus(3, 1, 2));
-    assert_eq!(reckoned(sum, 40, 2), 42);
-    assert_eq!(reckoned(sum, 2_147_483_647, 1), -2_147_483_648);
-    assert_eq!(reckoned(sum, -2_147_483_648, -2_147_483_648), 0);
-    assert_eq!(reckoned(sum, -2_147_483_648, -1), 2_147_483_647);
-    assert_eq!(reckoned(difference, 40, 42), -2);
-    assert_eq!(reckoned(difference, -2_147_483_648, 1), 2_147_483_647);
-    assert_eq!(reckoned(difference, 0, -2_147_483_648), -2_147_483_648);
-    assert_eq!(reckoned(difference, 2_147_483_647, -1), -2_147_483_648);
+fn a_sum_fits_or_is_passed_over() {
+    let sum = plus(3, 1, 2);
+    assert_eq!(reckoned(sum, 40, 2), Some(42));
+    assert_eq!(reckoned(sum, 2_147_483_646, 1), Some(2_147_483_647));
+    assert_eq!(reckoned(sum, 2_147_483_647, 1), None);
+    assert_eq!(reckoned(sum, -2_147_483_647, -1), Some(-2_147_483_648));
+    assert_eq!(reckoned(sum, -2_147_483_648, -1), None);
+    assert_eq!(reckoned(sum, -2_147_483_648, -2_147_483_648), None);
+    assert_eq!(reckoned(sum, -2_147_483_648, 2_147_483_647), Some(-1));
+}
+
+#[test]
+fn a_difference_fits_or_is_passed_over() {
+    let difference = minus(3, 1, 2);
+    assert_eq!(reckoned(difference, 40, 42), Some(-2));
+    assert_eq!(reckoned(difference, -2_147_483_647, 1), Some(-2_147_483_648));
+    assert_eq!(reckoned(difference, -2_147_483_648, 1), None);
+    assert_eq!(reckoned(difference, 2_147_483_647, -1), None);
+    // -(-2147483648) is no number of a slot, though -1 - (-2147483648) is one.
+    assert_eq!(reckoned(difference, -1, -2_147_483_648), Some(2_147_483_647));
+    assert_eq!(reckoned(difference, 0, -2_147_483_648), None);
+    assert_eq!(reckoned(difference, -2_147_483_648, -2_147_483_648), Some(0));
+}
+
+/// A sum that does not fit keeps nobody from the offers beside it, and its own guard may be false too.
+#[test]
+fn beside_a_sum_that_does_not_fit() {
+    let branches = [when(below(1, 2), plus(3, 1, 2), 3), go(plus(3, 1, 2), 3), go(receive(0, 3), 3)];
+    let mut bench = with_two_numbers(&branches, [i32::MAX, 1]);
+    assert_eq!(bench.stepped(0), (2, 0, -1));
+    assert_eq!(bench.collect().threads, 0);
+    assert_eq!(bench.give(0, 9).thread, 0);
+    assert_eq!((bench.place(0), bench.slots(0)), ((READY, 3), [0, i32::MAX, 1, 9]));
 }
 
 #[test]
