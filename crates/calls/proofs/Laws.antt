@@ -35,8 +35,12 @@ use Rattle.rules.specs.declared.Ran.{Ran}
 use Rattle.rules.specs.declared.Ran.the-variants as Ran
 use Rattle.rules_laws.specs.Soundness.{Sound}
 use Rattle.rules_laws.specs.Soundness.Laws.{sound-settled}
+use Rattle.turns.specs.declared.Round.{Round}
 use Rattle.turns.specs.Made.Laws.{turn-ends}
-use Rattle.calls.specs.Course.{after, turnAt, courseBy, course-by, course-none, course-more, last-turn}
+use Rattle.turns.specs.Running.{TurnTaken}
+use Rattle.turns.specs.Weights.{weighedAfter}
+use Rattle.turns.specs.Weights.Laws.{weighed-mark}
+use Rattle.calls.specs.Course.{OneTurn, after, turnAt, courseBy, course-by, course-none, course-more, last-turn}
 
 -- ---- ground 11
 
@@ -123,12 +127,14 @@ module _ (s s₁ : State) (tb : Table) (ok : Sound tb s) (t : ℕ) where
       f ∙ rw (k, settled-mark tb s₂ v, q, g) (put-back tb s t (move tb s t))
 
   pub step-done : (i v n : ℕ) (r : Reason) (s₂ s₃ : State) (m : Move) (a : Stepped) (x : Bool) → course i r (settled tb s₂) ≡ courseBy tb 1 s t
-      → s₁ ≡ settled tb s₃
-      → s₃ ≡ withMark s₂ 2 v → v ≡ getD (s .marks) 2 0 → (t < maxThreads → _≡_ {A = ℕ} 1 1 → m ≡ move tb s t) → a ≡ stepAnswer n m → n ≡ at (s .threads) t 1
+      → s₁ ≡ weighedAfter tb n t m s₃
+      → s₃ ≡ withMark s₂ 2 v → v ≡ getD (s .marks) 2 0 → (t < maxThreads → _≡_ {A = ℕ} 1 1 → OneTurn tb s t m s₂) → a ≡ stepAnswer n m → n ≡ at (s .threads) t 1
       → x ≡ canStep s t → x ≡ true → afterwards a s₁ ≡ stepOn tb s t
   step-done i v n r s₂ s₃ m a x e f w g o p q j k =
       let l : t < 64 = step-low s t x j k in
-      step-answered n m a x (turned-back i v r s₂ s₃ e l f w g) p (o l refl) q j k
+      let (d, z) = o l refl in
+      let y : s₁ ≡ settled tb s₃ = f ∙ rw (w, q, weighed-mark tb (standsAt (thread s t)) t s₂ 2 v m, ← z) (sym (settled-mark tb s₂ v)) in
+      step-answered n m a x (turned-back i v r s₂ s₃ e l y w g) p d q j k
 
 pub step-refused : (tb : Table) (s : State) (t : ℕ) (x : Bool) → x ≡ canStep s t → x ≡ false → afterwards (Stepped.Refused Thread) s ≡ stepOn tb s t
 unfolding stepOn
@@ -168,27 +174,30 @@ module _ (tb : Table) (s : State) (p n : ℕ) (e : n ≡ at tb 0 6) where
 
 module _ (tb : Table) (s₀ : State) (t₀ : ℕ) where
   abbrev pub Followed : ℕ → State → ℕ → Move → Type 0
-  Followed i s t m = (i ≡ 0 → (s ≡ s₀) × (t ≡ t₀)) × (i ≡ 1 → m ≡ move tb s₀ t₀)
+  Followed i s t m = (i ≡ 0 → (s ≡ s₀) × (t ≡ t₀)) × (i ≡ 1 → OneTurn tb s₀ t₀ m s)
 
-  pub followed-none : Sound tb s₀ → (m : Move) → Followed 0 (settled tb s₀) t₀ m
-  followed-none ok m = (λ e. (sound-settled tb s₀ ok, refl), λ e. absurd (omega arith))
+  pub followed-none : (m : Move) → Followed 0 s₀ t₀ m
+  followed-none m = (λ e. (refl, refl), λ e. absurd (omega arith))
 
-  module _ (i : ℕ) (s : State) (t : ℕ) (m m₁ : Move) (f : Followed i s t m) (e : m₁ ≡ move tb s t) where
-    first-is : i ≡ 0 → m₁ ≡ move tb s₀ t₀
-    first-is z = let (p, q) = f .0 z in e ∙ rw (p, q)
+  module _ (i : ℕ) (s : State) (t : ℕ) (m : Move) (f : Followed i s t m) (index : List ℕ) (r : Round) (s₁ : State) (a : TurnTaken tb index s t r s₁) (ok : Sound tb s₀) where
+    first-is : i ≡ 0 → OneTurn tb s₀ t₀ (r .decided) s₁
+    first-is z =
+        let (p, q) = f .0 z in
+        let whole : settled tb s ≡ s = rw p (sound-settled tb s₀ ok) in
+        (a .decided ∙ rw (whole, p, q), rw (p, q) at (a .weights whole))
 
-    pub followed-more : (s₁ : State) (t₁ : ℕ) → Followed (i + 1) s₁ t₁ m₁
-    followed-more s₁ t₁ = (λ z. absurd (omega arith), λ z. first-is (omega arith))
+    pub followed-more : (t₁ : ℕ) → Followed (i + 1) s₁ t₁ (r .decided)
+    followed-more t₁ = (λ z. absurd (omega arith), λ z. first-is (omega arith))
 
     -- what it comes to where only one turn was asked for
-    pub stopped-last : (n : ℕ) → i < n → t₀ < maxThreads → n ≡ 1 → m₁ ≡ move tb s₀ t₀
+    pub stopped-last : (n : ℕ) → i < n → t₀ < maxThreads → n ≡ 1 → OneTurn tb s₀ t₀ (r .decided) s₁
     stopped-last n h l o = first-is (omega arith)
 
   module _ (i : ℕ) (s : State) (t : ℕ) (m : Move) (f : Followed i s t m) (n : ℕ) where
-    pub nobody-last : i < n → maxThreads ≤ t → t₀ < maxThreads → n ≡ 1 → m ≡ move tb s₀ t₀
+    pub nobody-last : i < n → maxThreads ≤ t → t₀ < maxThreads → n ≡ 1 → OneTurn tb s₀ t₀ m s
     nobody-last h j l o = let (p, q) = f .0 (omega arith) in absurd (omega arith)
 
-    pub all-last : i ≤ n → n ≤ i → t₀ < maxThreads → n ≡ 1 → m ≡ move tb s₀ t₀
+    pub all-last : i ≤ n → n ≤ i → t₀ < maxThreads → n ≡ 1 → OneTurn tb s₀ t₀ m s
     all-last h j l o = f .1 (omega arith)
 
 -- a sound state is settled

@@ -6,7 +6,7 @@ use mathlib.Core.Bool.{cond}
 use lib.Dec.{ltb}
 use borrow.Author.Tests.{lt-ltb, le-ltb}
 use Rattle.table.specs.Table.{Table}
-use Rattle.state.specs.State.{State, maxThreads}
+use Rattle.state.specs.State.{State, maxThreads, thread, standsAt}
 use Rattle.rules.specs.Holding.{settled}
 use Rattle.rules.specs.Moves.{move}
 use Rattle.rules.specs.Calls.{Course, course, oneMore, onward, nextReady, turnBy, Turned, turned, turnEnd, takeTurn, courseOf}
@@ -16,6 +16,7 @@ use Rattle.rules.specs.declared.Reason.the-variants.{AllDone, NoneReady}
 use Rattle.rules.specs.declared.Turn.{Turn}
 use Rattle.rules.specs.declared.Turn.the-variants.{Went, Stopped}
 use Rattle.turns.specs.Counted.{Counted}
+use Rattle.turns.specs.Weights.{weighedAfter}
 
 -- i steps before all of it
 unfoldable pub after : ℕ → Course → Course
@@ -90,11 +91,15 @@ module _ (tb : Table) (n : ℕ) (s : State) (t : ℕ) where
       let x : n + 0 ≡ n = omega arith in
       sym (f ∙ rw (e, q, x))
 
+-- thread t's turn in state s, which is settled: it made move m, and what it left is settled by one row at most
+abbrev pub OneTurn : Table → State → ℕ → Move → State → Type 0
+OneTurn tb s t m s₁ = (m ≡ move tb s t) × (settled tb s₁ ≡ weighedAfter tb (standsAt (thread s t)) t m s₁)
+
 -- At most n turns were taken in state s, the first of them thread t's: this many went, they ended for this reason and left s₁, whose counts of waiting holders are
--- still to be settled. Where one turn was asked for, the last move is that of thread t.
+-- still to be settled. Where one turn was asked for, it is that of thread t, with the last move.
 pub record TurnsOf (tb : Table) (n : ℕ) (s : State) (t went : ℕ) (reason : Reason) (last : Move) (s₁ : State) : Type 0 where
   pub is-course : course went reason (settled tb s₁) ≡ courseBy tb n s t
-  pub one-made : t < maxThreads → n ≡ 1 → last ≡ move tb s t
+  pub one-made : t < maxThreads → n ≡ 1 → OneTurn tb s t last s₁
   pub counted : Counted tb s₁
 
 -- a turn after which no more steps are asked for

@@ -92,8 +92,8 @@ pub fn step(table: &[u8], index: &[u32], state: &mut [u32; state::WORDS], t: u32
         let turn = state::mark(state, state::TURN);
         let turns = take_turns(table, index, state, t, 1);
         state::put_mark(state, state::TURN, turn);
-        turns::settle_waiting(table, index, state);
         let m = turns.last;
+        turns::settle_step(table, index, state, t, node, m);
         return turns::step_answer(node, m);
     }
     Stepped::Refused(Refusal::Thread)

@@ -13,6 +13,8 @@ use Rattle.numbers.specs.Bytes.Laws.{bytes-fit}
 use Rattle.numbers.specs.Tests.{clash}
 use Rattle.table.specs.Table.{tableOf}
 use Rattle.table.specs.Index.{Indexed}
+use Rattle.flow.specs.Flow.{flow}
+use Rattle.flow.specs.Marks.{marksOf}
 use Rattle.loader.specs.Load.{tableLength, accepted}
 use Rattle.state.specs.State.{State, stateLength, view, stateOf, stateBytes}
 use Rattle.rules.specs.Start.{started}
@@ -97,9 +99,12 @@ module _ (table b : List ℕ) (a : Admission) (e : a ≡ startAdmission table b)
           let z : sound (tableOf table) (stateOf w) ≡ true = sym h ∙ j in
           rw i (sound-elim (tableOf table) (view b) (view-shaped b start-length (bytes-fit b fit)) (rw i at z))
 
--- the index of a table that was accepted
+-- the index of a table that was accepted, and the marks of its flow
 pub accepted-indexed : (table l : List ℕ) (y : Bool) → (y ≡ true → Indexed (tableOf table) l) → y ≡ true → Indexed (tableOf table) l
 accepted-indexed table l y f g = f g
+
+pub accepted-marked : (table l : List ℕ) (y : Bool) → (y ≡ true → marksOf l ≡ flow (tableOf table)) → y ≡ true → marksOf l ≡ flow (tableOf table)
+accepted-marked table l y f g = f g
 
 -- ---- start
 

@@ -3,8 +3,10 @@
 ghost use mathlib.Core.Path.{_≡_};
 ghost use lib.ListN.{length, replicate};
 ghost use Rattle.numbers.specs.Bytes.{words as wordsOf};
-ghost use Rattle.table.specs.Table.{tableOf};
+ghost use Rattle.table.specs.Table.{tableOf, maxNodes};
 ghost use Rattle.table.specs.Index.{Indexed, indexLength};
+ghost use Rattle.flow.specs.Flow.{flow};
+ghost use Rattle.flow.specs.Marks.{marksOf};
 ghost use Rattle.state.specs.State.{stateLength, stateOf};
 ghost use Rattle.rules.specs.Calls.{outcome, lengthsRight, startAdmission, admission, startCall, stepCall, giveCall, takeCall, runCall};
 ghost use Rattle.rules.specs.declared.Admission.the-variants.{Admitted};
@@ -35,16 +37,18 @@ fn lengths_right(table: &[u8], state: &[u8]) -> bool
     state.len() == state::BYTES
 }
 
-// Grounds 8 and 9. The index of an admitted table is left in `index`, which comes as zeros.
-fn admit_start(table: &[u8], state: &[u8], index: &mut [u32]) -> Admission
+// Grounds 8 and 9. The index of an admitted table is left in `index` and the marks of its flow in `marks`, which come as zeros.
+fn admit_start(table: &[u8], state: &[u8], index: &mut [u32], marks: &mut [u32]) -> Admission
     requires { ⌜ now index ≡ replicate indexLength 0 ⌝ }
+    requires { ⌜ now marks ≡ replicate maxNodes 0 ⌝ }
     ensures { λ r. ⌜ r ≡ startAdmission (now (table .entry)) (now (state .entry)) ⌝ }
     ensures { λ r. ⌜ (r ≡ Admitted → Indexed (tableOf (now (table .entry))) (now (index .exit))) ⌝ }
+    ensures { λ r. ⌜ (r ≡ Admitted → marksOf (now (marks .exit)) ≡ flow (tableOf (now (table .entry)))) ⌝ }
 {
     if !lengths_right(table, state) {
         return Admission::Refused(Refusal::Length);
     }
-    if loader::accept(table, index) {
+    if loader::accept(table, index, marks) {
         return Admission::Admitted;
     }
     Admission::Refused(Refusal::Table)
@@ -65,11 +69,12 @@ pub fn admit(
     ensures { λ r. ⌜ (r ≡ Admitted → now (words .exit) ≡ wordsOf (now (state .entry))) ⌝ }
     ensures { λ r. ⌜ (r ≡ Admitted → Sound (tableOf (now (table .entry))) (stateOf (now (words .exit)))) ⌝ }
 {
-    match admit_start(table, state, index) {
+    let mut marks = [0u32; loader::MARKED];
+    match admit_start(table, state, index, &mut marks) {
         Admission::Refused(ground) => Admission::Refused(ground),
         Admission::Admitted => {
             state::read(state, words);
-            if sound::is_sound(table, index, words) {
+            if sound::is_sound(table, index, &marks, words) {
                 return Admission::Admitted;
             }
             Admission::Refused(Refusal::State)
@@ -82,7 +87,8 @@ pub fn start(table: &[u8], state: &mut [u8]) -> Started
     ensures { λ r. ⌜ outcome r (now (state .exit)) ≡ startCall (now (table .entry)) (now (state .entry)) ⌝ }
 {
     let mut index = [0u32; table::INDEX];
-    match admit_start(table, state, &mut index) {
+    let mut marks = [0u32; loader::MARKED];
+    match admit_start(table, state, &mut index, &mut marks) {
         Admission::Refused(ground) => Started::Refused(ground),
         Admission::Admitted => {
             let mut words = [0u32; state::WORDS];

@@ -12,6 +12,9 @@ ghost use Rattle.flow.specs.Marks.{bits, marksOf, marksFrom, seed};
 use table::Part;
 use table::field;
 
+// The numbers that hold the marks, one for each node.
+pub const MARKED: usize = table::MAX_NODES as usize;
+
 // Marks 0 to 15 are slots, mark 16 is the path itself.
 const MARKS: u32 = 17;
 

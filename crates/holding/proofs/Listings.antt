@@ -3,21 +3,21 @@ use Prim.Native.Nat.{ℕ, _+_, _<_, _≤_}
 use native.Mathlib.Omega.{arith}
 use native.Mathlib.Numerals.{add-one}
 use mathlib.Core.Path.{_≡_, refl, sym, _∙_}
-use mathlib.Core.Bool.{Bool, true, false}
-use mathlib.Core.List.{List, []}
+use mathlib.Core.Bool.{Bool, true, false, false≢true}
+use mathlib.Core.List.{List}
 use lib.Dec.{eqb}
 use lib.ListN.{getD, set, replicate}
 use borrow.Author.Tests.{eq-eqb, ne-eqb, lt-ltb, le-ltb}
 use Rattle.numbers.specs.Count.{bit}
 use Rattle.numbers.specs.Rows.{at}
-use Rattle.numbers.specs.Search.Laws.{some-intro, some-zero, some-suc}
+use Rattle.numbers.specs.Search.Laws.{caseB, some-intro, some-zero, some-suc}
 use Rattle.table.specs.Fields as Field
 use Rattle.table.specs.Table.{Table, slotRow, slotCount}
 use Rattle.table.specs.Layout.{start, definitionOf}
 use Rattle.table.specs.declared.Part.the-variants.{Slots}
-use Rattle.state.specs.State.{slotOf, status, standsAt, isWaiting, maxChannels, rowSlots}
-use Rattle.holding.specs.Own.{room, ownList, ownRoom}
-use Rattle.holding.specs.Own.Listing.{listed, ownBy, listedTo}
+use Rattle.state.specs.State.{slotOf, status, inUse, isWaiting, maxChannels, rowSlots}
+use Rattle.holding.specs.Own.{room, ownList, ownRoom, typesOf}
+use Rattle.holding.specs.Own.Listing.{listed, channelBy, ownBy, listedTo}
 use Rattle.holding.specs.Own.Listing.Laws.{listed-own}
 
 -- is_listed
@@ -39,25 +39,37 @@ module _ (l : List ℕ) (c : ℕ) where
 
 pub ruleset listings = (listed-none, listed-more, listed-hit, listed-past)
 
--- own_at: v is what slot k has, and x its type
-module _ (tb : Table) (from : ℕ) (row l : List ℕ) (k v : ℕ) (e : v ≡ slotOf row k) where
-  pub own-high : maxChannels ≤ v → maxChannels ≡ ownBy tb from row l k
-  unfolding ownBy
-  own-high h = rw (← e, le-ltb v 128 h)
+-- channel_at: v is what slot k has, and x its type
+module _ (tb : Table) (from : ℕ) (row : List ℕ) (k v : ℕ) (e : v ≡ slotOf row k) where
+  pub channel-high : maxChannels ≤ v → maxChannels ≡ channelBy tb from row k
+  unfolding channelBy
+  channel-high h = rw (← e, le-ltb v 128 h)
 
   module _ (x : ℕ) (f : x ≡ at tb (from + k) Field.type) (h : v < maxChannels) where
-    pub own-number : x ≡ 0 → maxChannels ≡ ownBy tb from row l k
+    pub channel-number : x ≡ 0 → maxChannels ≡ channelBy tb from row k
+    unfolding channelBy
+    channel-number g = rw (← e, lt-ltb v 128 h, ← f, g)
+
+    pub channel-there : (x ≡ 0 → ⊥) → v ≡ channelBy tb from row k
+    unfolding channelBy
+    channel-there g = rw (← e, lt-ltb v 128 h, ← f, ne-eqb x 0 g)
+
+pub ruleset channels = (channel-high, channel-number, channel-there)
+
+-- own_at: c is the channel in slot k, and r whether the list has it
+module _ (tb : Table) (from : ℕ) (row l : List ℕ) (k c : ℕ) (e : c ≡ channelBy tb from row k) where
+  pub own-none : c ≡ maxChannels → c ≡ ownBy tb from row l k
+  unfolding ownBy
+  own-none f = rw (← e, f) (caseB (listed l k 128) (λ y. rw y) (λ n. rw n))
+
+  module _ (r : Bool) (f : r ≡ listed l k c) where
+    pub own-listed : r ≡ true → maxChannels ≡ ownBy tb from row l k
     unfolding ownBy
-    own-number g = rw (← e, lt-ltb v 128 h, ← f, g)
+    own-listed g = rw (← e, ← f, g)
 
-    module _ (g : x ≡ 0 → ⊥) (r : Bool) (i : r ≡ listed l k v) where
-      pub own-listed : r ≡ true → maxChannels ≡ ownBy tb from row l k
-      unfolding ownBy
-      own-listed j = rw (← e, lt-ltb v 128 h, ← f, ne-eqb x 0 g, ← i, j)
-
-      pub own-new : r ≡ false → v ≡ ownBy tb from row l k
-      unfolding ownBy
-      own-new j = rw (← e, lt-ltb v 128 h, ← f, ne-eqb x 0 g, ← i, j)
+    pub own-new : r ≡ false → c ≡ ownBy tb from row l k
+    unfolding ownBy
+    own-new g = rw (← e, ← f, g)
 
 -- list_own
 module _ (tb : Table) (from : ℕ) (row l : List ℕ) where
@@ -87,25 +99,29 @@ module _ (tb : Table) (s d : ℕ) where
     unfolding room
     room-many h = rw (ne-eqb s 0 e, ← f, le-ltb n 16 h)
 
--- own_channels of a free row: s is the row's status
-module _ (tb : Table) (row : List ℕ) (s : ℕ) (e : s ≡ status row) (f : s ≡ 0) where
-  pub free-room-is : 0 ≡ ownRoom tb row
-  unfolding ownRoom room
-  free-room-is = rw (← e, f)
+-- slots_of: s and x are the row's status and node
+module _ (tb : Table) (row : List ℕ) (s : ℕ) (e : s ≡ status row) where
+  module _ (f : s ≡ 0) where
+    pub free-room-is : 0 ≡ ownRoom tb row
+    unfolding ownRoom room
+    free-room-is = rw (← e, f)
 
-  pub free-list-is : replicate rowSlots maxChannels ≡ ownList tb row
-  unfolding listedTo
-  free-list-is = rw (← free-room-is) at (listed-own tb row (slotRow tb + start tb Slots (definitionOf tb (standsAt row))) refl)
+    pub free-types-are : (n : ℕ) → inUse row ≡ true → n ≡ typesOf tb row
+    free-types-are n u = absurd (false≢true (rw (← e, f) at u))
 
--- own_channels: s and x are the row's status and node
-module _ (tb : Table) (row : List ℕ) (s x d n : ℕ) (e : s ≡ status row) (g : x ≡ getD row 1 0) (h : d ≡ definitionOf tb x) (j : n ≡ room tb s d) where
-  pub own-room-is : n ≡ ownRoom tb row
-  unfolding ownRoom
-  own-room-is = j ∙ rw (h, g, e)
+  module _ (x d : ℕ) (g : x ≡ getD row 1 0) (h : d ≡ definitionOf tb x) where
+    pub own-room-is : (n : ℕ) → n ≡ room tb s d → n ≡ ownRoom tb row
+    unfolding ownRoom
+    own-room-is n j = j ∙ rw (h, g, e)
 
-  pub own-list-is : (m : List ℕ) (from : ℕ) → m ≡ listedTo tb from row (replicate rowSlots maxChannels) n → from ≡ slotRow tb + start tb Slots d
-      → m ≡ ownList tb row
-  own-list-is m from f i = f ∙ rw own-room-is (listed-own tb row from (i ∙ rw (h, g)))
+    pub types-are : (n : ℕ) → n ≡ slotRow tb + start tb Slots d → inUse row ≡ true → n ≡ typesOf tb row
+    unfolding typesOf
+    types-are n j u = j ∙ rw (h, g)
+
+-- own_channels: n and from are the number of the row's slots and the place of their types
+pub own-list-is : (tb : Table) (row m : List ℕ) (n from : ℕ) → m ≡ listedTo tb from row (replicate rowSlots maxChannels) n → n ≡ ownRoom tb row
+    → (inUse row ≡ true → from ≡ typesOf tb row) → m ≡ ownList tb row
+own-list-is tb row m n from f g e = f ∙ rw g (listed-own tb row from e)
 
 -- weight
 module _ (row : List ℕ) (s : ℕ) (e : s ≡ status row) where

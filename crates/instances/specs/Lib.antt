@@ -12,5 +12,6 @@ pub mod OfGuarantee
 pub mod OfTurns
 pub mod OfRefinement
 pub mod OfSums
+pub mod OfHolders
 pub mod OfListing
 pub mod OfEmptyFile

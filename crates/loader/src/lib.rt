@@ -4,12 +4,15 @@ ghost use mathlib.Core.Bool.{true};
 ghost use Prim.Native.Nat.{_≤_};
 ghost use lib.ListN.{length, replicate};
 ghost use Rattle.numbers.specs.Search.{every};
-ghost use Rattle.table.specs.Table.{tableOf, maxRows, lineTotal};
+ghost use Rattle.table.specs.Table.{tableOf, maxRows, maxNodes, lineTotal};
 ghost use Rattle.table.specs.Index.{indexLength, Indexed};
+ghost use Rattle.flow.specs.Flow.{flow};
+ghost use Rattle.flow.specs.Marks.{marksOf};
 ghost use Rattle.file.specs.File.{fileTable};
 ghost use Rattle.file.specs.EmptyFile.{procedureText};
 ghost use Rattle.loader.specs.Verdict.{judgedFlow, judgedRows, judged, verdict, restZero};
 ghost use Rattle.loader.specs.Load.{Outcome, loaded, accepted, tableLength};
+pub use flow::MARKED;
 
 // Why a file is refused. Ground 3 has its four tests apart, in their order: header, total, kind, sums.
 pub enum Ground {
@@ -48,28 +51,31 @@ fn copy_table(from: &[u8], to: &mut [u8])
     }
 }
 
-// Grounds 6 and 7, of a table that has passed those before.
-fn judge_flow(table: &[u8], index: &[u32], n: usize) -> Verdict
+// Grounds 6 and 7, of a table that has passed those before. The marks of its flow are left in `marks`, which comes as zeros.
+fn judge_flow(table: &[u8], index: &[u32], marks: &mut [u32], n: usize) -> Verdict
     requires { ⌜ Indexed (tableOf (now table)) (now index) ⌝ }
+    requires { ⌜ now marks ≡ replicate maxNodes 0 ⌝ }
     ensures { λ r. ⌜ r ≡ judgedFlow (tableOf (now (table .entry))) n ⌝ }
+    ensures { λ _. ⌜ marksOf (now (marks .exit)) ≡ flow (tableOf (now (table .entry))) ⌝ }
 {
-    let mut marks = [0u32; table::MAX_NODES as usize];
-    flow::mark_flow(table, index, &mut marks);
-    let unwritten = paths::first_reads_unwritten(table, index, &marks, n);
+    flow::mark_flow(table, index, marks);
+    let unwritten = paths::first_reads_unwritten(table, index, marks, n);
     if unwritten < n {
         return Verdict::Fault(Ground::Unwritten, unwritten + 1);
     }
-    let unreachable = paths::first_unreachable(table, &marks, n);
+    let unreachable = paths::first_unreachable(table, marks, n);
     if unreachable < n {
         return Verdict::Fault(Ground::Unreachable, unreachable + 1);
     }
     Verdict::Sound
 }
 
-// Grounds 4 and on, of a table that has passed ground 3.
-fn judge_rows(table: &[u8], index: &[u32], n: usize) -> Verdict
+// Grounds 4 and on, of a table that has passed ground 3. The marks of the flow of a table in which there is no fault are left in `marks`, which comes as zeros.
+fn judge_rows(table: &[u8], index: &[u32], marks: &mut [u32], n: usize) -> Verdict
     requires { ⌜ Indexed (tableOf (now table)) (now index) ⌝ }
+    requires { ⌜ now marks ≡ replicate maxNodes 0 ⌝ }
     ensures { λ r. ⌜ r ≡ judgedRows (tableOf (now (table .entry))) n ⌝ }
+    ensures { λ r. ⌜ (r ≡ Verdict.Sound → marksOf (now (marks .exit)) ≡ flow (tableOf (now (table .entry)))) ⌝ }
 {
     let range = ranges::first_out_of_range(table, index, n);
     if range < n {
@@ -79,16 +85,23 @@ fn judge_rows(table: &[u8], index: &[u32], n: usize) -> Verdict
     if types < n {
         return Verdict::Fault(Ground::Types, types + 1);
     }
-    judge_flow(table, index, n)
+    judge_flow(table, index, marks, n)
 }
 
-// Grounds 3 and on, of a table of n lines. The index of a table in which there is no fault is left in `index`.
-fn judge(table: &[u8], index: &mut [u32], n: usize) -> Verdict
+// Grounds 3 and on, of a table of n lines. The index of a table in which there is no fault is left in `index`, and the marks of its flow in `marks`; both come as
+// zeros.
+fn judge(table: &[u8], index: &mut [u32], marks: &mut [u32], n: usize) -> Verdict
     requires { ⌜ length (now table) ≡ tableLength ⌝ }
     requires { ⌜ now index ≡ replicate indexLength 0 ⌝ }
+    requires { ⌜ now marks ≡ replicate maxNodes 0 ⌝ }
     ensures { λ r. ⌜ r ≡ judged (tableOf (now (table .entry))) n ⌝ }
     ensures { λ r. ⌜ (r ≡ Verdict.Sound → Indexed (tableOf (now (table .entry))) (now (index .exit))) ⌝ }
+    ensures { λ r. ⌜ (r ≡ Verdict.Sound → marksOf (now (marks .exit)) ≡ flow (tableOf (now (table .entry)))) ⌝ }
 {
+    // The length is asked once more for the compiler, which then tests it at no look-up.
+    if table.len() != table::BYTES {
+        return Verdict::Fault(Ground::Total, 1);
+    }
     if !form::header_in_range(table) {
         return Verdict::Fault(Ground::Header, 1);
     }
@@ -103,7 +116,7 @@ fn judge(table: &[u8], index: &mut [u32], n: usize) -> Verdict
         return Verdict::Fault(Ground::Sums, 1);
     }
     table::indexing::fill_index(table, index);
-    judge_rows(table, index, n)
+    judge_rows(table, index, marks, n)
 }
 
 // The verdict on a file; the numbers of a file in which there is no fault are left in `table`, which comes as zeros.
@@ -121,7 +134,8 @@ fn judge_file(file: &[u8], table: &mut [u8]) -> Verdict
         return Verdict::Fault(Ground::Field, malformed + 1);
     }
     let mut index = [0u32; table::INDEX];
-    judge(table, &mut index, n)
+    let mut marks = [0u32; MARKED];
+    judge(table, &mut index, &mut marks, n)
 }
 
 // The verdict on the text that a file stands for: its own, or the lines of the procedure that ends if it has no bytes. The numbers of a text in which
@@ -171,18 +185,20 @@ fn rest_is_zero(table: &[u8], n: usize) -> bool
     all == 0
 }
 
-// Ground 9: whether the table is one that loading yields. The index of such a table is left in `index`, which comes as zeros; for any other
-// table it is left open what `index` holds, and nobody may use it.
-pub fn accept(table: &[u8], index: &mut [u32]) -> bool
+// Ground 9: whether the table is one that loading yields. The index of such a table is left in `index` and the marks of its flow in `marks`, which come as
+// zeros; for any other table it is left open what they hold, and nobody may use them.
+pub fn accept(table: &[u8], index: &mut [u32], marks: &mut [u32]) -> bool
     requires { ⌜ now index ≡ replicate indexLength 0 ⌝ }
+    requires { ⌜ now marks ≡ replicate maxNodes 0 ⌝ }
     ensures { λ r. ⌜ r ≡ accepted (now (table .entry)) ⌝ }
     ensures { λ r. ⌜ (r ≡ true → Indexed (tableOf (now (table .entry))) (now (index .exit))) ⌝ }
+    ensures { λ r. ⌜ (r ≡ true → marksOf (now (marks .exit)) ≡ flow (tableOf (now (table .entry)))) ⌝ }
 {
     if table.len() != table::BYTES {
         return false;
     }
     let n = table::line_total(table);
-    match judge(table, index, n) {
+    match judge(table, index, marks, n) {
         Verdict::Sound => rest_is_zero(table, n),
         Verdict::Fault(_, _) => false,
     }

@@ -289,7 +289,8 @@ pub fn profile(table: &[u8]) -> Profiled
         return Profiled::WrongLength;
     }
     let mut index = [0u32; table::INDEX];
-    if loader::accept(table, &mut index) {
+    let mut marks = [0u32; loader::MARKED];
+    if loader::accept(table, &mut index, &mut marks) {
         return judge(table, &index);
     }
     Profiled::WrongTable

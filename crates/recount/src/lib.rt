@@ -1,13 +1,19 @@
-// How many threads hold each channel, and how many of those wait, by one pass over the thread rows.
+// How many threads hold each channel, and how many of those wait, by one pass over the thread rows. A channel keeps the mark of the thread that was counted at it
+// last, so that one look tells whether a thread which holds it by several slots has been counted.
 ghost use mathlib.Core.Path.{_≡_};
-ghost use Prim.Native.Nat.{_≤_};
-ghost use lib.ListN.{getD, replicate};
+ghost use Prim.Native.Nat.{_+_, _%_, _≤_, _<_};
+ghost use lib.ListN.{length, getD, replicate};
+ghost use Rattle.numbers.specs.Count.{bit};
 ghost use Rattle.numbers.specs.Search.{tabulate};
 ghost use Rattle.table.specs.Table.{tableOf};
 ghost use Rattle.table.specs.Index.{Indexed};
-ghost use Rattle.state.specs.State.{rowSlots, stateOf, maxChannels};
+ghost use Rattle.state.specs.State.{stateOf, maxThreads, maxChannels, thread, isWaiting};
 ghost use Rattle.rules.specs.Holding.{holders, waiters};
-ghost use Rattle.recount.specs.Tally.{added, addedTo};
+ghost use Rattle.holding.specs.Own.{ownOf, ownRoom, typesOf};
+ghost use Rattle.recount.specs.Tally.{added, addedUnless, markedAt, rowAdded, Fresh, Passed};
+
+// An entry for each channel.
+pub const CHANNELS: usize = state::CHANNELS as usize;
 
 // Entry i of a list of bytes; 0 outside.
 pub fn byte_at(list: &[u8], i: u32) -> u8
@@ -20,26 +26,102 @@ pub fn byte_at(list: &[u8], i: u32) -> u8
     0
 }
 
+// The sum of two bytes, around the end.
+fn sum_of(x: u8, y: u8) -> u8
+    ensures { λ r. ⌜ r ≡ (x + y) % 256 ⌝ }
+{
+    ((x as u32 + y as u32) % 256) as u8
+}
+
 // Entry c grows by w; there is no entry 128.
 fn add(counts: &mut [u8], c: u8, w: u8)
     ensures { λ _. ⌜ now (counts .exit) ≡ added (now (counts .entry)) c w ⌝ }
 {
     let at = c as usize;
     if at < counts.len() {
-        counts[at] = std::num::wrapping_add_u8(counts[at], w);
+        counts[at] = sum_of(counts[at], w);
     }
 }
 
-// Each of the first n channels of a list counts once among those held, and w times among those held waiting.
-fn add_listed(list: &[u8; holding::LIST], n: u32, w: u8, held: &mut [u8], waiting: &mut [u8])
-    requires { ⌜ n ≤ rowSlots ⌝ }
-    ensures { λ _. ⌜ now (held .exit) ≡ addedTo (now (list .entry)) 1 (now (held .entry)) n ⌝ }
-    ensures { λ _. ⌜ now (waiting .exit) ≡ addedTo (now (list .entry)) w (now (waiting .entry)) n ⌝ }
+// A thread with this mark is counted at channel c, and w times among the waiting ones, unless the channel has the mark already. There is no channel 128.
+fn count_once(
+    c: u8,
+    mark: u8,
+    w: u8,
+    marks: &mut [u8; CHANNELS],
+    held: &mut [u8; CHANNELS],
+    waiting: &mut [u8; CHANNELS],
+)
+    ensures { λ _. ⌜ now (held .exit) ≡ addedUnless (now (marks .entry)) mark c 1 (now (held .entry)) ⌝ }
+    ensures { λ _. ⌜ now (waiting .exit) ≡ addedUnless (now (marks .entry)) mark c w (now (waiting .entry)) ⌝ }
+    ensures { λ _. ⌜ now (marks .exit) ≡ markedAt (now (marks .entry)) mark c ⌝ }
 {
-    for i in 0..n {
-        let c = list[i as usize];
-        add(held, c, 1);
-        add(waiting, c, w);
+    let at = c as usize;
+    if at < CHANNELS {
+        if marks[at] != mark {
+            marks[at] = mark;
+            add(held, c, 1);
+            add(waiting, c, w);
+        }
+    }
+}
+
+// Thread t is counted at the channel in its slot k, and w times among the waiting ones, if no slot before has that channel. The types of its slots stand from a row of
+// the table on.
+pub fn count_slot(
+    table: &[u8],
+    index: &[u32],
+    state: &[u32; state::WORDS],
+    t: u32,
+    from: usize,
+    k: u32,
+    w: u8,
+    marks: &mut [u8; CHANNELS],
+    held: &mut [u8; CHANNELS],
+    waiting: &mut [u8; CHANNELS],
+)
+    requires { ⌜ Indexed (tableOf (now table)) (now index) ⌝ }
+    requires { ⌜ t < maxThreads ⌝ }
+    requires { ⌜ from ≡ typesOf (tableOf (now table)) (thread (stateOf (now state)) t) ⌝ }
+    requires { ⌜ from ≤ 12713792 ⌝ }
+    requires { ⌜ k < ownRoom (tableOf (now table)) (thread (stateOf (now state)) t) ⌝ }
+    requires { ⌜ Passed (tableOf (now table)) (thread (stateOf (now state)) t) t k (now marks) ⌝ }
+    requires { ⌜ length (now held) ≡ maxChannels ⌝ }
+    requires { ⌜ length (now waiting) ≡ maxChannels ⌝ }
+    ensures { λ _. ⌜ now (held .exit) ≡ added (now (held .entry)) (ownOf (tableOf (now (table .entry))) (thread (stateOf (now (state .entry))) t) k) 1 ⌝ }
+    ensures { λ _. ⌜ now (waiting .exit) ≡ added (now (waiting .entry)) (ownOf (tableOf (now (table .entry))) (thread (stateOf (now (state .entry))) t) k) w ⌝ }
+    ensures { λ _. ⌜ Passed (tableOf (now (table .entry))) (thread (stateOf (now (state .entry))) t) t (k + 1) (now (marks .exit)) ⌝ }
+{
+    let c = holding::channel_at(table, index, from, state, t, k);
+    count_once(c, t as u8 + 1, w, marks, held, waiting);
+}
+
+// Thread t is counted at each channel that it holds.
+fn tally_row(
+    table: &[u8],
+    index: &[u32],
+    state: &[u32; state::WORDS],
+    t: u32,
+    marks: &mut [u8; CHANNELS],
+    held: &mut [u8; CHANNELS],
+    waiting: &mut [u8; CHANNELS],
+)
+    requires { ⌜ Indexed (tableOf (now table)) (now index) ⌝ }
+    requires { ⌜ t < maxThreads ⌝ }
+    requires { ⌜ Fresh t (now marks) ⌝ }
+    requires { ⌜ length (now held) ≡ maxChannels ⌝ }
+    requires { ⌜ length (now waiting) ≡ maxChannels ⌝ }
+    ensures { λ _. ⌜ now (held .exit) ≡ rowAdded (tableOf (now (table .entry))) (thread (stateOf (now (state .entry))) t) 1 (now (held .entry)) ⌝ }
+    ensures { λ _. ⌜ now (waiting .exit)
+        ≡ rowAdded (tableOf (now (table .entry))) (thread (stateOf (now (state .entry))) t) (bit (isWaiting (thread (stateOf (now (state .entry))) t))) (now (waiting .entry)) ⌝ }
+    ensures { λ _. ⌜ Fresh (t + 1) (now (marks .exit)) ⌝ }
+{
+    let slots = holding::slots_of(table, index, state, t);
+    let from = slots.from;
+    let n = slots.count;
+    let w = holding::weight(state, t);
+    for k in 0..n {
+        count_slot(table, index, state, t, from, k, w, marks, held, waiting);
     }
 }
 
@@ -48,8 +130,8 @@ pub fn tally(
     table: &[u8],
     index: &[u32],
     state: &[u32; state::WORDS],
-    held: &mut [u8],
-    waiting: &mut [u8],
+    held: &mut [u8; CHANNELS],
+    waiting: &mut [u8; CHANNELS],
 )
     requires { ⌜ Indexed (tableOf (now table)) (now index) ⌝ }
     requires { ⌜ now held ≡ replicate maxChannels 0 ⌝ }
@@ -57,10 +139,8 @@ pub fn tally(
     ensures { λ _. ⌜ now (held .exit) ≡ tabulate maxChannels (holders (tableOf (now (table .entry))) (stateOf (now (state .entry)) .threads)) ⌝ }
     ensures { λ _. ⌜ now (waiting .exit) ≡ tabulate maxChannels (waiters (tableOf (now (table .entry))) (stateOf (now (state .entry)) .threads)) ⌝ }
 {
+    let mut marks = [0u8; CHANNELS];
     for t in 0..state::THREADS {
-        let mut list = [0u8; holding::LIST];
-        let n = holding::own_channels(table, index, state, t, &mut list);
-        let w = holding::weight(state, t);
-        add_listed(&list, n, w, held, waiting);
+        tally_row(table, index, state, t, &mut marks, held, waiting);
     }
 }

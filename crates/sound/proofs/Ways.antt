@@ -1,26 +1,32 @@
 -- One law for each way out of the functions that test a state. Assumes nothing.
 use Prim.Native.Nat.{ℕ, _+_, _≤_, _<_}
+use native.Mathlib.Omega.{arith}
 use native.Mathlib.Nat.{zero-add}
 use mathlib.Core.Path.{_≡_, refl, _∙_}
-use mathlib.Core.Bool.{Bool, true, false, _||_}
+use mathlib.Core.Bool.{Bool, true, false, _&&_, _||_}
 use mathlib.Core.List.{List}
-use lib.Dec.{ltb, eqb}
+use lib.Dec.{ltb, leb, eqb}
 use lib.ListN.{getD}
 use borrow.Author.Tests.{lt-ltb, le-ltb, le-leb, lt-leb, eq-eqb, ne-eqb}
+use Rattle.numbers.specs.Bits.{bitsOf, joined-all}
 use Rattle.numbers.specs.Count.{bit}
 use Rattle.numbers.specs.Rows.{at}
 use Rattle.numbers.specs.Search.{every, tabulate}
 use Rattle.numbers.specs.Search.Laws.{every-more, every-not, every-all, getD-tabulate}
 use Rattle.numbers.specs.Tests.{and-true}
-use Rattle.table.specs.Table.{Table, nodes, ports, slotCount}
-use Rattle.table.specs.Layout.{definitionOf, slotType}
+use Rattle.table.specs.Fields as Field
+use Rattle.table.specs.Table.{Table, nodes, ports, slotRow, slotCount}
+use Rattle.table.specs.Layout.{start, definitionOf, slotType}
+use Rattle.table.specs.declared.Part.the-variants.{Slots}
 use Rattle.flow.specs.Flow.{Marks, flow, marked, mayLack}
-use Rattle.state.specs.State.{State, maxThreads, maxChannels, threadWords, rowSlots, threadMark, channelMark, turn, thread, status, standsAt, slotOf, typeIn}
+use Rattle.state.specs.State.{State, maxThreads, maxChannels, threadWords, rowSlots, threadMark, channelMark, turn, thread, status, standsAt, slotOf, inUse, typeIn}
 use Rattle.rules.specs.Program.{channelSlot}
 use Rattle.rules.specs.Holding.{countOf, holders, waiters}
 use Rattle.rules.specs.Sound.{marksInRange, freeZero, rowInRange, spareZero, slotTyped, slotsTyped, slotFilled, slotsFilled, countTrue, portTyped, waitsRightly, sound}
-use Rattle.sound.specs.SoundRows.{wordZero, spareAt, slotSound, rowSound}
-use Rattle.sound.specs.SoundRows.Laws.{slots-sound, sound-rows}
+use Rattle.holding.specs.Own.{ownRoom, typesOf}
+use Rattle.holding.specs.Own.Laws.{room-used}
+use Rattle.sound.specs.SoundRows.{wordZero, spareOf, spareZeroAt, slotSound, rowSound}
+use Rattle.sound.specs.SoundRows.Laws.{slots-sound, spare-zero, sound-rows}
 
 or-true : (b : Bool) → (b || true) ≡ true
 or-true true = refl
@@ -44,71 +50,101 @@ module _ (s : State) (a : ℕ) (e : a ≡ threadMark s) where
 
 pub ruleset marks = (thread-mark-past, channel-mark-past, turn-tested)
 
--- ---- row_is_zero
+-- ---- row_is_zero, spare_at and spare_zero: x has the bits of what was looked at
 
-module _ (row : List ℕ) (k x : ℕ) where
-  pub word-zero : every (wordZero row) k ≡ true → x ≡ getD row k 0 → x ≡ 0 → every (wordZero row) (k + 1) ≡ true
+module _ (row : List ℕ) (x i : ℕ) where
+  pub words-zero : x ≡ bitsOf (λ k. getD row k 0) i → i ≤ threadWords → threadWords ≤ i → eqb x 0 ≡ every (wordZero row) threadWords
   unfolding wordZero
-  word-zero f e g = every-more (wordZero row) k true f (rw (← e, g)) refl
+  words-zero e h l = joined-all (λ k. getD row k 0) i threadWords x e h l
 
-  pub word-other : (n : ℕ) → (x ≡ 0 → ⊥) → x ≡ getD row k 0 → k < n → false ≡ every (wordZero row) n
-  unfolding wordZero
-  word-other n f e h = every-not (wordZero row) k n false (rw (← e, ne-eqb x 0 f)) refl h
+  pub spares-zero : (n : ℕ) → x ≡ bitsOf (spareOf row n) i → i ≤ rowSlots → rowSlots ≤ i → eqb x 0 ≡ every (spareZeroAt row n) rowSlots
+  unfolding spareZeroAt
+  spares-zero n e h l = joined-all (spareOf row n) i rowSlots x e h l
 
--- ---- slot_sound: the row stands at node n of definition d, which has m slots; slot k has v
+module _ (row : List ℕ) (n k : ℕ) where
+  pub spare-own : k < n → 0 ≡ spareOf row n k
+  unfolding spareOf
+  spare-own h = rw (lt-ltb k n h)
 
-module _ (tb : Table) (s : State) (row : List ℕ) (k n d m v : ℕ)
-    (e : v ≡ slotOf row k) (f : n ≡ standsAt row) (g : d ≡ definitionOf tb n) (h : m ≡ slotCount tb d) where
-  pub slot-spare : m ≤ k → eqb v 0 ≡ slotSound tb s row k
-  unfolding slotSound spareAt slotTyped slotFilled channelSlot
-  slot-spare i = rw (← e, ← f, ← g, ← h, le-ltb k m i) (and-true (eqb v 0))
+  pub spare-there : (v : ℕ) → n ≤ k → v ≡ slotOf row k → v ≡ spareOf row n k
+  unfolding spareOf
+  spare-there v h e = e ∙ rw (le-ltb k n h)
 
-  module _ (i : k < m) (ty : ℕ) (j : ty ≡ slotType tb d k) where
-    pub slot-number : ty ≡ 0 → true ≡ slotSound tb s row k
-    unfolding slotSound spareAt slotTyped slotFilled channelSlot
-    slot-number o = rw (← e, ← f, ← g, ← h, lt-ltb k m i, ← j, o)
+-- ---- in_range: m is the number of nodes
 
-    module _ (o : ty ≡ 0 → ⊥) where
+module _ (tb : Table) (x n : ℕ) where
+  pub status-unknown : 2 < x → false ≡ (leb x 2 && ltb n (nodes tb))
+  status-unknown h = rw (lt-leb x 2 h)
+
+  pub node-tested : (m : ℕ) → x ≤ 2 → m ≡ nodes tb → ltb n m ≡ (leb x 2 && ltb n (nodes tb))
+  node-tested m h e = rw (le-leb x 2 h, e)
+
+-- ---- slot_sound: the row stands at node n; slot k, of the type ty, has v
+
+module _ (tb : Table) (s : State) (row : List ℕ) (k n from ty : ℕ)
+    (f : n ≡ standsAt row) (g : from ≡ typesOf tb row) (h : k < ownRoom tb row) (j : ty ≡ at tb (from + k) Field.type) where
+  abbrev here : ℕ
+  here = definitionOf tb (standsAt row)
+
+  own : ltb k (slotCount tb here) ≡ true
+  own = lt-ltb k (slotCount tb here) (room-used tb row k h .1)
+
+  type-is : ty ≡ slotType tb here k
+  unfolding typesOf
+  type-is = let p : slotRow tb + start tb Slots here + k ≡ slotRow tb + (start tb Slots here + k) = omega arith in j ∙ rw (g, p)
+
+  pub slot-number : ty ≡ 0 → true ≡ slotSound tb s row k
+  unfolding slotSound slotTyped slotFilled channelSlot
+  slot-number o = rw (own, ← type-is, o)
+
+  module _ (o : ty ≡ 0 → ⊥) (v : ℕ) (e : v ≡ slotOf row k) where
+    pub slot-channel : (x : ℕ) → v < maxChannels → x ≡ typeIn s v → eqb x ty ≡ slotSound tb s row k
+    unfolding slotSound slotTyped slotFilled channelSlot
+    slot-channel x q w =
+        rw (← e, own, ← type-is, ne-eqb ty 0 o, ne-eqb v 4294967295 (λ p. omega (arith, p)), lt-ltb v 128 q, ← w, or-true (mayLack tb (standsAt row) k)) (and-true (eqb x ty))
+
+    module _ (q : maxChannels ≤ v) where
       pub slot-empty : (ms : Marks) (r : Bool) → ms ≡ flow tb → r ≡ marked ms n k → v ≡ 4294967295 → r ≡ slotSound tb s row k
-      unfolding slotSound spareAt slotTyped slotFilled channelSlot mayLack
-      slot-empty ms r p q w = rw (← e, ← f, ← g, ← h, lt-ltb k m i, ← j, ne-eqb ty 0 o, eq-eqb v 4294967295 w, ← p, ← q) (or-false r)
+      unfolding slotSound slotTyped slotFilled channelSlot mayLack
+      slot-empty ms r p i w = rw (← e, own, ← type-is, ne-eqb ty 0 o, eq-eqb v 4294967295 w, ← f, ← p, ← i) (or-false r)
         where
           or-false : (b : Bool) → b ≡ (b || false)
           or-false true = refl
           or-false false = refl
 
-      pub slot-channel : (x : ℕ) → (v ≡ 4294967295 → ⊥) → v < maxChannels → x ≡ typeIn s v → eqb x ty ≡ slotSound tb s row k
-      unfolding slotSound spareAt slotTyped slotFilled channelSlot
-      slot-channel x p q w = rw (← e, ← f, ← g, ← h, lt-ltb k m i, ← j, ne-eqb ty 0 o, ne-eqb v 4294967295 p, lt-ltb v 128 q, ← w, or-true (mayLack tb n k)) (and-true (eqb x ty))
+      pub slot-no-channel : (v ≡ 4294967295 → ⊥) → false ≡ slotSound tb s row k
+      unfolding slotSound slotTyped slotFilled channelSlot
+      slot-no-channel p = rw (← e, own, ← type-is, ne-eqb ty 0 o, ne-eqb v 4294967295 p, le-ltb v 128 q)
 
-      pub slot-no-channel : (v ≡ 4294967295 → ⊥) → maxChannels ≤ v → false ≡ slotSound tb s row k
-      unfolding slotSound spareAt slotTyped slotFilled channelSlot
-      slot-no-channel p q = rw (← e, ← f, ← g, ← h, lt-ltb k m i, ← j, ne-eqb ty 0 o, ne-eqb v 4294967295 p, le-ltb v 128 q)
+pub ruleset slots = (slot-number, slot-channel, slot-empty, slot-no-channel)
 
-pub ruleset slots = (slot-spare, slot-number, slot-empty, slot-channel, slot-no-channel)
+-- ---- pass_row: x is the row's status
 
--- ---- row_sound: x is the row's status
+pub in-use : (row : List ℕ) (x : ℕ) → x ≡ status row → (x ≡ 0 → ⊥) → inUse row ≡ true
+in-use row x e f = rw (← e, ne-eqb x 0 f)
 
 module _ (tb : Table) (s : State) (row : List ℕ) (x : ℕ) (e : x ≡ status row) where
   pub row-free : (r : Bool) → x ≡ 0 → r ≡ every (wordZero row) threadWords → r ≡ rowSound tb s row
   unfolding wordZero rowSound rowInRange freeZero spareZero slotsTyped slotsFilled
   row-free r f g = rw (← e, f, ← g) (and-true r)
 
-  module _ (f : x ≡ 0 → ⊥) where
-    pub row-unknown : 2 < x → false ≡ rowSound tb s row
-    unfolding rowSound rowInRange
-    row-unknown g = rw (← e, lt-leb x 2 g)
-
-    module _ (g : x ≤ 2) (n m : ℕ) (h : n ≡ standsAt row) (i : m ≡ nodes tb) where
-      pub row-past : m ≤ n → false ≡ rowSound tb s row
-      unfolding rowSound rowInRange
-      row-past j = rw (← e, le-leb x 2 g, ne-eqb x 0 f, ← h, ← i, le-ltb n m j)
-
-      pub row-used : (r : Bool) → n < m → r ≡ every (slotSound tb s row) rowSlots → r ≡ rowSound tb s row
-      unfolding rowSound rowInRange freeZero spareZero slotsTyped slotsFilled spareAt
-      row-used r j q = rw (← e, le-leb x 2 g, ne-eqb x 0 f, ← h, ← i, lt-ltb n m j) (q ∙ rw h (slots-sound tb s row))
-
-pub ruleset rows = (row-free, row-unknown, row-past, row-used)
+  pub row-used : (n m : ℕ) (a b d : Bool) → (x ≡ 0 → ⊥) → n ≡ standsAt row → m ≡ ownRoom tb row → a ≡ every (slotSound tb s row) m → b ≡ every (spareZeroAt row m) rowSlots
+      → d ≡ (leb x 2 && ltb n (nodes tb)) → ((a && b) && d) ≡ rowSound tb s row
+  unfolding rowSound rowInRange freeZero spareZero slotsTyped slotsFilled
+  row-used n m a b d f g h i j k =
+      let u = in-use row x e f in
+      rw (i, j, k, h, slots-sound tb s row u, spare-zero tb s row u, g, e, ne-eqb (status row) 0 (λ q. f (e ∙ q)))
+      (turned (every (slotTyped tb s row) rowSlots && every (slotFilled tb row) rowSlots) _ _)
+    where
+      turned : (a b d : Bool) → ((a && b) && d) ≡ (d && (b && a))
+      turned true true true = refl
+      turned true true false = refl
+      turned true false true = refl
+      turned true false false = refl
+      turned false true true = refl
+      turned false true false = refl
+      turned false false true = refl
+      turned false false false = refl
 
 -- ---- count_due and channel_sound: a is the channel's count, z its type
 

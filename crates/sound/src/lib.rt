@@ -1,17 +1,22 @@
-// Ground 10: whether a state is sound for a table. Each thread row is passed once for its own tests, once for the counts and, where it waits, once
-// for its offers.
+// Ground 10: whether a state is sound for a table. Each thread row is passed once, for its own tests and for the counts, and once more for its offers where it waits.
 ghost use mathlib.Core.Path.{_≡_};
-ghost use Prim.Native.Nat.{_<_};
+ghost use mathlib.Core.Bool.{_&&_};
+ghost use Prim.Native.Nat.{_+_, _≤_, _<_};
+ghost use lib.Dec.{ltb, leb};
+ghost use lib.ListN.{length, replicate};
+ghost use Rattle.numbers.specs.Count.{bit};
 ghost use Rattle.numbers.specs.Search.{every, tabulate};
-ghost use Rattle.table.specs.Table.{tableOf, ports};
-ghost use Rattle.table.specs.Layout.{definitionOf};
+ghost use Rattle.table.specs.Table.{tableOf, nodes, ports};
 ghost use Rattle.table.specs.Index.{Indexed};
 ghost use Rattle.flow.specs.Flow.{flow};
 ghost use Rattle.flow.specs.Marks.{marksOf};
-ghost use Rattle.state.specs.State.{stateOf, maxChannels, threadWords, rowSlots, thread, standsAt};
+ghost use Rattle.state.specs.State.{stateOf, maxThreads, maxChannels, threadWords, rowSlots, thread, standsAt, isWaiting};
+ghost use Rattle.state.specs.Words.{waiting as waitingStatus};
+ghost use Rattle.holding.specs.Own.{ownRoom, typesOf};
 ghost use Rattle.rules.specs.Holding.{countOf, holders, waiters};
 ghost use Rattle.rules.specs.Sound.{marksInRange, countTrue, portTyped, sound};
-ghost use Rattle.sound.specs.SoundRows.{wordZero, slotSound, rowSound, rowsSound};
+ghost use Rattle.recount.specs.Tally.{rowAdded, Fresh};
+ghost use Rattle.sound.specs.SoundRows.{wordZero, spareOf, spareZeroAt, slotSound, rowSound, rowsSound};
 use table::field;
 
 // Every port has this type.
@@ -29,7 +34,8 @@ fn marks_in_range(state: &[u32; state::WORDS]) -> bool
     false
 }
 
-// Whether slot k of thread t, which is in use and stands at node n of definition d, is 0 if it is spare, typed, and filled if it must be.
+// Whether slot k of thread t is typed, and filled if it must be. The thread is in use and stands at node n, and the types of its slots, of which k is one, stand from a
+// row of the table on.
 fn slot_sound(
     table: &[u8],
     index: &[u32],
@@ -37,119 +43,192 @@ fn slot_sound(
     state: &[u32; state::WORDS],
     t: u32,
     n: u32,
-    d: u32,
+    from: usize,
     k: u32,
 ) -> bool
     requires { ⌜ Indexed (tableOf (now table)) (now index) ⌝ }
     requires { ⌜ marksOf (now marks) ≡ flow (tableOf (now table)) ⌝ }
     requires { ⌜ n ≡ standsAt (thread (stateOf (now state)) t) ⌝ }
-    requires { ⌜ d ≡ definitionOf (tableOf (now table)) n ⌝ }
+    requires { ⌜ from ≡ typesOf (tableOf (now table)) (thread (stateOf (now state)) t) ⌝ }
+    requires { ⌜ from ≤ 12713792 ⌝ }
+    requires { ⌜ k < ownRoom (tableOf (now table)) (thread (stateOf (now state)) t) ⌝ }
     ensures { λ r. ⌜ r ≡ slotSound (tableOf (now (table .entry))) (stateOf (now (state .entry))) (thread (stateOf (now (state .entry))) t) k ⌝ }
 {
-    let v = program::slot(state, t, k);
-    if k < table::slot_count_of(table, index, d) {
-        let ty = table::slot_type(table, index, d, k);
-        if ty == 0 {
-            return true;
-        }
-        if v == state::MINUS_ONE {
-            return flow::is_marked(marks, n as usize, k);
-        }
-        if v < state::CHANNELS {
-            return state::channel_word(state, v as usize, state::TYPE) == ty;
-        }
-        return false;
+    let ty = table::cell_of(table, index, from + k as usize, field::TYPE);
+    if ty == 0 {
+        return true;
     }
-    v == 0
+    let v = program::slot(state, t, k);
+    if v < state::CHANNELS {
+        return state::channel_word(state, v as usize, state::TYPE) == ty;
+    }
+    if v == state::MINUS_ONE {
+        return flow::is_marked(marks, n as usize, k);
+    }
+    false
 }
 
-// Whether each slot of thread t, which is in use and stands at node n of definition d, is 0 if it is spare, typed, and filled if it must be.
-fn slots_sound(
+// The slots of thread t, of which there are `count`, are put to their tests, and the thread is counted at the channels in them. Answers whether all pass; the counts
+// are true whether they do or not.
+fn pass_slots(
     table: &[u8],
     index: &[u32],
     marks: &[u32],
     state: &[u32; state::WORDS],
     t: u32,
     n: u32,
-    d: u32,
+    from: usize,
+    count: u32,
+    seen: &mut [u8; recount::CHANNELS],
+    held: &mut [u8; recount::CHANNELS],
+    waiting: &mut [u8; recount::CHANNELS],
 ) -> bool
     requires { ⌜ Indexed (tableOf (now table)) (now index) ⌝ }
     requires { ⌜ marksOf (now marks) ≡ flow (tableOf (now table)) ⌝ }
+    requires { ⌜ t < maxThreads ⌝ }
     requires { ⌜ n ≡ standsAt (thread (stateOf (now state)) t) ⌝ }
-    requires { ⌜ d ≡ definitionOf (tableOf (now table)) n ⌝ }
-    ensures { λ r. ⌜ r ≡ every (slotSound (tableOf (now (table .entry))) (stateOf (now (state .entry))) (thread (stateOf (now (state .entry))) t)) rowSlots ⌝ }
+    requires { ⌜ from ≡ typesOf (tableOf (now table)) (thread (stateOf (now state)) t) ⌝ }
+    requires { ⌜ from ≤ 12713792 ⌝ }
+    requires { ⌜ count ≡ ownRoom (tableOf (now table)) (thread (stateOf (now state)) t) ⌝ }
+    requires { ⌜ Fresh t (now seen) ⌝ }
+    requires { ⌜ length (now held) ≡ maxChannels ⌝ }
+    requires { ⌜ length (now waiting) ≡ maxChannels ⌝ }
+    ensures { λ r. ⌜ r ≡ every (slotSound (tableOf (now (table .entry))) (stateOf (now (state .entry))) (thread (stateOf (now (state .entry))) t)) count ⌝ }
+    ensures { λ _. ⌜ now (held .exit) ≡ rowAdded (tableOf (now (table .entry))) (thread (stateOf (now (state .entry))) t) 1 (now (held .entry)) ⌝ }
+    ensures { λ _. ⌜ now (waiting .exit) ≡ rowAdded (tableOf (now (table .entry))) (thread (stateOf (now (state .entry))) t) (bit (isWaiting (thread (stateOf (now (state .entry))) t))) (now (waiting .entry)) ⌝ }
+    ensures { λ _. ⌜ Fresh (t + 1) (now (seen .exit)) ⌝ }
 {
-    for k in 0..state::SLOTS {
-        if !slot_sound(table, index, marks, state, t, n, d, k) {
-            return false;
-        }
+    let w = holding::weight(state, t);
+    let mut passed = true;
+    for k in 0..count {
+        passed = passed & slot_sound(table, index, marks, state, t, n, from, k);
+        recount::count_slot(table, index, state, t, from, k, w, seen, held, waiting);
     }
-    true
+    passed
 }
 
-// Whether all of thread t's row is 0.
+// What stands in slot k of thread t, which has `count` slots of its own, if it is a spare one; 0 of its own.
+fn spare_at(state: &[u32; state::WORDS], t: u32, count: u32, k: u32) -> u32
+    ensures { λ r. ⌜ r ≡ spareOf (thread (stateOf (now (state .entry))) t) count k ⌝ }
+{
+    if k < count {
+        return 0;
+    }
+    program::slot(state, t, k)
+}
+
+// Whether the spare slots of thread t, which has `count` of its own, are 0: so is then every bit that one of them has. (All are joined, with no way out of the loop:
+// that takes four at a time.)
+fn spare_zero(state: &[u32; state::WORDS], t: u32, count: u32) -> bool
+    ensures { λ r. ⌜ r ≡ every (spareZeroAt (thread (stateOf (now (state .entry))) t) count) rowSlots ⌝ }
+{
+    let mut all: u32 = 0;
+    for k in 0..state::SLOTS {
+        all = all | spare_at(state, t, count, k);
+    }
+    all == 0
+}
+
+// Whether all of thread t's row is 0, told in the same way.
 fn row_is_zero(state: &[u32; state::WORDS], t: u32) -> bool
     ensures { λ r. ⌜ r ≡ every (wordZero (thread (stateOf (now (state .entry))) t)) threadWords ⌝ }
 {
+    let mut all: u32 = 0;
     for k in 0..state::THREAD_WORDS {
-        if state::thread_word(state, t as usize, k) != 0 {
-            return false;
-        }
+        all = all | state::thread_word(state, t as usize, k);
     }
-    true
+    all == 0
 }
 
-// Whether thread t's row passes all its tests.
-fn row_sound(
+// Whether the status and the node of a thread are in range.
+fn in_range(table: &[u8], index: &[u32], status: u32, n: u32) -> bool
+    requires { ⌜ Indexed (tableOf (now table)) (now index) ⌝ }
+    ensures { λ r. ⌜ r ≡ (leb status waitingStatus && ltb n (nodes (tableOf (now (table .entry))))) ⌝ }
+{
+    if state::WAITING < status {
+        return false;
+    }
+    n < table::cell_of(table, index, 0, field::NODES)
+}
+
+// Thread t's row is put to all its tests, and is counted at the channels that it holds. Answers whether it passes.
+fn pass_row(
     table: &[u8],
     index: &[u32],
     marks: &[u32],
     state: &[u32; state::WORDS],
     t: u32,
+    seen: &mut [u8; recount::CHANNELS],
+    held: &mut [u8; recount::CHANNELS],
+    waiting: &mut [u8; recount::CHANNELS],
 ) -> bool
     requires { ⌜ Indexed (tableOf (now table)) (now index) ⌝ }
     requires { ⌜ marksOf (now marks) ≡ flow (tableOf (now table)) ⌝ }
+    requires { ⌜ t < maxThreads ⌝ }
+    requires { ⌜ Fresh t (now seen) ⌝ }
+    requires { ⌜ length (now held) ≡ maxChannels ⌝ }
+    requires { ⌜ length (now waiting) ≡ maxChannels ⌝ }
     ensures { λ r. ⌜ r ≡ rowSound (tableOf (now (table .entry))) (stateOf (now (state .entry))) (thread (stateOf (now (state .entry))) t) ⌝ }
+    ensures { λ _. ⌜ now (held .exit) ≡ rowAdded (tableOf (now (table .entry))) (thread (stateOf (now (state .entry))) t) 1 (now (held .entry)) ⌝ }
+    ensures { λ _. ⌜ now (waiting .exit) ≡ rowAdded (tableOf (now (table .entry))) (thread (stateOf (now (state .entry))) t) (bit (isWaiting (thread (stateOf (now (state .entry))) t))) (now (waiting .entry)) ⌝ }
+    ensures { λ _. ⌜ Fresh (t + 1) (now (seen .exit)) ⌝ }
 {
     let status = state::thread_word(state, t as usize, state::STATUS);
     if status == state::FREE {
         return row_is_zero(state, t);
     }
-    if state::WAITING < status {
-        return false;
-    }
     let n = state::thread_word(state, t as usize, state::NODE);
-    if n < table::cell_of(table, index, 0, field::NODES) {
-        return slots_sound(
-            table,
-            index,
-            marks,
-            state,
-            t,
-            n,
-            program::definition_of(table, index, n),
-        );
-    }
-    false
+    let slots = holding::slots_of(table, index, state, t);
+    let count = slots.count;
+    let typed = pass_slots(
+        table,
+        index,
+        marks,
+        state,
+        t,
+        n,
+        slots.from,
+        count,
+        seen,
+        held,
+        waiting,
+    );
+    typed & spare_zero(state, t, count) & in_range(table, index, status, n)
 }
 
-// Whether every thread row passes all its tests.
-fn threads_sound(table: &[u8], index: &[u32], state: &[u32; state::WORDS]) -> bool
+// One pass over the thread rows: each is put to its tests, and is counted at the channels that it holds. Answers whether all pass. Nothing ends the pass early, so
+// that the counts, which come as zeros, are true whether the rows pass or not.
+fn pass_rows(
+    table: &[u8],
+    index: &[u32],
+    marks: &[u32],
+    state: &[u32; state::WORDS],
+    held: &mut [u8; recount::CHANNELS],
+    waiting: &mut [u8; recount::CHANNELS],
+) -> bool
     requires { ⌜ Indexed (tableOf (now table)) (now index) ⌝ }
+    requires { ⌜ marksOf (now marks) ≡ flow (tableOf (now table)) ⌝ }
+    requires { ⌜ now held ≡ replicate maxChannels 0 ⌝ }
+    requires { ⌜ now waiting ≡ replicate maxChannels 0 ⌝ }
     ensures { λ r. ⌜ r ≡ rowsSound (tableOf (now (table .entry))) (stateOf (now (state .entry))) ⌝ }
+    ensures { λ _. ⌜ now (held .exit) ≡ tabulate maxChannels (holders (tableOf (now (table .entry))) (stateOf (now (state .entry)) .threads)) ⌝ }
+    ensures { λ _. ⌜ now (waiting .exit) ≡ tabulate maxChannels (waiters (tableOf (now (table .entry))) (stateOf (now (state .entry)) .threads)) ⌝ }
 {
-    let mut marks = [0u32; table::MAX_NODES as usize];
-    flow::mark_flow(table, index, &mut marks);
+    let mut seen = [0u8; recount::CHANNELS];
+    let mut passed = true;
     for t in 0..state::THREADS {
-        if !row_sound(table, index, &marks, state, t) {
-            return false;
-        }
+        passed = passed & pass_row(table, index, marks, state, t, &mut seen, held, waiting);
     }
-    true
+    passed
 }
 
 // The count that channel c ought to have: its holders, and the bench if it is a port.
-fn count_due(table: &[u8], state: &[u32; state::WORDS], held: &[u8], c: u32) -> u32
+fn count_due(
+    table: &[u8],
+    state: &[u32; state::WORDS],
+    held: &[u8; recount::CHANNELS],
+    c: u32,
+) -> u32
     requires { ⌜ now held ≡ tabulate maxChannels (holders (tableOf (now table)) (stateOf (now state) .threads)) ⌝ }
     requires { ⌜ c < maxChannels ⌝ }
     ensures { λ r. ⌜ r ≡ countOf (tableOf (now (table .entry))) (stateOf (now (state .entry)) .threads) c ⌝ }
@@ -165,8 +244,8 @@ fn count_due(table: &[u8], state: &[u32; state::WORDS], held: &[u8], c: u32) -> 
 fn channel_sound(
     table: &[u8],
     state: &[u32; state::WORDS],
-    held: &[u8],
-    waiting: &[u8],
+    held: &[u8; recount::CHANNELS],
+    waiting: &[u8; recount::CHANNELS],
     c: u32,
 ) -> bool
     requires { ⌜ now held ≡ tabulate maxChannels (holders (tableOf (now table)) (stateOf (now state) .threads)) ⌝ }
@@ -189,16 +268,19 @@ fn channel_sound(
     0 < count
 }
 
-// Whether the counts of all channels are true.
-fn counts_sound(table: &[u8], index: &[u32], state: &[u32; state::WORDS]) -> bool
-    requires { ⌜ Indexed (tableOf (now table)) (now index) ⌝ }
+// Whether the counts of all channels are true, given the numbers of their holders and of the waiting ones.
+fn counts_sound(
+    table: &[u8],
+    state: &[u32; state::WORDS],
+    held: &[u8; recount::CHANNELS],
+    waiting: &[u8; recount::CHANNELS],
+) -> bool
+    requires { ⌜ now held ≡ tabulate maxChannels (holders (tableOf (now table)) (stateOf (now state) .threads)) ⌝ }
+    requires { ⌜ now waiting ≡ tabulate maxChannels (waiters (tableOf (now table)) (stateOf (now state) .threads)) ⌝ }
     ensures { λ r. ⌜ r ≡ every (countTrue (tableOf (now (table .entry))) (stateOf (now (state .entry)))) maxChannels ⌝ }
 {
-    let mut held = [0u8; state::CHANNELS as usize];
-    let mut waiting = [0u8; state::CHANNELS as usize];
-    recount::tally(table, index, state, &mut held, &mut waiting);
     for c in 0..state::CHANNELS {
-        if !channel_sound(table, state, &held, &waiting, c) {
+        if !channel_sound(table, state, held, waiting, c) {
             return false;
         }
     }
@@ -218,18 +300,21 @@ fn ports_sound(table: &[u8], state: &[u32; state::WORDS]) -> bool
     true
 }
 
-// Whether a state is sound for a table: ground 10.
-pub fn is_sound(table: &[u8], index: &[u32], state: &[u32; state::WORDS]) -> bool
+// Whether a state is sound for a table, whose flow has these marks: ground 10.
+pub fn is_sound(table: &[u8], index: &[u32], marks: &[u32], state: &[u32; state::WORDS]) -> bool
     requires { ⌜ Indexed (tableOf (now table)) (now index) ⌝ }
+    requires { ⌜ marksOf (now marks) ≡ flow (tableOf (now table)) ⌝ }
     ensures { λ r. ⌜ r ≡ sound (tableOf (now (table .entry))) (stateOf (now (state .entry))) ⌝ }
 {
     if !marks_in_range(state) {
         return false;
     }
-    if !threads_sound(table, index, state) {
+    let mut held = [0u8; recount::CHANNELS];
+    let mut waiting = [0u8; recount::CHANNELS];
+    if !pass_rows(table, index, marks, state, &mut held, &mut waiting) {
         return false;
     }
-    if !counts_sound(table, index, state) {
+    if !counts_sound(table, state, &held, &waiting) {
         return false;
     }
     if !ports_sound(table, state) {

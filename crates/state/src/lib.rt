@@ -146,6 +146,10 @@ pub fn write(state: &[u32; WORDS], buffer: &mut [u8])
 {
     // A slice knows its length, which an array behind a reference does not tell.
     let words: &[u32] = state;
+    // The length is asked once more for the compiler, which then writes sixteen bytes at a time.
+    if buffer.len() != BYTES {
+        return;
+    }
     for i in 0..WORDS {
         numbers::put_word(buffer, i, words[i]);
     }

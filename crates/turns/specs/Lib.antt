@@ -4,3 +4,4 @@ pub mod Keeping
 pub mod Made
 pub mod Running
 pub mod TopRaised
+pub mod Weights

@@ -15,6 +15,7 @@ ghost use Rattle.rules_laws.specs.Granted.{Granted};
 ghost use Rattle.rules_laws.specs.Soundness.{Sound};
 ghost use Rattle.turns.specs.Counted.{Counted, weighed};
 ghost use Rattle.turns.specs.Running.{Running, MoveMade, TurnTaken};
+ghost use Rattle.turns.specs.Weights.{numberBy, weighedAfter};
 ghost use Rattle.program.specs.Assigning.{Carries};
 ghost use Rattle.next_rows.specs.UsedBelow.{UsedBelow};
 ghost use Rattle.turns.specs.Made.{ChildIn};
@@ -117,6 +118,16 @@ fn make_child(table: &[u8], index: &[u32], state: &mut [u32; state::WORDS], t: u
     );
 }
 
+// Whether a number is given at a meeting by branch i of a node.
+fn gives_number(table: &[u8], index: &[u32], node: u32, i: u32) -> bool
+    requires { ⌜ Indexed (tableOf (now table)) (now index) ⌝ }
+    ensures { λ r. ⌜ r ≡ numberBy (tableOf (now (table .entry))) node i ⌝ }
+{
+    let row = program::branch_at(table, index, node, i);
+    let value = table::cell_of(table, index, row, field::B);
+    program::type_at(table, index, node, value) == 0
+}
+
 // Threads t and u meet by their branches i and j. Where a number is given, both hold what they held, and no count of holders changes.
 fn make_meeting(
     table: &[u8],
@@ -132,10 +143,7 @@ fn make_meeting(
     requires { ⌜ CanMeet (tableOf (now table)) (stateOf (now state)) t i u j ⌝ }
     ensures { λ _. ⌜ MoveMade (tableOf (now (table .entry))) (stateOf (now (state .entry))) t (Meets i u j) (stateOf (now (state .exit))) ⌝ }
 {
-    let node = thread_rows::stands_at(state, t);
-    let row = program::branch_at(table, index, node, i);
-    let value = table::cell_of(table, index, row, field::B);
-    if program::type_at(table, index, node, value) == 0 {
+    if gives_number(table, index, thread_rows::stands_at(state, t), i) {
         meetings::write_directed(table, index, state, t, i, u, j);
         return;
     }
@@ -187,7 +195,7 @@ fn make_move(
     }
 }
 
-// Thread u, which the bench meets through its branch j at a port and which is given v, goes on. A port carries numbers, so that u holds what it held.
+// Thread u, which the bench meets through its branch j at a port and which is given v, goes on. A port carries numbers, so that u holds what it held; it no longer waits.
 pub fn make_met(
     table: &[u8],
     index: &[u32],
@@ -204,7 +212,7 @@ pub fn make_met(
     ensures { λ _. ⌜ stateOf (now (state .exit)) ≡ metByBench (tableOf (now (table .entry))) (stateOf (now (state .entry))) u j v ⌝ }
 {
     meetings::write_met(table, index, state, u, j, v);
-    settle_waiting(table, index, state);
+    upkeep::shift_waiting(table, index, state, u, state::MINUS_ONE);
 }
 
 // What a step from a node is answered with, by its move.
@@ -326,4 +334,34 @@ pub fn settle_waiting(table: &[u8], index: &[u32], state: &mut [u32; state::WORD
     let mut waiting = [0u8; CHANNELS];
     recount::tally(table, index, state, &mut held, &mut waiting);
     put_waiting(state, &waiting);
+}
+
+// The counts of waiting holders are settled after one step in a settled state, by which thread t, which stood at the node, made move m: where t has begun to
+// wait, and where its partner at a meeting by which a number is given no longer does. After every other move they are right.
+pub fn settle_step(
+    table: &[u8],
+    index: &[u32],
+    state: &mut [u32; state::WORDS],
+    t: u32,
+    node: u32,
+    m: Move,
+)
+    requires { ⌜ Indexed (tableOf (now table)) (now index) ⌝ }
+    ensures { λ _. ⌜ stateOf (now (state .exit)) ≡ weighedAfter (tableOf (now (table .entry))) node t m (stateOf (now (state .entry))) ⌝ }
+{
+    match m {
+        Move::Ends => {}
+        Move::Calls => {}
+        Move::Waits => upkeep::shift_waiting(table, index, state, t, 1),
+        Move::Goes(_) => {}
+        Move::Creates(_, _) => {}
+        Move::Spawns(_, _) => {}
+        Move::Meets(i, partner, _) => {
+            if gives_number(table, index, node, i) {
+                upkeep::shift_waiting(table, index, state, partner, state::MINUS_ONE);
+            }
+        }
+        Move::LacksThread => {}
+        Move::LacksChannel => {}
+    }
 }

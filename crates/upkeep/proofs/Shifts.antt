@@ -15,7 +15,7 @@ use Rattle.state.specs.State.{State, stateOf, stateWords, minusOne, thread, cha
 use Rattle.state.specs.State.Laws.{length-channels, length-channel, three-stored}
 use Rattle.rules.specs.Holding.{channelRow}
 use Rattle.holding.specs.Own.{ownList, ownRoom}
-use Rattle.upkeep.specs.Shift.{rowCounted, shiftRow, shiftTo, channelShifted, shiftedTo, rowEntered, rowLeft, settledOne, settledTwo, settledNew}
+use Rattle.upkeep.specs.Shift.{rowCounted, shiftRow, shiftTo, channelShifted, shiftedTo, rowEntered, rowLeft, rowWeighed, settledOne, settledTwo, settledNew}
 
 -- put_counts: two stores make a row of one that has its type
 two : (r : List ℕ) (n w : ℕ) → length r ≡ 3 → set (set r 1 n) 2 w ≡ getD r 0 0 ∷ n ∷ w ∷ []
@@ -71,12 +71,15 @@ module _ (s : State) (l : List ℕ) (dn dw : ℕ) where
     pub shifts-all : (n : ℕ) → k ≤ n → n ≤ k → s₁ ≡ shiftedTo s l dn dw n
     shifts-all n h i = let q : k ≡ n = omega arith in rw q at e
 
--- enter
-pub enter-is : (tb : Table) (s s₂ : State) (t w n : ℕ) (l : List ℕ) → s₂ ≡ shiftedTo s l 1 w n → l ≡ ownList tb (thread s t)
-    → n ≡ ownRoom tb (thread s t) → w ≡ bit (isWaiting (thread s t))
-    → s₂ ≡ rowEntered tb s t
-unfolding rowEntered
-enter-is tb s s₂ t w n l f e g h = rw (f, e, g, h)
+-- enter, shift_waiting: l and n are the row's own channels and how many they are
+module _ (tb : Table) (s s₂ : State) (t w n : ℕ) (l : List ℕ) where
+  pub enter-is : s₂ ≡ shiftedTo s l 1 w n → l ≡ ownList tb (thread s t) → n ≡ ownRoom tb (thread s t) → w ≡ bit (isWaiting (thread s t)) → s₂ ≡ rowEntered tb s t
+  unfolding rowEntered
+  enter-is f e g h = rw (f, e, g, h)
+
+  pub weigh-is : s₂ ≡ shiftedTo s l 0 w n → l ≡ ownList tb (thread s t) → n ≡ ownRoom tb (thread s t) → s₂ ≡ rowWeighed tb s t w
+  unfolding rowWeighed
+  weigh-is f e g = rw (f, e, g)
 
 -- leave
 pub leave-is : (s s₂ : State) (w d : ℕ) (l : List ℕ) → s₂ ≡ shiftedTo s l minusOne d rowSlots → d ≡ difference 0 w → s₂ ≡ rowLeft s l w

@@ -40,6 +40,10 @@ module _ (tb : Table) (s : State) (t : ℕ) where
   unfoldable pub rowEntered : State
   rowEntered = shiftedTo s (ownList tb (thread s t)) 1 (bit (isWaiting (thread s t))) (ownRoom tb (thread s t))
 
+  -- thread t's row holds what it held, and adds dw more to the counts of waiting holders of its channels
+  unfoldable pub rowWeighed : ℕ → State
+  rowWeighed dw = shiftedTo s (ownList tb (thread s t)) 0 dw (ownRoom tb (thread s t))
+
   -- thread t's row was written: the new row is entered, then the old one, which held the channels of l with w, is left
   unfoldable pub settledOne : List ℕ → ℕ → State
   settledOne l w = rowLeft rowEntered l w

@@ -15,13 +15,14 @@ use Rattle.numbers.specs.Count.Laws.{bit-le, bit-and-le, count-le, replaced}
 use Rattle.numbers.specs.Rows.{at, put}
 use Rattle.numbers.specs.Search.{tabulate}
 use Rattle.numbers.specs.Search.Laws.{caseB, getD-tabulate, length-tabulate, tabulate-cong, is-tabulate}
+use Rattle.numbers.specs.Signed.{sum}
 use Rattle.table.specs.Table.{Table, ports}
 use Rattle.state.specs.State.{State, thread, isWaiting, typeIn, withMark, withThread, withChannel, withChannels, maxChannels, maxThreads}
 use Rattle.rules.specs.Holding.{holds, holders, waiters, countOf, channelRow, recount, settled}
 use Rattle.rules.specs.Moves.{typed}
 use Rattle.holding.specs.Own.{ownList}
-use Rattle.upkeep.specs.Shift.{shiftRow, channelShifted, shiftedTo, rowEntered, rowLeft, settledOne, settledTwo, settledNew}
-use Rattle.upkeep.specs.Shift.Laws.{Raw, Settled, Low, entering, leaving, enter-law, settle, freed-law, leave-law}
+use Rattle.upkeep.specs.Shift.{shiftRow, channelShifted, shiftedTo, rowEntered, rowLeft, rowWeighed, settledOne, settledTwo, settledNew}
+use Rattle.upkeep.specs.Shift.Laws.{Raw, Settled, Low, entering, leaving, weighing, enter-law, settle, freed-law, weigh-law, leave-law}
 
 -- ---- counts
 
@@ -41,13 +42,22 @@ module _ (tb : Table) (ths : List (List ℕ)) where
 
   -- one row is replaced
   module _ (t : ℕ) (h : t < length ths) (row : List ℕ) (c : ℕ) where
-    pub counts-move : countOf tb (set ths t row) c + bit (holds tb (getD ths t []) c) ≡ countOf tb ths c + bit (holds tb row c)
+    counts-move : countOf tb (set ths t row) c + bit (holds tb (getD ths t []) c) ≡ countOf tb ths c + bit (holds tb row c)
     unfolding countOf holders
     counts-move = omega (arith, replaced (λ r. holds tb r c) ths t row [] h)
 
     waiters-move : waiters tb (set ths t row) c + bit (isWaiting (getD ths t []) && holds tb (getD ths t []) c) ≡ waiters tb ths c + bit (isWaiting row && holds tb row c)
     unfolding waiters
     waiters-move = replaced (λ r. isWaiting r && holds tb r c) ths t row [] h
+
+    -- by one that holds what it held
+    module _ (same : holds tb row c ≡ holds tb (getD ths t []) c) where
+      pub count-stays : countOf tb (set ths t row) c ≡ countOf tb ths c
+      count-stays = omega (arith, rw same at counts-move)
+
+      -- and waits where it waited
+      waiters-stay : isWaiting row ≡ isWaiting (getD ths t []) → waiters tb (set ths t row) c ≡ waiters tb ths c
+      waiters-stay still = omega (arith, rw (same, still) at waiters-move)
 
   settled-rows : (chs : List (List ℕ)) (ty : ℕ → ℕ) → Settled chs ty (countOf tb ths) (waiters tb ths) → chs ≡ recount tb ths ty
   unfolding recount
@@ -142,6 +152,23 @@ module _ (tb : Table) (ths : List (List ℕ)) (long : length ths ≡ maxThreads)
       (low-entered tb ths long row)
       (λ c l n z. (rw (there c n) (free-start tb ths chs e c l (omega arith)), omega (arith, z, waiting-le tb ths row c))))
 
+  -- where the new row holds what the old one held
+  module _ (same : (c : ℕ) → holds tb row c ≡ holds tb (getD ths t []) c) where
+    kept-rows : isWaiting row ≡ isWaiting (getD ths t []) → recount tb (set ths t row) (λ c. at chs c 0) ≡ chs
+    unfolding recount
+    kept-rows still =
+        tabulate-cong 128 (λ c. channelRow (at chs c 0) (countOf tb (set ths t row) c) (waiters tb (set ths t row) c)) (λ c. channelRow (at chs c 0) (countOf tb ths c) (waiters tb ths c))
+        (λ c l. rw (count-stays tb ths t (omega arith) row c (same c), waiters-stay tb ths t (omega arith) row c (same c) still))
+        ∙ sym e
+
+    weighed-rows : (dw : ℕ) → sum (bit (isWaiting (getD ths t []))) dw ≡ bit (isWaiting row) → weighing tb row dw chs ≡ recount tb (set ths t row) (λ c. at chs c 0)
+    weighed-rows dw more =
+        settled-rows tb (set ths t row) (weighing tb row dw chs) (λ c. at chs c 0)
+        (weigh-law chs (λ c. at chs c 0) (countOf tb ths) (waiters tb ths) tb row dw (isWaiting (getD ths t [])) (countOf tb (set ths t row)) (waiters tb (set ths t row)) more
+        (raw-start tb ths chs e) (low-start tb ths long)
+        (λ c l z. (free-start tb ths chs e c l z, omega (arith, z, waiters-le tb ths c)))
+        (λ c l. (count-stays tb ths t (omega arith) row c (same c), rw (← same c) at (waiters-move tb ths t (omega arith) row c))))
+
   two-moved : (u : ℕ) → u < maxThreads → u ≢ t → (other : List ℕ)
       → leaving tb (getD ths u []) (leaving tb (getD ths t []) (entering tb other (entering tb row chs))) ≡ recount tb (set (set ths t row) u other) (λ c. at chs c 0)
   two-moved u i d other =
@@ -214,6 +241,16 @@ module _ (tb : Table) (s : State) (long : length (s .threads) ≡ maxThreads) (e
         rw written
         (ap (withChannels (withThread s t row))
         (one-moved tb (s .threads) long (s .channels) counted t h row))
+
+    -- a row that holds what it held: where it waits as it did the channel rows stay, and else the counts of waiting holders of its channels go up by dw
+    module _ (same : (c : ℕ) → holds tb row c ≡ holds tb (thread s t) c) where
+      pub row-kept : isWaiting row ≡ isWaiting (thread s t) → settled tb (withThread s t row) ≡ withThread s t row
+      unfolding withThread withChannels settled
+      row-kept still = ap (withChannels (withThread s t row)) (kept-rows tb (s .threads) long (s .channels) counted t h row same still)
+
+      pub row-weighed : (dw : ℕ) → sum (bit (isWaiting (thread s t))) dw ≡ bit (isWaiting row) → settled tb (withThread s t row) ≡ rowWeighed tb (withThread s t row) t dw
+      unfolding rowWeighed shiftedTo withThread withChannels settled
+      row-weighed dw more = rw written (ap (withChannels (withThread s t row)) (sym (weighed-rows tb (s .threads) long (s .channels) counted t h row same dw more)))
 
     pub new-settled : (c ty : ℕ) → c < maxChannels
         → settledNew tb (typed (withThread s t row) c ty) t c (ownList tb (thread s t)) (bit (isWaiting (thread s t))) ≡ settled tb (typed (withThread s t row) c ty)

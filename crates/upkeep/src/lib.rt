@@ -7,7 +7,7 @@ ghost use Rattle.table.specs.Table.{tableOf};
 ghost use Rattle.table.specs.Index.{Indexed};
 ghost use Rattle.state.specs.State.{rowSlots, maxChannels, stateOf, thread, isWaiting};
 ghost use Rattle.holding.specs.Own.{ownList};
-ghost use Rattle.upkeep.specs.Shift.{rowCounted, channelShifted, shiftedTo, rowEntered, rowLeft, settledOne, settledTwo, settledNew};
+ghost use Rattle.upkeep.specs.Shift.{rowCounted, channelShifted, shiftedTo, rowEntered, rowLeft, rowWeighed, settledOne, settledTwo, settledNew};
 
 const CHANNELS: usize = state::CHANNELS as usize;
 
@@ -152,4 +152,14 @@ pub fn settle_new(
     enter(table, index, state, t);
     shift(state, c as usize, 0, 0);
     leave(state, old, waited);
+}
+
+// Thread t holds what it held, and has begun to wait or ceased to: the counts of waiting holders of its channels go up by dw, around the end.
+pub fn shift_waiting(table: &[u8], index: &[u32], state: &mut [u32; state::WORDS], t: u32, dw: u32)
+    requires { ⌜ Indexed (tableOf (now table)) (now index) ⌝ }
+    ensures { λ _. ⌜ stateOf (now (state .exit)) ≡ rowWeighed (tableOf (now (table .entry))) (stateOf (now (state .entry))) t dw ⌝ }
+{
+    let mut list = [0u8; holding::LIST];
+    let n = holding::own_channels(table, index, state, t, &mut list);
+    shift_listed(state, &list, n, 0, dw);
 }

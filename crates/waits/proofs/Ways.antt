@@ -3,30 +3,34 @@ use Prim.Native.Nat.{ℕ, suc, _+_, _≤_, _<_}
 use native.Mathlib.Omega.{arith}
 use native.Mathlib.Numerals.{add-one}
 use mathlib.Core.Path.{_≡_, refl, sym, _∙_}
-use mathlib.Core.Bool.{Bool, true, false, not, _||_, cond}
-use mathlib.Core.List.{List}
+use mathlib.Core.Logic.{inl, inr}
+use mathlib.Core.Bool.{Bool, true, false, not, _&&_}
+use mathlib.Core.List.{List, [], _∷_}
+use types.Run.{OneOf}
+use denote.Enum.Declared.{tagOf}
 use lib.Dec.{eqb}
 use lib.ListN.{length, getD, set, replicate}
 use lib.Seq.{set-out}
 use borrow.Author.Tests.{eq-eqb, ne-eqb}
 use Rattle.numbers.specs.Search.{every, tabulate}
-use Rattle.numbers.specs.Search.Laws.{getD-tabulate, every-all, every-not, every-cong}
+use Rattle.numbers.specs.Search.Laws.{getD-tabulate, every-all, every-not, every-cong, caseB, contra}
+use Rattle.numbers.specs.Tests.{and-true}
 use Rattle.numbers.specs.Rows.{at}
 use Rattle.table.specs.Fields as Field
-use Rattle.table.specs.Table.{Table, nodeRow}
-use Rattle.table.specs.Layout.{branchCount}
+use Rattle.table.specs.Table.{Table, nodeRow, branchRow}
+use Rattle.table.specs.Layout.{start, branchCount}
+use Rattle.table.specs.declared.Part.the-variants.{Branches}
 use Rattle.state.specs.State.{State, maxThreads, maxChannels, thread, status, standsAt, slotOf}
-use Rattle.rules.specs.Program.{branchAt, actOf, guardHolds, same}
+use Rattle.rules.specs.Program.{fitting, branchAt, actOf, printedGuard, guardHolds, same}
+use Rattle.rules.specs.Offers.{meets?, offersIn}
 use Rattle.rules.specs.Sound.{waitsRightly}
 use Rattle.rules.specs.declared.Direction.{Direction}
 use Rattle.rules.specs.declared.Direction.the-variants.{Out, In}
 use Rattle.rules.specs.declared.Act.{Act}
 use Rattle.rules.specs.declared.Act.the-variants.{Tau, Meeting, New, Spawn, Assignment}
-use Rattle.offers.specs.Offer.{offerOf, offerOn}
-use Rattle.offers.specs.Offer.Laws.{same-self, offer-own, offer-nothing, offer-of}
-use Rattle.offers.specs.declared.Offer.{Offer}
-use Rattle.offers.specs.declared.Offer.the-variants.{Nothing, Of}
-use Rattle.waits.specs.Waits.{noted, apart, allApart, needsPartner, heldBack, offerNoted, branchHeld, branchNoted, waitsAlone, who, whoTo}
+use Rattle.rules.proofs.Act.{the-type}
+use Rattle.offers.specs.Offer.Laws.{same-self}
+use Rattle.waits.specs.Waits.{noted, apart, allApart, needsPartner, heldBack, offerNoted, branchHeld, waitsAlone, who, whoTo}
 use Rattle.waits.specs.Waits.Laws.{waits-law}
 use Rattle.waits.specs.Waits.Pass.{branch-noted, no-branch-noted, branches-noted, none-noted, none-yet}
 
@@ -53,67 +57,87 @@ module _ (l : List ℕ) (c t : ℕ) where
   pub note-out : length l ≤ c → l ≡ set l c (noted (getD l c 0) t)
   note-out h = sym (set-out l c (noted (getD l c 0) t) h)
 
--- ---- note_branch: c is the channel that the branch names, in slot x, and v what it offers there
+-- ---- note_branch: the act of the branch in row r is a
 
--- what a branch with guard g and act a holds back, by its offer
-held-offering : (g : Bool) (a : Act) (o : Direction) → cond g (offerOf a) Nothing ≡ Of o → true ≡ (not g || needsPartner a)
-unfolding offerOf needsPartner
-held-offering false a o h = refl
-held-offering true Tau o h = cc
-held-offering true (Meeting d) o h = refl
-held-offering true New o h = cc
-held-offering true Spawn o h = cc
-held-offering true Assignment o h = cc
+-- an act whose tag, as `if let` read it, is not that of a meeting, 1
+no-partner : (a : Act) → OneOf (0 ∷ 2 ∷ 3 ∷ 4 ∷ []) (tagOf the-type a) → needsPartner a ≡ false
+unfolding needsPartner
+no-partner Tau h = refl
+no-partner (Meeting d) (inl h) = absurd (omega arith)
+no-partner (Meeting d) (inr (inl h)) = absurd (omega arith)
+no-partner (Meeting d) (inr (inr (inl h))) = absurd (omega arith)
+no-partner (Meeting d) (inr (inr (inr h))) = absurd (omega arith)
+no-partner New h = refl
+no-partner Spawn h = refl
+no-partner Assignment h = refl
 
-held-silent : (g : Bool) (a : Act) → cond g (offerOf a) Nothing ≡ Nothing → not g ≡ (not g || needsPartner a)
-unfolding offerOf needsPartner
-held-silent false a h = refl
-held-silent true Tau h = refl
-held-silent true (Meeting d) h = cc
-held-silent true New h = refl
-held-silent true Spawn h = refl
-held-silent true Assignment h = refl
+-- such an act offers nothing
+no-meeting : (a : Act) (d : Direction) → needsPartner a ≡ false → meets? a d ≡ false
+unfolding needsPartner meets?
+no-meeting Tau d h = refl
+no-meeting (Meeting e) d h = contra refl h
+no-meeting New d h = refl
+no-meeting Spawn d h = refl
+no-meeting Assignment d h = refl
 
-module _ (tb : Table) (s : State) (t i n r x c : ℕ) (p : n ≡ standsAt (thread s t)) (q : r ≡ branchAt tb n i) (e : c ≡ slotOf (thread s t) x) (f : x ≡ at tb r Field.a)
-    (v : Offer) (g : v ≡ offerOn tb (thread s t) c r) where
-  own-offer : v ≡ cond (guardHolds tb r (thread s t)) (offerOf (actOf tb r)) Nothing
-  own-offer = g ∙ rw (e, f) (offer-own tb (thread s t) r)
+module _ (tb : Table) (row : List ℕ) (r : ℕ) (a : Act) (e : a ≡ actOf tb r) where
+  -- a meeting of direction o: it assigns nothing, so that its guard is the file's, q
+  module _ (o : Direction) (f : a ≡ Meeting o) where
+    pub meeting-held : true ≡ heldBack tb row r
+    unfolding heldBack needsPartner
+    meeting-held = rw (← e, f) (caseB (guardHolds tb r row) (λ y. rw y) (λ n. rw n))
 
-  pub offering-held : (o : Direction) → v ≡ Of o → true ≡ branchHeld tb s t i
-  unfolding branchHeld heldBack
-  offering-held o h = rw (← p, ← q) (held-offering (guardHolds tb r (thread s t)) (actOf tb r) o (sym own-offer ∙ h))
+    module _ (q : Bool) (g : q ≡ printedGuard tb r row) where
+      meeting-offers : (d : Direction) → offersIn tb row d (slotOf row (at tb r Field.a)) r ≡ (same o d && q)
+      unfolding offersIn meets? guardHolds fitting
+      meeting-offers d = rw (← e, f, ← g, ← and-true q, eq-eqb (slotOf row (at tb r Field.a)) (slotOf row (at tb r Field.a)) refl)
 
-  pub silent-held : (b : Bool) → b ≡ guardHolds tb r (thread s t) → v ≡ Nothing → not b ≡ branchHeld tb s t i
-  unfolding branchHeld heldBack
-  silent-held b j h = rw (← p, ← q, j) (held-silent (guardHolds tb r (thread s t)) (actOf tb r) (sym own-offer ∙ h))
+      pub shut-noted : q ≡ false → (d : Direction) (t : ℕ) (l : List ℕ) → l ≡ offerNoted tb row d r t l
+      unfolding offerNoted
+      shut-noted h d t l = rw (meeting-offers d, h) (caseB (same o d) (λ y. rw y) (λ n. rw n))
 
-  pub silent-noted : (d : Direction) (l : List ℕ) → v ≡ Nothing → l ≡ branchNoted tb s d t i l
-  unfolding branchNoted offerNoted
-  silent-noted d l h = rw (← p, ← q, ← f, ← e, offer-nothing tb (thread s t) c r v g h d)
+      -- field a names slot x, which has c, and o is the direction k
+      module _ (h : q ≡ true) (x c : ℕ) (i : x ≡ at tb r Field.a) (j : c ≡ slotOf row x) (k : Direction) (p : o ≡ k) (t : ℕ) (l : List ℕ) where
+        pub open-noted : (m : List ℕ) → m ≡ set l c (noted (getD l c 0) t) → m ≡ offerNoted tb row k r t l
+        unfolding offerNoted
+        open-noted m y = rw (meeting-offers k, h, p, same-self k, ← i, ← j) y
 
-  -- it offers o, which is the direction k
-  module _ (o k : Direction) (h : v ≡ Of o) (j : o ≡ k) (l : List ℕ) where
-    pub offering-noted : (m : List ℕ) → m ≡ set l c (noted (getD l c 0) t) → m ≡ branchNoted tb s k t i l
-    unfolding branchNoted offerNoted
-    offering-noted m y = rw (← p, ← q, ← f, ← e, offer-of tb (thread s t) c r v g o k h, j, same-self k) y
+        pub other-noted : (d : Direction) → same k d ≡ false → l ≡ offerNoted tb row d r t l
+        unfolding offerNoted
+        other-noted d y = rw (meeting-offers d, h, p, y)
 
-    pub other-noted : (d : Direction) → same k d ≡ false → l ≡ branchNoted tb s d t i l
-    unfolding branchNoted offerNoted
-    other-noted d y = rw (← p, ← q, ← f, ← e, offer-of tb (thread s t) c r v g o d h, j, y)
+  -- no meeting
+  module _ (n : OneOf (0 ∷ 2 ∷ 3 ∷ 4 ∷ []) (tagOf the-type a)) where
+    pub alone-held : (b : Bool) → b ≡ guardHolds tb r row → not b ≡ heldBack tb row r
+    unfolding heldBack
+    alone-held b g = rw (← e, no-partner a n, ← g) (caseB b (λ y. rw y) (λ y. rw y))
 
-pub ruleset silent = (silent-held, silent-noted)
+    pub alone-noted : (d : Direction) (t : ℕ) (l : List ℕ) → l ≡ offerNoted tb row d r t l
+    unfolding offerNoted offersIn
+    alone-noted d t l = rw (← e, no-meeting a d (no-partner a n))
 
-pub ruleset offering = (offering-held, offering-noted, other-noted)
+pub ruleset meeting = (meeting-held, shut-noted, open-noted, other-noted)
 
--- ---- note_branches
+pub ruleset alone = (alone-held, alone-noted)
+
+-- ---- note_branches: the rows of its node's branches begin at b
+
+module _ (tb : Table) (s : State) (t i n b : ℕ) (p : n ≡ standsAt (thread s t)) (q : b ≡ branchRow tb + start tb Branches n) where
+  row-is : b + i ≡ branchAt tb (standsAt (thread s t)) i
+  unfolding branchAt
+  row-is = rw (← p) (omega arith)
+
+  pub row-held : (r : Bool) → r ≡ heldBack tb (thread s t) (b + i) → r ≡ branchHeld tb s t i
+  unfolding branchHeld
+  row-held r e = e ∙ rw row-is
+
+  pub branches-more : (d : Direction) (l m : List ℕ) → l ≡ tabulate maxChannels (whoTo tb s d t i) → m ≡ offerNoted tb (thread s t) d (b + i) t l
+      → m ≡ tabulate maxChannels (whoTo tb s d t (i + 1))
+  branches-more d l m e f = branch-noted tb s d t i l e m (f ∙ rw row-is)
 
 module _ (tb : Table) (s : State) (d : Direction) (t : ℕ) where
   pub branches-none : (l : List ℕ) → l ≡ tabulate maxChannels (who tb s d t) → l ≡ tabulate maxChannels (whoTo tb s d t 0)
   branches-none l e = e ∙ no-branch-noted tb s d t
-
-  pub branches-more : (i : ℕ) (l m : List ℕ) → l ≡ tabulate maxChannels (whoTo tb s d t i) → m ≡ branchNoted tb s d t i l
-      → m ≡ tabulate maxChannels (whoTo tb s d t (i + 1))
-  branches-more i l m e f = branch-noted tb s d t i l e m f
 
   pub branches-all : (i n k : ℕ) (l : List ℕ) → l ≡ tabulate maxChannels (whoTo tb s d t i) → i ≤ k → k ≤ i → k ≡ branchCount tb n → n ≡ standsAt (thread s t)
       → status (thread s t) ≡ 2 → l ≡ tabulate maxChannels (who tb s d (t + 1))

@@ -63,10 +63,6 @@ module _ (tb : Table) where
     unfoldable pub branchHeld : ℕ → ℕ → Bool
     branchHeld t i = heldBack (thread s t) (branchAt tb (standsAt (thread s t)) i)
 
-    -- the notes l of direction d, with what branch i of thread t offers
-    unfoldable pub branchNoted : Direction → ℕ → ℕ → List ℕ → List ℕ
-    branchNoted d t i l = offerNoted (thread s t) d (branchAt tb (standsAt (thread s t)) i) t l
-
     -- all branches of thread t hold it back
     abbrev pub allHeld : ℕ → Bool
     allHeld t = every (branchHeld t) (branchCount tb (standsAt (thread s t)))

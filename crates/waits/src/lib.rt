@@ -10,8 +10,8 @@ ghost use Rattle.table.specs.Index.{Indexed};
 ghost use Rattle.state.specs.State.{stateOf, maxThreads, maxChannels, thread, status, standsAt};
 ghost use Rattle.rules.specs.Sound.{waitsRightly};
 ghost use Rattle.rules.specs.declared.Direction.the-variants.{Out, In};
-ghost use Rattle.waits.specs.Waits.{noted, apart, allApart, branchHeld, branchNoted, allHeld, waitsAlone, notes};
-use offers::Offer;
+ghost use Rattle.waits.specs.Waits.{noted, apart, allApart, heldBack, offerNoted, allHeld, waitsAlone, notes};
+use rules::Act;
 use rules::Direction;
 use table::field;
 
@@ -46,36 +46,33 @@ fn note(notes: &mut [u8], c: u32, t: u32)
     }
 }
 
-// Branch i of thread t, which stands at node n: what it offers is noted. Answers whether it is held back, that is, could not go ahead alone.
+// The branch in a row, of thread t: what it offers is noted. Answers whether it is held back, that is, could not go ahead alone.
 fn note_branch(
     table: &[u8],
     index: &[u32],
+    row: usize,
     state: &[u32; state::WORDS],
     t: u32,
-    n: u32,
-    i: u32,
     senders: &mut [u8],
     receivers: &mut [u8],
 ) -> bool
     requires { ⌜ Indexed (tableOf (now table)) (now index) ⌝ }
     requires { ⌜ t < maxThreads ⌝ }
-    requires { ⌜ n ≡ standsAt (thread (stateOf (now state)) t) ⌝ }
-    ensures { λ r. ⌜ r ≡ branchHeld (tableOf (now (table .entry))) (stateOf (now (state .entry))) t i ⌝ }
-    ensures { λ _. ⌜ now (senders .exit) ≡ branchNoted (tableOf (now (table .entry))) (stateOf (now (state .entry))) Out t i (now (senders .entry)) ⌝ }
-    ensures { λ _. ⌜ now (receivers .exit) ≡ branchNoted (tableOf (now (table .entry))) (stateOf (now (state .entry))) In t i (now (receivers .entry)) ⌝ }
+    ensures { λ r. ⌜ r ≡ heldBack (tableOf (now (table .entry))) (thread (stateOf (now (state .entry))) t) row ⌝ }
+    ensures { λ _. ⌜ now (senders .exit) ≡ offerNoted (tableOf (now (table .entry))) (thread (stateOf (now (state .entry))) t) Out row t (now (senders .entry)) ⌝ }
+    ensures { λ _. ⌜ now (receivers .exit) ≡ offerNoted (tableOf (now (table .entry))) (thread (stateOf (now (state .entry))) t) In row t (now (receivers .entry)) ⌝ }
 {
-    let row = program::branch_at(table, index, n, i);
-    let c = program::slot(state, t, table::cell_of(table, index, row, field::A));
-    match offers::offer_on(table, index, row, state, t, c) {
-        Offer::Of(d) => {
+    if let Act::Meeting(d) = program::act_of(table, index, row) {
+        if program::printed_guard(table, index, row, state, t) {
+            let c = program::slot(state, t, table::cell_of(table, index, row, field::A));
             match d {
                 Direction::Out => note(senders, c, t),
                 Direction::In => note(receivers, c, t),
             }
-            true
         }
-        Offer::Nothing => !program::guard_holds(table, index, row, state, t),
+        return true;
     }
+    !program::guard_holds(table, index, row, state, t)
 }
 
 // What the branches of thread t, which waits at node n, offer is noted. Answers whether all are held back; where they are, the notes are whole.
@@ -99,8 +96,17 @@ fn note_branches(
     ensures { λ r. ⌜ (r ≡ true → now (receivers .exit) ≡ notes (tableOf (now (table .entry))) (stateOf (now (state .entry))) In (t + 1)) ⌝ }
 {
     let count = table::branch_count_of(table, index, n);
+    let from = offers::first_branch(table, index, table::node_row_of(table, index), n);
     for i in 0..count {
-        if !note_branch(table, index, state, t, n, i, senders, receivers) {
+        if !note_branch(
+            table,
+            index,
+            from + i as usize,
+            state,
+            t,
+            senders,
+            receivers,
+        ) {
             return false;
         }
     }

@@ -53,7 +53,8 @@ pub fn write(table: &[u8], file: &mut [u8]) -> Written
         return Written::WrongLength;
     }
     let mut index = [0u32; table::INDEX];
-    if !loader::accept(table, &mut index) {
+    let mut marks = [0u32; loader::MARKED];
+    if !loader::accept(table, &mut index, &mut marks) {
         return Written::WrongTable;
     }
     let n = table::line_total(table);

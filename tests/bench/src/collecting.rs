@@ -2,11 +2,11 @@
 
 use std::hint::black_box;
 
-use generate::standstills::{chain, clique, Foot};
-use generate::{table_of, File, Words, WAITING};
-use interface::{Collected, Engine, NONE_READY, STATE_BYTES, THREADS};
+use generate::standstills::Foot;
+use interface::{Collected, Engine, STATE_BYTES, THREADS};
 
 use crate::report::{heading, line, Unit};
+use crate::standing::{chained, mutual, Standing};
 use crate::timing::Times;
 
 /// Collections in one sample.
@@ -14,8 +14,7 @@ const CALLS: usize = 50;
 
 /// A table and a state, and how many threads a collection takes from it.
 struct Subject {
-    table: Vec<u8>,
-    state: Vec<u8>,
+    standing: Standing,
     taken: usize,
 }
 
@@ -23,24 +22,14 @@ struct Subject {
 pub fn report() {
     heading("one collection, 64 threads waiting", Unit::Microseconds);
     let subjects = [
-        ("in a chain, nobody taken", chain(64, Foot::Port), 0),
-        ("in a chain, all taken", chain(64, Foot::Lone), THREADS),
-        ("in a clique, nobody taken", clique(0), 0),
-        ("in a clique, all taken", clique(1), THREADS),
+        ("in a chain, nobody taken", chained(Foot::Port, 0), 0),
+        ("in a chain, all taken", chained(Foot::Lone, 0), THREADS),
+        ("in a clique, nobody taken", mutual(0, 0), 0),
+        ("in a clique, all taken", mutual(1, 0), THREADS),
     ];
-    for (name, file, taken) in subjects {
-        line(name, Unit::Microseconds, &times(&subject(&file, taken)));
+    for (name, standing, taken) in subjects {
+        line(name, Unit::Microseconds, &times(&Subject { standing, taken }));
     }
-}
-
-/// The state in which all threads of a file have come to wait.
-fn subject(file: &File, taken: usize) -> Subject {
-    let table = table_of(&file.rows);
-    let mut state = vec![0; STATE_BYTES];
-    assert_eq!(reference::start(&table, &mut state).refusal, 0);
-    assert_eq!(reference::run(&table, &mut state, u16::MAX).reason, NONE_READY);
-    assert_eq!(Words::new(&state).threads(WAITING).len(), THREADS);
-    Subject { table, state, taken }
 }
 
 fn times(subject: &Subject) -> Times {
@@ -57,8 +46,8 @@ fn times(subject: &Subject) -> Times {
 
 fn sample(engine: &Engine, subject: &Subject, state: &mut [u8]) {
     for _ in 0..CALLS {
-        state.copy_from_slice(&subject.state);
-        let collected = (engine.collect)(black_box(&subject.table), black_box(state));
+        state.copy_from_slice(&subject.standing.state);
+        let collected = (engine.collect)(black_box(&subject.standing.table), black_box(state));
         assert_eq!(collected, Collected { refusal: 0, threads: subject.taken as i32 });
     }
 }

@@ -1,22 +1,27 @@
 //! How fast the archive is beside the reference: both in turn, on the same files and states.
 //!
 //! `cargo run --release --offline -p bench`, from the folder tests, with the archive built. With the word
-//! `meetings` behind it prints only what `beside_go.sh` compares.
+//! `meetings` behind it prints only what `beside_go.sh` compares; with `calls` and some words more it makes the
+//! calls that `instructions.sh` counts, and prints nothing.
 
+mod calling;
 mod collecting;
 mod files;
 mod loading;
 mod profiling;
 mod report;
 mod running;
+mod standing;
 mod stepping;
 mod timing;
 mod writing;
 
 fn main() {
-    if std::env::args().nth(1).is_some_and(|word| word == "meetings") {
-        running::report_meetings();
-        return;
+    let words: Vec<String> = std::env::args().skip(1).collect();
+    match words.first().map(String::as_str) {
+        Some("meetings") => return running::report_meetings(),
+        Some("calls") => return calling::make(&words[1..]),
+        _ => {}
     }
     println!("medians of samples taken in turn; speed: the archive's by the reference's;");
     println!("times: how many times as long the second side takes");

@@ -2,73 +2,42 @@
 
 use std::hint::black_box;
 
-use generate::procedures::reckoner;
-use generate::{profiled, table_of, Random, Words, LIVELY, MOST_LINES, READY};
+use generate::standstills::Foot;
 use interface::{Engine, STATE_BYTES};
 
 use crate::report::{heading, line, Unit};
+use crate::standing::{alone, chained, largest, mutual, Standing};
 use crate::timing::Times;
 
 /// Calls in one sample.
 const CALLS: usize = 50;
 
-/// A table, a state, and a thread that can be stepped in it.
-struct Subject {
-    name: String,
-    table: Vec<u8>,
-    state: Vec<u8>,
-    thread: u32,
-}
-
 pub fn report() {
     heading("one step call", Unit::Microseconds);
-    for subject in [small(), largest()] {
+    let subjects = [
+        ("one thread, table of 30 lines", alone()),
+        ("table of 865 lines", largest()),
+        ("64 threads in a chain, the last begins to wait", chained(Foot::Port, 1)),
+        ("64 threads in a clique, the last begins to wait", mutual(0, 1)),
+    ];
+    for (name, standing) in subjects {
+        let thread = standing.steppable().expect("a thread is ready");
         let mut room = vec![0; STATE_BYTES];
         let mut other_room = room.clone();
         let times = Times::take(
             CALLS,
-            || sample(&archive::ENGINE, &subject, &mut room),
-            || sample(&reference::ENGINE, &subject, &mut other_room),
+            || sample(&archive::ENGINE, &standing, thread, &mut room),
+            || sample(&reference::ENGINE, &standing, thread, &mut other_room),
         );
-        line(&subject.name, Unit::Microseconds, &times);
+        assert!(room == other_room, "both sides have come to the same state");
+        line(name, Unit::Microseconds, &times);
     }
 }
 
-fn small() -> Subject {
-    let file = reckoner();
-    let name = format!("one thread, table of {} lines", file.rows.len());
-    subject(name, table_of(&file.rows), 100).expect("the thread is always ready")
-}
-
-/// The first of the largest files in which threads are still ready after some thousand steps.
-fn largest() -> Subject {
-    let profile = LIVELY.iter().find(|profile| profile.name == "largest").expect("there is one");
-    (1..)
-        .find_map(|seed| {
-            let file = profiled(&mut Random::new(seed), profile);
-            assert_eq!(file.rows.len(), MOST_LINES);
-            let table = table_of(&file.rows);
-            let found = subject(format!("table of {MOST_LINES} lines"), table, 3_000)?;
-            let words = Words::new(&found.state);
-            (words.threads(generate::FREE).len() < 24).then_some(found)
-        })
-        .expect("seeds do not end")
-}
-
-/// The state after so many steps, with a thread that can be stepped, if there is one.
-fn subject(name: String, table: Vec<u8>, steps: u16) -> Option<Subject> {
-    let mut state = vec![0; STATE_BYTES];
-    reference::start(&table, &mut state);
-    reference::run(&table, &mut state, steps);
-    let can_step = |thread: &u32| reference::step(&table, &mut state.clone(), *thread).refusal == 0;
-    let thread = Words::new(&state).threads(READY).iter().map(|thread| *thread as u32).find(can_step)?;
-    Some(Subject { name, table, state, thread })
-}
-
-fn sample(engine: &Engine, subject: &Subject, state: &mut [u8]) {
+fn sample(engine: &Engine, standing: &Standing, thread: u32, state: &mut [u8]) {
     for _ in 0..CALLS {
-        state.copy_from_slice(&subject.state);
-        let stepped = (engine.step)(black_box(&subject.table), black_box(state), subject.thread);
+        state.copy_from_slice(&standing.state);
+        let stepped = (engine.step)(black_box(&standing.table), black_box(state), thread);
         assert_eq!(stepped.refusal, 0);
     }
 }

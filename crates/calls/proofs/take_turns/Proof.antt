@@ -20,7 +20,7 @@ abbrev Inv-loop : tie.InvT-loop
 Inv-loop table index state₀ t n top₀ next₀ last₀ i₀ state top next last i =
     (i ≤ n) × Running (tableOf table) index (stateOf state) × UsedBelow (stateOf state) top × (next < 64 → isReady (thread (stateOf state) next) ≡ true)
     × (courseBy (tableOf table) n (stateOf state₀) t ≡ after i (courseBy (tableOf table) (n - i) (settled (tableOf table) (stateOf state)) next))
-    × Followed (tableOf table) (stateOf state₀) t i (settled (tableOf table) (stateOf state)) next last
+    × Followed (tableOf table) (stateOf state₀) t i (stateOf state) next last
 
 abbrev μ-loop : tie.MeasureT-loop
 μ-loop table index state₀ t n top₀ next₀ last₀ i₀ state top next last i = n - i
@@ -32,7 +32,7 @@ take-turns-spec =
     Inv-loop
     μ-loop
     (λ c κs. search needs)
-    (λ c. (search needs, search running-begins, search needs, c .before .before .before .before .pre .1 .1 .1, search course-begins, followed-none _ _ _ (search) _))
+    (λ c. (search needs, search running-begins, search needs, c .before .before .before .before .pre .1 .1 .1, search course-begins, followed-none _ _ _ _))
     (λ c. search needs)
     (λ c. record { is-course = search course-nobody; one-made = search nobody-last; counted = search })
     (λ c κs. (search, (search, (search needs, search (c .before .before .before .loop .inv .3, needs)))))

@@ -1,6 +1,6 @@
-use Rattle.engine.proofs.Laws.{start-refused, start-done, start-length}
-use Rattle.engine.specs.Admitted.{admitted-indexed}
 use borrow.Author.Needs.{needs}
+use Rattle.engine.specs.Admitted.{admitted-indexed}
+use Rattle.engine.proofs.Laws.{start-refused, start-done, start-length}
 use Rattle.engine.proofs.start.Statement.{statement}
 use Rattle.engine.proofs.start.Tie as tie
 
@@ -8,6 +8,7 @@ pub start-spec : {M : Type 1} → statement M
 start-spec =
     tie.close
     (tie.spec
+    (λ c. search needs)
     (λ c. search needs)
     (λ c κs. search needs)
     (λ c. search needs)

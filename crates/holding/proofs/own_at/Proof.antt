@@ -1,5 +1,5 @@
 use borrow.Author.Needs.{needs}
-use Rattle.holding.proofs.Listings.{own-high, own-number, own-listed, own-new}
+use Rattle.holding.proofs.Listings.{own-none, own-listed, own-new}
 use Rattle.holding.proofs.own_at.Statement.{statement}
 use Rattle.holding.proofs.own_at.Tie as tie
 
@@ -8,12 +8,7 @@ own-at-spec =
     tie.close
     (tie.spec
     (λ c κs. search needs)
-    (λ c. search needs)
-    (λ c κs. search needs)
-    (λ c. search own-number)
-    (λ c. search needs)
+    (λ c. search own-none)
     (λ c κs. search needs)
     (λ c. search own-listed)
-    (λ c. search needs)
-    (λ c. search own-new)
-    (λ c. search own-high))
+    (λ c. search own-new))

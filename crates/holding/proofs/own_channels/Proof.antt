@@ -1,5 +1,5 @@
 use borrow.Author.Needs.{needs}
-use Rattle.holding.proofs.Listings.{free-room-is, free-list-is, own-room-is, own-list-is}
+use Rattle.holding.proofs.Listings.{own-list-is}
 use Rattle.holding.proofs.own_channels.Statement.{statement}
 use Rattle.holding.proofs.own_channels.Tie as tie
 
@@ -8,10 +8,5 @@ own-channels-spec =
     tie.close
     (tie.spec
     (λ c κs. search needs)
-    (λ c. (search free-list-is, (search free-room-is, search needs)))
     (λ c κs. search needs)
-    (λ c κs. search needs)
-    (λ c κs. search needs)
-    (λ c κs. search needs)
-    (λ c κs. search needs)
-    (λ c. (search own-list-is, (search own-room-is, search))))
+    (λ c. (search own-list-is, (search, search))))

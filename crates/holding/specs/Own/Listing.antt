@@ -16,11 +16,14 @@ unfoldable pub listed : List ℕ → ℕ → ℕ → Bool
 listed l n c = some (λ i. eqb (getD l i 0) c) n
 
 module _ (tb : Table) (from : ℕ) (row : List ℕ) where
-  -- the channel in slot k of a row, the types of whose slots stand from a row of the table on, where the list does not have it from the slots before
+  -- the channel in slot k of a row, the types of whose slots stand from a row of the table on; 128 where it has a number or no channel
+  unfoldable pub channelBy : ℕ → ℕ
+  channelBy k =
+      cond (ltb (slotOf row k) maxChannels) (cond (eqb (at tb (from + k) Field.type) 0) maxChannels (slotOf row k)) maxChannels
+
+  -- the same where the list does not have it from the slots before
   unfoldable pub ownBy : List ℕ → ℕ → ℕ
-  ownBy l k =
-      cond (ltb (slotOf row k) maxChannels)
-      (cond (eqb (at tb (from + k) Field.type) 0) maxChannels (cond (listed l k (slotOf row k)) maxChannels (slotOf row k))) maxChannels
+  ownBy l k = cond (listed l k (channelBy k)) maxChannels (channelBy k)
 
   -- a list with the first k of its entries written so
   unfoldable pub listedTo : List ℕ → ℕ → List ℕ

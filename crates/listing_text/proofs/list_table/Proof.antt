@@ -8,13 +8,14 @@ list-table-spec =
     tie.close
     (tie.spec
     (λ c. search needs)
+    (λ c. search needs)
     (λ c κs. search needs)
     (λ c. search needs)
-    (λ c κs. accepted-indexed _ (search) _ (c .before .before .before .accept .result) (c .before .before .before .accept .ensures .0) (c .before .before .before .accept .ensures .1))
+    (λ c κs. accepted-indexed _ (search) _ _ (c .before .before .before .before .accept .ensures .0) (c .before .before .before .before .accept .ensures .1 .0))
     (λ c κs. search needs)
     (λ c. search needs)
-    (λ c κs. (accepted-indexed _ (search) _ (c .before .before .before .before .before .before .before .before .before .before .before .accept .result) (c .before .before .before .before .before .before .before .before .before .before .before .accept .ensures .0) (c .before .before .before .before .before .before .before .before .before .before .before .accept .ensures .1), (search accepted-grants, (search accepted-starts, search needs))))
+    (λ c κs. (accepted-indexed _ (search) _ _ (c .before .before .before .before .before .before .before .before .before .before .before .before .accept .ensures .0) (c .before .before .before .before .before .before .before .before .before .before .before .before .accept .ensures .1 .0), (search accepted-grants, (search accepted-starts, search needs))))
     (λ c. search needs)
-    (λ c κs. (accepted-indexed _ (search) _ (c .before .before .before .before .before .before .before .before .before .before .before .before .before .before .before .before .before .accept .result) (c .before .before .before .before .before .before .before .before .before .before .before .before .before .before .before .before .before .accept .ensures .0) (c .before .before .before .before .before .before .before .before .before .before .before .before .before .before .before .before .before .accept .ensures .1), (search sound-settled, (search run-few, search needs))))
+    (λ c κs. (accepted-indexed _ (search) _ _ (c .before .before .before .before .before .before .before .before .before .before .before .before .before .before .before .before .before .before .accept .ensures .0) (c .before .before .before .before .before .before .before .before .before .before .before .before .before .before .before .before .before .before .accept .ensures .1 .0), (search sound-settled, (search run-few, search needs))))
     (λ c. search needs)
     (λ c. (search run-long, search run-laid)))

@@ -1,5 +1,5 @@
 use mathlib.Core.Bool.{false≢true}
-use Rattle.loader.specs.Verdict.Laws.{accept-length, accept-rest, accept-fault, sound-few, sound-indexed}
+use Rattle.loader.specs.Verdict.Laws.{accept-length, accept-rest, accept-fault, sound-few, sound-indexed, sound-marks}
 use borrow.Author.Needs.{needs}
 use Rattle.loader.proofs.accept.Statement.{statement}
 use Rattle.loader.proofs.accept.Tie as tie
@@ -8,13 +8,15 @@ pub accept-spec : {M : Type 1} → statement M
 accept-spec =
     tie.close
     (tie.spec
-    (λ c. (search accept-length, λ e. absurd (false≢true e)))
+    (λ c. (search accept-length, (λ e. absurd (false≢true e), λ e. absurd (false≢true e))))
     (λ c κs. search needs)
     (λ c κs. search needs)
     (λ c. search needs)
     (λ c κs. (search needs, (search sound-few, search)))
     (λ c. search needs)
     (λ c. search needs)
-    (λ c. (search accept-rest, λ e. search sound-indexed))
     (λ c. search needs)
-    (λ c. (search accept-fault, λ e. absurd (false≢true e))))
+    (λ c. (search accept-rest, (λ e. search sound-indexed, λ e. search sound-marks)))
+    (λ c. search needs)
+    (λ c. search needs)
+    (λ c. (search accept-fault, (λ e. absurd (false≢true e), λ e. absurd (false≢true e)))))

@@ -15,6 +15,7 @@ judge-file-spec =
     (λ c. search needs)
     (λ c. (search file-field, no-sound _ _))
     (λ c. search needs)
-    (λ c κs. (search table-kept, search needs))
+    (λ c. search needs)
+    (λ c κs. (search table-kept, (search needs, search needs)))
     (λ c. search needs)
     (λ c. (search file-judged, λ e. search file-read)))

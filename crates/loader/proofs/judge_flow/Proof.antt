@@ -9,14 +9,14 @@ unfolding judgedFlow
 judge-flow-spec =
     tie.close
     (tie.spec
-    (λ c. search needs)
+    (λ c κs. search needs)
     (λ c κs. search needs)
     (λ c. search needs)
+    (λ c. search needs)
+    (λ c. (search faults, search))
     (λ c κs. search needs)
     (λ c. search needs)
-    (λ c. search faults)
     (λ c. search needs)
-    (λ c κs. search needs)
+    (λ c. (search faults, search))
     (λ c. search needs)
-    (λ c. search faults)
-    (λ c. search faults))
+    (λ c. (search faults, search)))

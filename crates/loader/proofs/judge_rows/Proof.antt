@@ -1,5 +1,5 @@
 use Rattle.loader.specs.Verdict.{judgedRows}
-use Rattle.loader.specs.Verdict.Laws.{faults}
+use Rattle.loader.specs.Verdict.Laws.{faults, no-sound}
 use borrow.Author.Needs.{needs}
 use Rattle.loader.proofs.judge_rows.Statement.{statement}
 use Rattle.loader.proofs.judge_rows.Tie as tie
@@ -11,9 +11,10 @@ judge-rows-spec =
     (tie.spec
     (λ c κs. search needs)
     (λ c. search needs)
-    (λ c. search faults)
+    (λ c. (search faults, no-sound _ _))
     (λ c κs. search needs)
     (λ c. search needs)
-    (λ c. search faults)
+    (λ c. (search faults, no-sound _ _))
     (λ c κs. search needs)
-    (λ c. search faults))
+    (λ c. search needs)
+    (λ c. (search faults, λ e. search)))

@@ -2,7 +2,8 @@
 use Prim.Native.Nat.{_*_, _≤_, _-_}
 use mathlib.Core.Path.{_≡_}
 use borrow.Author.Needs.{needs}
-use Rattle.loader.specs.Verdict.Rest.{bitsOf, bytesPast, past-none, past-more, rest-is}
+use Rattle.numbers.specs.Bits.{bitsOf}
+use Rattle.loader.specs.Verdict.Rest.{bytesPast, past-none, past-more, rest-is}
 use Rattle.loader.proofs.rest_is_zero.Statement.{statement}
 use Rattle.loader.proofs.rest_is_zero.Tie as tie
 

@@ -1,17 +1,18 @@
 -- The rest of a table is 0 exactly when its bytes, joined bit by bit, are 0. Assumes nothing.
-use Prim.Native.Nat.{ℕ, zero, suc, _+_, _-_, _*_, _/_, _%_, _≤_, _<_}
+use Prim.Native.Nat.{ℕ, suc, _+_, _-_, _*_, _/_, _%_, _≤_, _<_}
 use native.Mathlib.Omega.{arith}
-use mathlib.Core.Path.{_≡_, refl, sym, _∙_, ap}
+use mathlib.Core.Path.{_≡_, sym, _∙_, ap}
 use mathlib.Core.Bool.{true}
 use mathlib.Core.List.{List}
 use lib.Dec.{ltb, eqb}
 use lib.ListN.{length, getD}
-use borrow.Author.Tests.{le-ltb, ltb-true, ltb-false, eq-eqb, ne-eqb, eqb-true, eqb-false}
+use borrow.Author.Tests.{le-ltb, ltb-false, eq-eqb, ne-eqb, eqb-true, eqb-false}
+use Rattle.numbers.specs.Bits.{bitsOf, no-bits, bits-none}
 use Rattle.numbers.specs.Bytes.{shorts, little}
 use Rattle.numbers.specs.Bytes.Laws.{short-is}
 use Rattle.numbers.specs.Rows.{at}
 use Rattle.numbers.specs.Rows.Laws.{at-in}
-use lib.Bits.{bitOr, or-add-and, and-le-l, and-le-r, or-zero-l}
+use lib.Bits.{bitOr}
 use Rattle.numbers.specs.Search.{every}
 use Rattle.numbers.specs.Search.Laws.{caseB, contra, every-elim, every-intro}
 use Rattle.table.specs.Table.{maxRows, rowNumbers, tableLength, tableOf, lineTotal}
@@ -21,31 +22,6 @@ use Rattle.loader.specs.Verdict.{restZero}
 -- the bytes of b from place p on
 unfoldable pub bytesPast : List ℕ → ℕ → ℕ → ℕ
 bytesPast b p j = getD b (p + j) 0
-
--- the bits that one of f 0, .., f (n - 1) has
-unfoldable pub bitsOf : (ℕ → ℕ) → ℕ → ℕ
-bitsOf f zero = 0
-bitsOf f (suc n) = bitOr (bitsOf f n) (f n)
-
--- two numbers joined are 0 exactly when both are
-or-left : (x y : ℕ) → bitOr x y ≡ 0 → x ≡ 0
-or-left x y e = omega (arith, or-add-and x y, and-le-r x y)
-
-or-right : (x y : ℕ) → bitOr x y ≡ 0 → y ≡ 0
-or-right x y e = omega (arith, or-add-and x y, and-le-l x y)
-
-module _ (f : ℕ → ℕ) where
-  no-bits : (n i : ℕ) → bitsOf f n ≡ 0 → i < n → f i ≡ 0
-  unfolding bitsOf
-  no-bits zero i e h = absurd (omega arith)
-  no-bits (suc n) i e h = caseB (ltb i n)
-      (λ t. no-bits n i (or-left (bitsOf f n) (f n) e) (ltb-true i n t))
-      (λ g. let q : i ≡ n = omega (arith, ltb-false i n g) in rw q (or-right (bitsOf f n) (f n) e))
-
-  bits-none : (n : ℕ) → ((i : ℕ) → i < n → f i ≡ 0) → bitsOf f n ≡ 0
-  unfolding bitsOf
-  bits-none zero h = refl
-  bits-none (suc n) h = rw (bits-none n (λ i l. h i (omega arith)), h n (omega arith)) (or-zero-l 0)
 
 module _ (b : List ℕ) (p : ℕ) where
   pub past-none : 0 ≡ bitsOf (bytesPast b p) (p - p)

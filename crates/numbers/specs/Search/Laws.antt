@@ -68,6 +68,30 @@ module _ (p : ℕ → Bool) where
   every-intro zero h = refl
   every-intro (suc n) h = rw (every-intro n (λ i l. h i (omega arith)), h n (omega arith))
 
+-- where a test holds of all that come, it is enough to have tried the first
+pub every-rest : (p : ℕ → Bool) (m n : ℕ) → m ≤ n → ((k : ℕ) → m ≤ k → k < n → p k ≡ true) → every p m ≡ every p n
+every-rest p m n h f =
+    same-truth (every p m) (every p n)
+    (λ t. every-intro p n (λ i l. caseB (ltb i m) (λ y. every-elim p m i t (ltb-true i m y)) (λ z. f i (ltb-false i m z) l)))
+    (λ t. every-intro p m (λ i l. every-elim p n i t (omega arith)))
+
+-- all tests are made, whether those before them passed or not: a says whether they did
+module _ (p : ℕ → Bool) where
+  pub tests-none : true ≡ every p 0
+  unfolding every
+  tests-none = refl
+
+  pub tests-more : (i : ℕ) (a r : Bool) → a ≡ every p i → r ≡ p i → (a && r) ≡ every p (i + 1)
+  unfolding every
+  tests-more i a r e f = rw (add-one i, ← e, ← f) (both a)
+    where
+      both : (a : Bool) → (a && r) ≡ cond a r false
+      both true = refl
+      both false = refl
+
+  pub tests-all : (i n : ℕ) (a : Bool) → a ≡ every p i → i ≤ n → n ≤ i → a ≡ every p n
+  tests-all i n a e h l = let q : i ≡ n = omega arith in rw q at e
+
 pub every-cong : (p q : ℕ → Bool) (n : ℕ) → ((i : ℕ) → i < n → p i ≡ q i) → every p n ≡ every q n
 unfolding every
 every-cong p q zero h = refl

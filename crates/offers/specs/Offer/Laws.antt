@@ -1,10 +1,9 @@
 -- A branch offers d on a channel, as the rules say it, where its offer on that channel is one of direction d. Assumes nothing.
 use Prim.Native.Nat.{ℕ}
 use mathlib.Core.Path.{_≡_, refl, sym, _∙_}
-use mathlib.Core.Bool.{Bool, true, false, _&&_, cond}
+use mathlib.Core.Bool.{Bool, true, false, _&&_}
 use mathlib.Core.List.{List}
 use lib.Dec.{eqb}
-use borrow.Author.Tests.{eq-eqb}
 use Rattle.numbers.specs.Search.Laws.{caseB, contra}
 use Rattle.numbers.specs.Tests.{and-true}
 use Rattle.table.specs.Table.{Table}
@@ -47,11 +46,6 @@ meeting-offer Assignment d = refl
 and-false : (a : Bool) → (a && false) ≡ false
 and-false true = refl
 and-false false = refl
-
--- on the channel that it names a branch offers what its act is, if its guard is true
-pub offer-own : (tb : Table) (row : List ℕ) (r : ℕ) → offerOn tb row (slotOf row (fieldA tb r)) r ≡ cond (guardHolds tb r row) (offerOf (actOf tb r)) Nothing
-unfolding offerOn
-offer-own tb row r = rw (eq-eqb (slotOf row (fieldA tb r)) (slotOf row (fieldA tb r)) refl)
 
 module _ (tb : Table) (row : List ℕ) (c r : ℕ) where
   pub offers-in : (d : Direction) → offersIn tb row d c r ≡ isOf (offerOn tb row c r) d

@@ -9,6 +9,7 @@ profile-spec =
     (tie.spec
     (λ c. search length-wrong)
     (λ c. search needs)
+    (λ c. search needs)
     (λ c κs. search needs)
     (λ c. search needs)
     (λ c κs. (search is-accepted, search indexed))

@@ -1,24 +1,26 @@
--- `recount::tally` meets its contract. The loop: the channels of the threads below t are counted, in both lists. Assumes nothing.
+-- `recount::tally` meets its contract. The loop: the channels of the threads below t are counted, in both lists, and no mark is that of thread t or of a later one.
+-- Assumes nothing.
 use Prim.Native.Nat.{_≤_, _-_}
 use mathlib.Core.Path.{_≡_}
 use mathlib.Core.Bool.{true}
 use lib.ListN.{length}
 use borrow.Author.Needs.{needs}
 use Rattle.table.specs.Table.{tableOf}
-use Rattle.state.specs.State.{stateOf, isWaiting, maxThreads}
-use Rattle.recount.specs.Tally.{addedBelow}
-use Rattle.recount.proofs.Ways.{rows-none, rows-held, rows-waiting, all-held, all-waiting}
+use Rattle.state.specs.State.{stateOf, isWaiting, maxThreads, maxChannels}
+use Rattle.recount.specs.Tally.{addedBelow, Fresh}
+use Rattle.recount.specs.Tally.Marks.{fresh-zeros}
+use Rattle.recount.specs.Tally.Pass.{zeros-long, rows-none, rows-held, rows-more, row-long, all-held, all-waiting}
 use Rattle.recount.proofs.tally.Statement.{statement}
 use Rattle.recount.proofs.tally.Tie as tie
 
 abbrev Inv-loop : tie.InvT-loop
-Inv-loop table index state held₀ waiting₀ t₀ held waiting t =
-    (t ≤ maxThreads) × (length held ≡ length held₀) × (length waiting ≡ length waiting₀)
+Inv-loop table index state held₀ waiting₀ marks₀ t₀ held waiting marks t =
+    (t ≤ maxThreads) × (length held ≡ maxChannels) × (length waiting ≡ maxChannels) × Fresh t marks
     × (held ≡ addedBelow (tableOf table) (λ row. true) (stateOf state .threads) held₀ t)
     × (waiting ≡ addedBelow (tableOf table) (λ row. isWaiting row) (stateOf state .threads) waiting₀ t)
 
 abbrev μ-loop : tie.MeasureT-loop
-μ-loop table index state held₀ waiting₀ t₀ held waiting t = maxThreads - t
+μ-loop table index state held₀ waiting₀ marks₀ t₀ held waiting marks t = maxThreads - t
 
 pub tally-spec : {M : Type 1} → statement M
 tally-spec =
@@ -26,13 +28,9 @@ tally-spec =
     (tie.spec
     Inv-loop
     μ-loop
-    (λ c. search (rows-none, needs))
-    (λ c κs. search needs)
-    (λ c κs. search needs)
-    (λ c κs. search needs)
+    (λ c. (search needs, search zeros-long, search zeros-long, search fresh-zeros, search rows-none, search rows-none))
+    (λ c κs. (search, (search needs, (search, (search, search)))))
     (λ c. search needs)
     (λ c. search needs)
-    (λ c. (search needs, search needs, search needs, search rows-held, search rows-waiting))
-    (λ c. search needs)
-    (λ c. search needs)
+    (λ c. (search needs, search row-long, search row-long, search, search rows-held, search rows-more))
     (λ c. (search all-held, search all-waiting)))

@@ -1,5 +1,5 @@
 -- One pass over the rows counts the holders of each channel. Assumes nothing.
-use Prim.Native.Nat.{ℕ, zero, suc, _+_, _*_, _%_, _≤_, _<_}
+use Prim.Native.Nat.{ℕ, zero, suc, _+_, _*_, _%_, _<_}
 use native.Mathlib.Omega.{arith}
 use native.Mathlib.Nat.{add-mul}
 use mathlib.Core.Path.{_≡_, refl, sym, _∙_}
@@ -15,15 +15,15 @@ use Rattle.numbers.specs.Laid.Laws.{zeros-at}
 use Rattle.numbers.specs.Search.{sumTo, tabulate}
 use Rattle.numbers.specs.Search.Laws.{caseB, sum-none, sum-suc, is-tabulate}
 use Rattle.table.specs.Table.{Table}
-use Rattle.state.specs.State.{isWaiting, maxChannels, maxThreads, rowSlots}
+use Rattle.state.specs.State.{isWaiting, maxChannels, maxThreads}
 use Rattle.rules.specs.Holding.{holds, holders, waiters}
-use Rattle.holding.specs.Own.{ownOf, ownList, ownRoom, holdsTo}
-use Rattle.holding.specs.Own.Laws.{room-le, own-at, holds-none, own-counts, holds-room}
+use Rattle.holding.specs.Own.{ownOf, ownRoom, holdsTo}
+use Rattle.holding.specs.Own.Laws.{holds-none, own-counts, holds-room}
 use Rattle.recount.specs.Tally.{added, addedTo, rowAdded, addedBelow}
 
 -- ---- entries
 
-length-added : (l : List ℕ) (c w : ℕ) → length (added l c w) ≡ length l
+pub length-added : (l : List ℕ) (c w : ℕ) → length (added l c w) ≡ length l
 unfolding added
 length-added l c w = length-set l c ((getD l c 0 + w) % 256)
 
@@ -40,21 +40,21 @@ module _ (tb : Table) where
   -- ---- the channels of a row
 
   module _ (row : List ℕ) (w : ℕ) (l : List ℕ) where
-    length-addedTo : (n : ℕ) → length (addedTo (ownList tb row) w l n) ≡ length l
+    pub length-addedTo : (n : ℕ) → length (addedTo (ownOf tb row) w l n) ≡ length l
     unfolding addedTo
     length-addedTo zero = refl
-    length-addedTo (suc n) = length-added (addedTo (ownList tb row) w l n) (getD (ownList tb row) n 0) w ∙ length-addedTo n
+    length-addedTo (suc n) = length-added (addedTo (ownOf tb row) w l n) (ownOf tb row n) w ∙ length-addedTo n
 
-    addedTo-law : (c n : ℕ) → length l ≡ maxChannels → c < maxChannels → getD l c 0 < 256 → n ≤ rowSlots
-        → getD (addedTo (ownList tb row) w l n) c 0 ≡ (getD l c 0 + bit (holdsTo tb row c n) * w) % 256
+    addedTo-law : (c n : ℕ) → length l ≡ maxChannels → c < maxChannels → getD l c 0 < 256
+        → getD (addedTo (ownOf tb row) w l n) c 0 ≡ (getD l c 0 + bit (holdsTo tb row c n) * w) % 256
     unfolding addedTo bit
-    addedTo-law c zero e h b i = rw (holds-none tb row c h) (omega arith)
-    addedTo-law c (suc n) e h b i =
-        let prev = addedTo (ownList tb row) w l n in
-        let m = addedTo-law c n e h b (omega arith) in
+    addedTo-law c zero e h b = rw (holds-none tb row c h) (omega arith)
+    addedTo-law c (suc n) e h b =
+        let prev = addedTo (ownOf tb row) w l n in
+        let m = addedTo-law c n e h b in
         let long : length prev ≡ 128 = length-addedTo n ∙ e in
         let byte : getD prev c 0 < 256 = rw m (omega arith) in
-        rw (own-at tb row n i, added-law prev (ownOf tb row n) w c (omega arith) byte, m, own-counts tb row c h n)
+        rw (added-law prev (ownOf tb row n) w c (omega arith) byte, m, own-counts tb row c h n)
         (sums (getD l c 0) (bit (holdsTo tb row c n)) (bit (eqb (ownOf tb row n) c)) w)
 
   -- ---- rows
@@ -75,7 +75,7 @@ module _ (tb : Table) where
         → getD (rowAdded tb row (bit b) l) c 0 ≡ (getD l c 0 + bit (b && holds tb row c)) % 256
     unfolding rowAdded
     rowAdded-law c e h y =
-        rw (← bit-and (holds tb row c) b, ← holds-room tb row c h) (addedTo-law row (bit b) l c (ownRoom tb row) e h y (room-le tb row))
+        rw (← bit-and (holds tb row c) b, ← holds-room tb row c h) (addedTo-law row (bit b) l c (ownRoom tb row) e h y)
 
   module _ (p : List ℕ → Bool) (ths : List (List ℕ)) where
     abbrev passed : ℕ → ℕ → ℕ

@@ -12,11 +12,11 @@ use Rattle.sound.proofs.counts_sound.Statement.{statement}
 use Rattle.sound.proofs.counts_sound.Tie as tie
 
 abbrev Inv-loop : tie.InvT-loop
-Inv-loop table index state held waiting c₀ c =
+Inv-loop table state held waiting c₀ c =
     (c ≤ maxChannels) × (every (countTrue (tableOf table) (stateOf state)) c ≡ true)
 
 abbrev μ-loop : tie.MeasureT-loop
-μ-loop table index state held waiting c₀ c = maxChannels - c
+μ-loop table state held waiting c₀ c = maxChannels - c
 
 pub counts-sound-spec : {M : Type 1} → statement M
 counts-sound-spec =
@@ -24,12 +24,7 @@ counts-sound-spec =
     (tie.spec
     Inv-loop
     μ-loop
-    (λ c. search needs)
-    (λ c. search needs)
-    (λ c κs. search needs)
     (λ c. (search needs, search every-none))
-    (λ c. search needs)
-    (λ c. search needs)
     (λ c κs. search needs)
     (λ c. search every-failed)
     (λ c. search needs)

@@ -1,5 +1,5 @@
-use borrow.Author.Tests.{not-true, not-false}
 use borrow.Author.Needs.{needs}
+use borrow.Author.Tests.{not-true, not-false}
 use Rattle.sound.proofs.Ways.{marks-unsound, threads-unsound, counts-unsound, ports-unsound, waits-tested}
 use Rattle.sound.proofs.is_sound.Statement.{statement}
 use Rattle.sound.proofs.is_sound.Tie as tie

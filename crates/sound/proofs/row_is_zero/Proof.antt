@@ -1,22 +1,20 @@
--- `sound::row_is_zero` meets its contract. The loop: the words below k are 0. Assumes nothing.
+-- `sound::row_is_zero` meets its contract. The loop: the words below k are joined. Assumes nothing.
 use Prim.Native.Nat.{_≤_, _-_}
 use mathlib.Core.Path.{_≡_}
-use mathlib.Core.Bool.{true}
+use lib.ListN.{getD}
 use borrow.Author.Needs.{needs}
-use Rattle.numbers.specs.Search.{every}
-use Rattle.numbers.specs.Search.Laws.{every-none, every-all}
 use Rattle.state.specs.State.{threadWords, stateOf, thread}
-use Rattle.sound.specs.SoundRows.{wordZero}
-use Rattle.sound.proofs.Ways.{word-zero, word-other}
+use Rattle.numbers.specs.Bits.{bitsOf, joined-none, joined-more}
+use Rattle.sound.proofs.Ways.{words-zero}
 use Rattle.sound.proofs.row_is_zero.Statement.{statement}
 use Rattle.sound.proofs.row_is_zero.Tie as tie
 
 abbrev Inv-loop : tie.InvT-loop
-Inv-loop state t k₀ k =
-    (k ≤ threadWords) × (every (wordZero (thread (stateOf state) t)) k ≡ true)
+Inv-loop state t all₀ k₀ all k =
+    (k ≤ threadWords) × (all ≡ bitsOf (λ i. getD (thread (stateOf state) t) i 0) k)
 
 abbrev μ-loop : tie.MeasureT-loop
-μ-loop state t k₀ k = threadWords - k
+μ-loop state t all₀ k₀ all k = threadWords - k
 
 pub row-is-zero-spec : {M : Type 1} → statement M
 row-is-zero-spec =
@@ -24,10 +22,9 @@ row-is-zero-spec =
     (tie.spec
     Inv-loop
     μ-loop
-    (λ c. (search needs, search every-none))
+    (λ c. (search needs, search joined-none))
     (λ c κs. search needs)
-    (λ c. search word-other)
     (λ c. search needs)
     (λ c. search needs)
-    (λ c. (search needs, search word-zero))
-    (λ c. search every-all))
+    (λ c. (search needs, search joined-more))
+    (λ c. search words-zero))

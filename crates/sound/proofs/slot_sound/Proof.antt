@@ -7,14 +7,13 @@ pub slot-sound-spec : {M : Type 1} → statement M
 slot-sound-spec =
     tie.close
     (tie.spec
-    (λ c κs. search needs)
-    (λ c κs. search needs)
-    (λ c κs. search needs)
-    (λ c. search slots)
-    (λ c κs. search needs)
-    (λ c. search slots)
     (λ c. search needs)
     (λ c κs. search needs)
     (λ c. search slots)
+    (λ c κs. search needs)
+    (λ c. search needs)
+    (λ c κs. search needs)
+    (λ c. search slots)
+    (λ c κs. search needs)
     (λ c. search slots)
     (λ c. search slots))

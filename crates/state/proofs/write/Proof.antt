@@ -1,5 +1,6 @@
--- `state::write` meets its contract. The loop: the words below i have been written. Assumes nothing.
+-- `state::write` meets its contract. No buffer has another length, and the branch of one is absurd. The loop: the words below i have been written. Assumes nothing.
 use Prim.Native.Nat.{ℕ, _≤_, _-_}
+use native.Mathlib.Omega.{arith}
 use mathlib.Core.Path.{_≡_, refl}
 use lib.ListN.{length, getD}
 use mir.Syntax.{w8}
@@ -23,12 +24,13 @@ write-spec =
     (tie.spec
     Inv-loop
     μ-loop
+    (λ c. absurd (omega arith))
     (λ c. (search needs, search needs, search needs, search agree-none))
     (λ c. search needs)
     (λ c. search needs)
     (λ c κs. search needs)
     (λ c. search needs)
     (λ c. search needs)
-    (λ c. (search needs, search needs, search needs, agree-more (words (c .before .before .before .before .before .before .loop .buffer)) (c .before .before .before .before .before .before .before .before .before .args .state .now) _ (c .before .before .before .before .before .before .loop .i) (getD (c .before .before .before .before .before .before .before .before .before .args .state .now) (c .before .before .before .before .before .before .loop .i) 0) (c .before .before .put-word .ensures) (search) refl (word-inside _ (c .before .before .before .before .before .before .before .before .before .args .buffer .now) _ (search) (search) (search needs))))
+    (λ c. (search needs, search needs, search needs, agree-more (words (c .before .before .before .before .before .before .loop .buffer)) (c .before .before .before .before .before .before .before .before .before .before .args .state .now) _ (c .before .before .before .before .before .before .loop .i) (getD (c .before .before .before .before .before .before .before .before .before .before .args .state .now) (c .before .before .before .before .before .before .loop .i) 0) (c .before .before .put-word .ensures) (search) refl (word-inside _ (c .before .before .before .before .before .before .before .before .before .before .args .buffer .now) _ (search) (search) (search needs))))
     (λ c. search needs)
     (λ c. all-written _ _ (c .before .loop .i) (search) (search needs) (search) (search) (search needs)))

@@ -1,4 +1,4 @@
-use Rattle.turns.specs.Keeping.Laws.{met-counted, met-made}
+use Rattle.turns.specs.Keeping.Laws.{met-made}
 use borrow.Author.Needs.{needs}
 use Rattle.turns.proofs.make_met.Statement.{statement}
 use Rattle.turns.proofs.make_met.Tie as tie
@@ -8,5 +8,5 @@ make-met-spec =
     tie.close
     (tie.spec
     (λ c κs. search needs)
-    (λ c κs. (search, search met-counted))
+    (λ c κs. search needs)
     (λ c. search met-made))

@@ -7,8 +7,6 @@ pub settle-waiting-spec : {M : Type 1} → statement M
 settle-waiting-spec =
     tie.close
     (tie.spec
-    (λ c. search needs)
-    (λ c. search needs)
     (λ c κs. search needs)
     (λ c κs. search needs)
     (λ c. search settled-last))

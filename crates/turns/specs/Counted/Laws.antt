@@ -5,7 +5,7 @@ use native.Mathlib.Omega.{arith}
 use native.Mathlib.Numerals.{add-one}
 use mathlib.Core.Path.{_≡_, refl, sym, _∙_, ap}
 use mathlib.Core.Logic.{_≢_}
-use mathlib.Core.Bool.{_&&_, cond}
+use mathlib.Core.Bool.{Bool, false, _&&_, cond}
 use mathlib.Core.List.{List, [], _∷_}
 use lib.Dec.{eqb, leb}
 use lib.ListN.{length, getD, set, take, length-set}
@@ -31,9 +31,10 @@ use Rattle.rules.specs.declared.Move.{Move}
 use Rattle.rules.specs.declared.Move.the-variants.{Ends, Calls, Waits, Goes, Creates, Spawns, Meets, LacksThread, LacksChannel}
 use Rattle.holding.specs.Own.{ownList}
 use Rattle.upkeep.specs.Shift.{shiftRow, shiftTo, shiftedTo, channelShifted, rowEntered, rowLeft, settledOne, settledTwo, settledNew}
-use Rattle.upkeep.specs.Upkeep.{waiters-le, counts-move, one-settled, two-settled, new-settled, settled-again, settled-length, settled-mark, two-mark, new-mark}
+use Rattle.upkeep.specs.Upkeep.{waiters-le, count-stays, one-settled, two-settled, new-settled, settled-again, settled-length, settled-mark, two-mark, new-mark}
 use Rattle.turns.specs.Running.{MoveMade}
 use Rattle.turns.specs.Counted.{Alike, Counted, weighedTo, weighed}
+use Rattle.turns.specs.Weights.{numberBy, weighedAfter}
 
 -- ---- one row
 
@@ -98,22 +99,19 @@ shift-alike l dn dw a b e (suc k) =
 
 -- ---- the upkeep of one row, of two, and of a row and a new channel: the same is done to other channel rows
 
+abbrev SameDone : (State → State) → State → List (List ℕ) → Type 0
+SameDone F x chs = (withChannels (F x) (F (withChannels x chs) .channels) ≡ F (withChannels x chs)) × Alike (F x .channels) (F (withChannels x chs) .channels)
+
 module _ (tb : Table) (x : State) (chs : List (List ℕ)) (e : Alike (x .channels) chs) where
-  one-alike : (t : ℕ) (l : List ℕ) (w : ℕ)
-      → (withChannels (settledOne tb x t l w) (settledOne tb (withChannels x chs) t l w .channels) ≡ settledOne tb (withChannels x chs) t l w)
-      × Alike (settledOne tb x t l w .channels) (settledOne tb (withChannels x chs) t l w .channels)
+  one-alike : (t : ℕ) (l : List ℕ) (w : ℕ) → SameDone (λ y. settledOne tb y t l w) x chs
   unfolding settledOne rowEntered rowLeft shiftedTo withChannels
   one-alike t l w = (refl, shift-alike l _ _ _ _ (shift-alike _ _ _ _ _ e _) _)
 
-  two-alike : (t u : ℕ) (l : List ℕ) (w : ℕ) (l′ : List ℕ) (w′ : ℕ)
-      → (withChannels (settledTwo tb x t u l w l′ w′) (settledTwo tb (withChannels x chs) t u l w l′ w′ .channels) ≡ settledTwo tb (withChannels x chs) t u l w l′ w′)
-      × Alike (settledTwo tb x t u l w l′ w′ .channels) (settledTwo tb (withChannels x chs) t u l w l′ w′ .channels)
+  two-alike : (t u : ℕ) (l : List ℕ) (w : ℕ) (l′ : List ℕ) (w′ : ℕ) → SameDone (λ y. settledTwo tb y t u l w l′ w′) x chs
   unfolding settledTwo rowEntered rowLeft shiftedTo withChannels
   two-alike t u l w l′ w′ = (refl, shift-alike l′ _ _ _ _ (shift-alike l _ _ _ _ (shift-alike _ _ _ _ _ (shift-alike _ _ _ _ _ e _) _) _) _)
 
-  new-alike : (t c : ℕ) (l : List ℕ) (w : ℕ)
-      → (withChannels (settledNew tb x t c l w) (settledNew tb (withChannels x chs) t c l w .channels) ≡ settledNew tb (withChannels x chs) t c l w)
-      × Alike (settledNew tb x t c l w .channels) (settledNew tb (withChannels x chs) t c l w .channels)
+  new-alike : (t c : ℕ) (l : List ℕ) (w : ℕ) → SameDone (λ y. settledNew tb y t c l w) x chs
   unfolding settledNew channelShifted rowEntered rowLeft shiftedTo withChannels
   new-alike t c l w = (refl, shift-alike l _ _ _ _ (row-alike _ _ (shift-alike _ _ _ _ _ e _) c 0 0) _)
 
@@ -217,39 +215,26 @@ module _ (tb : Table) (s : State) (e : Counted tb s) where
       let g : ℕ → List ℕ = λ c. channelRow (typeIn s c) (countOf tb (set (s .threads) t row) c) (waiters tb (set (s .threads) t row) c) in (
         e .0,
         length-tabulate 128 g,
-        λ c l.
-            let m = counts-move tb (s .threads) t (omega arith) row c in
-            let n : countOf tb (set (s .threads) t row) c + bit (holds tb (thread s t) c) ≡ countOf tb (s .threads) c + bit (holds tb (thread s t) c) = rw (same c) at m in
-            let k : countOf tb (set (s .threads) t row) c ≡ countOf tb (s .threads) c = omega arith in
-            e .2 c l ∙ rw (getD-tabulate 128 c f [] l, getD-tabulate 128 c g [] l, k)
+        λ c l. e .2 c l ∙ rw (getD-tabulate 128 c f [] l, getD-tabulate 128 c g [] l, count-stays tb (s .threads) t (omega arith) row c (same c))
             (head-row (typeIn s c) (countOf tb (s .threads) c) (waiters tb (s .threads) c) (waiters tb (set (s .threads) t row) c)),
       )
 
-  -- ---- moves with upkeep: what settles the rows of what the state stands for does the same here
-  module _ (t : ℕ) (m : Move) where
-    one-kept : (l : List ℕ) (w : ℕ) → settledOne tb (written tb (settled tb s) t m) t l w ≡ perform tb (settled tb s) t m
-        → (settled tb (settledOne tb (written tb s t m) t l w) ≡ perform tb (settled tb s) t m) × Counted tb (settledOne tb (written tb s t m) t l w)
-    unfolding perform
-    one-kept l w a =
-        let (p, q) = both-after t m in
-        let (p₁, q₁) = one-alike tb (written tb s t m) (rowsAfter t m) q t l w in
-        stands-for tb (settledOne tb (written tb s t m) t l w) _ q₁ (written tb (settled tb s) t m) (p₁ ∙ rw p a)
-
-    new-kept : (x : ℕ) (l : List ℕ) (w : ℕ) → settledNew tb (written tb (settled tb s) t m) t x l w ≡ perform tb (settled tb s) t m
-        → (settled tb (settledNew tb (written tb s t m) t x l w) ≡ perform tb (settled tb s) t m) × Counted tb (settledNew tb (written tb s t m) t x l w)
-    unfolding perform
-    new-kept x l w a =
-        let (p, q) = both-after t m in
-        let (p₁, q₁) = new-alike tb (written tb s t m) (rowsAfter t m) q t x l w in
-        stands-for tb (settledNew tb (written tb s t m) t x l w) _ q₁ (written tb (settled tb s) t m) (p₁ ∙ rw p a)
-
-    two-kept : (x : ℕ) (l : List ℕ) (w : ℕ) (l′ : List ℕ) (w′ : ℕ) → settledTwo tb (written tb (settled tb s) t m) t x l w l′ w′ ≡ perform tb (settled tb s) t m
-        → (settled tb (settledTwo tb (written tb s t m) t x l w l′ w′) ≡ perform tb (settled tb s) t m) × Counted tb (settledTwo tb (written tb s t m) t x l w l′ w′)
-    unfolding perform
-    two-kept x l w l′ w′ a =
-        let (p, q) = both-after t m in
-        let (p₁, q₁) = two-alike tb (written tb s t m) (rowsAfter t m) q t x l w l′ w′ in
-        stands-for tb (settledTwo tb (written tb s t m) t x l w l′ w′) _ q₁ (written tb (settled tb s) t m) (p₁ ∙ rw p a)
+  -- ---- moves with upkeep: what settles the rows of what the state stands for does the same here, and leaves nothing to be weighed
+  upkept : (t : ℕ) (m : Move) (F : State → State) → ((chs : List (List ℕ)) → Alike (written tb s t m .channels) chs → SameDone F (written tb s t m) chs)
+      → F (written tb (settled tb s) t m) ≡ perform tb (settled tb s) t m → ((x : State) → weighedAfter tb (standsAt (thread s t)) t m x ≡ x)
+      → MoveMade tb s t m (F (written tb s t m))
+  unfolding perform
+  upkept t m F same a still =
+      let (p, q) = both-after t m in
+      let (p₁, q₁) = same (rowsAfter t m) q in
+      let (x, k) = stands-for tb (F (written tb s t m)) _ q₁ (written tb (settled tb s) t m) (p₁ ∙ rw p a) in
+      record {
+        after = x;
+        counted = k;
+        weights = λ whole.
+            let r : F (written tb s t m) ≡ settled tb (written tb s t m) = rw whole at a in
+            rw (still (F (written tb s t m)), r) (settled-again tb (written tb s t m));
+      }
 
 -- ---- a mark that is moved besides changes nothing in the upkeep
 
@@ -267,55 +252,54 @@ module _ (tb : Table) (b : List ℕ) (t : ℕ) (s₁ s₂ : State) (l : List ℕ
   module _ (f : s₂ ≡ settledOne tb s₁ t l w) where
     one-made : (m : Move) → s₁ ≡ written tb (stateOf b) t m → Counted tb (stateOf b)
         → settledOne tb (written tb (settled tb (stateOf b)) t m) t l w ≡ perform tb (settled tb (stateOf b)) t m
-        → MoveMade tb (stateOf b) t m s₂
-    one-made m g e a =
-        let (p, q) = one-kept tb (stateOf b) e t m l w a in
-        record { after = rw (f, g) p; counted = rw (f, g) q }
+        → ((x : State) → weighedAfter tb (standsAt (thread (stateOf b) t)) t m x ≡ x) → MoveMade tb (stateOf b) t m s₂
+    one-made m g e a still = rw (f, g) (upkept tb (stateOf b) e t m (λ y. settledOne tb y t l w) (λ chs q. one-alike tb _ chs q t l w) a still)
 
     pub end-made : s₁ ≡ withThread (stateOf b) t freeRow → l ≡ ownList tb (thread (stateOf b) t) → w ≡ bit (isWaiting (thread (stateOf b) t))
         → Counted tb (stateOf b) → t < maxThreads
         → MoveMade tb (stateOf b) t Ends s₂
-    unfolding written perform settled withChannels
-    end-made g i j e h = one-made Ends g e (rw (i, j) (one-settled tb (settled tb (stateOf b)) (length-threads b) (settled-again tb (stateOf b)) t h _))
+    unfolding written perform settled withChannels weighedAfter
+    end-made g i j e h =
+        one-made Ends g e (rw (i, j) (one-settled tb (settled tb (stateOf b)) (length-threads b) (settled-again tb (stateOf b)) t h _)) (λ x. refl)
 
     pub call-made : s₁ ≡ written tb (stateOf b) t Calls → l ≡ ownList tb (thread (stateOf b) t) → w ≡ bit (isWaiting (thread (stateOf b) t))
         → Counted tb (stateOf b) → t < maxThreads
         → MoveMade tb (stateOf b) t Calls s₂
-    unfolding written perform settled withChannels
-    call-made g i j e h = one-made Calls g e (rw (i, j) (one-settled tb (settled tb (stateOf b)) (length-threads b) (settled-again tb (stateOf b)) t h _))
+    unfolding written perform settled withChannels weighedAfter
+    call-made g i j e h =
+        one-made Calls g e (rw (i, j) (one-settled tb (settled tb (stateOf b)) (length-threads b) (settled-again tb (stateOf b)) t h _)) (λ x. refl)
 
   pub channel-made : (k c : ℕ) → s₂ ≡ settledNew tb s₁ t c l w → s₁ ≡ written tb (stateOf b) t (Creates k c) → l ≡ ownList tb (thread (stateOf b) t)
       → w ≡ bit (isWaiting (thread (stateOf b) t)) → Counted tb (stateOf b) → t < maxThreads → c < maxChannels → MoveMade tb (stateOf b) t (Creates k c) s₂
-  unfolding written perform settled withChannels
+  unfolding written perform settled withChannels weighedAfter
   channel-made k c f g i j e h n =
       let a = new-marked tb _ 1 _ t c _ _ (new-settled tb (settled tb (stateOf b)) (length-threads b) (settled-again tb (stateOf b)) t h _ c _ n) in
-      let (p, q) = new-kept tb (stateOf b) e t (Creates k c) c l w (rw (i, j) a) in
-      record { after = rw (f, g) p; counted = rw (f, g) q }
+      rw (f, g) (upkept tb (stateOf b) e t (Creates k c) (λ y. settledNew tb y t c l w) (λ chs q. new-alike tb _ chs q t c l w) (rw (i, j) a) (λ x. refl))
 
   module _ (u : ℕ) (l′ : List ℕ) (w′ : ℕ) (f : s₂ ≡ settledTwo tb s₁ t u l w l′ w′) where
     two-made : (m : Move) → s₁ ≡ written tb (stateOf b) t m → Counted tb (stateOf b)
-        → settledTwo tb (written tb (settled tb (stateOf b)) t m) t u l w l′ w′ ≡ perform tb (settled tb (stateOf b)) t m → MoveMade tb (stateOf b) t m s₂
-    two-made m g e a =
-        let (p, q) = two-kept tb (stateOf b) e t m u l w l′ w′ a in
-        record { after = rw (f, g) p; counted = rw (f, g) q }
+        → settledTwo tb (written tb (settled tb (stateOf b)) t m) t u l w l′ w′ ≡ perform tb (settled tb (stateOf b)) t m
+        → ((x : State) → weighedAfter tb (standsAt (thread (stateOf b) t)) t m x ≡ x) → MoveMade tb (stateOf b) t m s₂
+    two-made m g e a still = rw (f, g) (upkept tb (stateOf b) e t m (λ y. settledTwo tb y t u l w l′ w′) (λ chs q. two-alike tb _ chs q t u l w l′ w′) a still)
 
     pub child-made : (x : ℕ) → s₁ ≡ written tb (stateOf b) t (Spawns x u) → l ≡ ownList tb (thread (stateOf b) t) → w ≡ bit (isWaiting (thread (stateOf b) t))
         → l′ ≡ ownList tb (thread (stateOf b) u) → w′ ≡ bit (isWaiting (thread (stateOf b) u)) → Counted tb (stateOf b) → t < maxThreads → u < maxThreads
         → u ≢ t
         → MoveMade tb (stateOf b) t (Spawns x u) s₂
-    unfolding written spawnedBy perform settled withChannels
+    unfolding written spawnedBy perform settled withChannels weighedAfter
     child-made x g i j k n e h o z =
         let a = two-marked tb _ 0 _ t u _ _ _ _ (two-settled tb (settled tb (stateOf b)) (length-threads b) (settled-again tb (stateOf b)) t h _ u o z _) in
-        two-made (Spawns x u) g e (rw (i, j, k, n) a)
+        two-made (Spawns x u) g e (rw (i, j, k, n) a) (λ y. refl)
 
+    -- where it is no number that is given
     pub meeting-made : (x y : ℕ) → s₁ ≡ written tb (stateOf b) t (Meets x u y) → l ≡ ownList tb (thread (stateOf b) t)
         → w ≡ bit (isWaiting (thread (stateOf b) t))
-        → l′ ≡ ownList tb (thread (stateOf b) u) → w′ ≡ bit (isWaiting (thread (stateOf b) u)) → Counted tb (stateOf b) → t < maxThreads → u < maxThreads
-        → u ≢ t
+        → l′ ≡ ownList tb (thread (stateOf b) u) → w′ ≡ bit (isWaiting (thread (stateOf b) u)) → (n : ℕ) (r : Bool) → r ≡ numberBy tb n x → n ≡ standsAt (thread (stateOf b) t) → r ≡ false
+        → Counted tb (stateOf b) → t < maxThreads → u < maxThreads → u ≢ t
         → MoveMade tb (stateOf b) t (Meets x u y) s₂
-    unfolding written perform settled withChannels
-    meeting-made x y g i j k n e h o z =
-        two-made (Meets x u y) g e (rw (i, j, k, n) (two-settled tb (settled tb (stateOf b)) (length-threads b) (settled-again tb (stateOf b)) t h _ u o z _))
+    unfolding written perform settled withChannels weighedAfter
+    meeting-made x y g i j k q n r p v a e h o z =
+        two-made (Meets x u y) g e (rw (i, j, k, q) (two-settled tb (settled tb (stateOf b)) (length-threads b) (settled-again tb (stateOf b)) t h _ u o z _)) (λ whole. rw (← v, ← p, a))
 
 -- ---- a settled state is counted
 

@@ -1,20 +1,19 @@
--- Where the rows that a move writes hold what they held, no count of holders is to be moved: this is so after a tau, an assignment, a wait, and a meeting
--- at which a number is given. Assumes nothing but what the table grants.
+-- Where the rows that a move writes hold what they held, no count of holders is to be moved, and counts of waiting holders only for one row: this is so after
+-- a tau, an assignment, a wait, and a meeting at which a number is given. Assumes nothing but what the table grants.
 use Prim.Native.Nat.{ℕ, _<_}
-use mathlib.Core.Path.{_≡_, sym, _∙_, ap}
+use mathlib.Core.Path.{_≡_, refl, sym, _∙_, ap}
 use mathlib.Core.Logic.{_⊎_, inl, inr, _≢_}
 use mathlib.Core.List.{List}
 use mathlib.Core.Bool.{Bool, true}
-use lib.Dec.{eqb}
 use lib.ListN.{length}
-use borrow.Author.Tests.{eqb-true, eq-eqb}
+use borrow.Author.Tests.{eqb-true}
 use Rattle.numbers.specs.Rows.{at}
 use Rattle.table.specs.Fields as Field
 use Rattle.table.specs.Table.{Table, ports, carried}
 use Rattle.table.specs.Layout.{branchCount, definitionOf, slotType}
-use Rattle.state.specs.State.{maxThreads, State, stateOf, thread, standsAt, slotOf, inUse, isReady, typeIn, withThread, withChannels}
+use Rattle.state.specs.State.{maxThreads, minusOne, State, stateOf, thread, standsAt, inUse, isReady, typeIn, withThread, withChannels}
 use Rattle.state.specs.State.Laws.{length-threads, thread-other, threads-with}
-use Rattle.rules.specs.Program.{typeAt, branchAt, callee, argument, fieldB, actOf, opposite}
+use Rattle.rules.specs.Program.{typeAt, fieldB, actOf, opposite}
 use Rattle.rules.specs.Holding.{holds, settled}
 use Rattle.rules.specs.Offers.{partnerOf}
 use Rattle.rules.specs.Start.{entered}
@@ -36,20 +35,18 @@ use Rattle.rules_laws.specs.Decided.{spawns-other}
 use Rattle.rules_laws.specs.Chosen.{Open, Joining, Chosen, chosen, partner-answers}
 use Rattle.rules_laws.specs.Learnt.{port-number}
 use Rattle.rules_laws.specs.Meetings.{value-type}
-use Rattle.rules_laws.specs.Onward.{branching}
+use Rattle.rules_laws.specs.Onward.{branching, goneBy-ready, metBy-ready}
 use Rattle.rules_laws.specs.Reading.Laws.{ready-used, waiting-used}
 use Rattle.rules_laws.specs.Soundness.{RowSound, Sound}
+use Rattle.upkeep.specs.Shift.{rowWeighed}
+use Rattle.upkeep.specs.Upkeep.{row-kept, row-weighed}
 use Rattle.turns.specs.Counted.{Counted}
-use Rattle.turns.specs.Counted.Laws.{kept-counted, counted-start, written-settled}
+use Rattle.turns.specs.Counted.Laws.{kept-counted, written-settled}
 use Rattle.turns.specs.Running.{Running, MoveMade}
 use Rattle.turns.specs.HeldStill.{waiting-holds, resumed-holds, stored-holds, met-holds, call-holds}
-use Rattle.turns.specs.Keeping.{numberBy, CanMeet, AtPort}
-
--- the type ty of the slot k with which branch i, in row a of the table, gives or receives, read at node n
-number-read : (tb : Table) (row : List ℕ) (i n a k ty : ℕ) → ty ≡ typeAt tb n k → k ≡ at tb a Field.b → a ≡ branchAt tb n i → n ≡ standsAt row
-    → eqb ty 0 ≡ numberBy tb row i
-unfolding numberBy
-number-read tb row i n a k ty e f g h = rw (e, f, g, h)
+use Rattle.turns.specs.Keeping.{CanMeet, AtPort}
+use Rattle.turns.specs.Weights.{numberBy, weighedAfter}
+use Rattle.turns.specs.Weights.Laws.{weighs-less, weighs-more, weighs-same}
 
 -- ---- rows that hold what they held
 
@@ -89,58 +86,92 @@ module _ (tb : Table) (g : Granted tb) (s : State) (ok : Sound tb (settled tb s)
           value-type tb g ty (thread s u) (row-sound u (p .thread-in)) partner-used j (p .branch-in) (opposite (o .direction)) (p .does)
           ∙ ap (λ x. carried tb (ty x)) (p .is) ∙ sym (value-type tb g ty (thread s t) (row-sound t h) used i (o .takes .branch-in) (o .direction) (o .takes .does)) ∙ z
 
-      joined-counted : Counted tb s → length (s .threads) ≡ maxThreads → Counted tb (written tb s t (Meets i u j))
-      unfolding written
-      joined-counted e long =
-          let p = o .partner in
-          let v = valueBy tb (thread s u) j in
-          let w = valueBy tb (thread s t) i in
-          let row = metBy tb (thread s t) i v in
-          let kept = kept-counted tb s e long t h row (side-holds tb g _ (thread s t) (row-sound t h) used i (o .takes .branch-in) z v) in
-          let q : thread (withThread s t row) u ≡ thread s u = thread-other s t row u (p .other) in
-          kept-counted tb (withThread s t row) kept (threads-with s t row ∙ long) u (p .thread-in) (metBy tb (thread s u) j w)
-          (λ c. rw q (side-holds tb g _ (thread s u) (row-sound u (p .thread-in)) partner-used j (p .branch-in) partner-number w c))
+      -- their rows after it
+      abbrev ownMet : List ℕ
+      ownMet = metBy tb (thread s t) i (valueBy tb (thread s u) j)
+
+      abbrev partnerMet : List ℕ
+      partnerMet = metBy tb (thread s u) j (valueBy tb (thread s t) i)
+
+      own-holds : (c : ℕ) → holds tb ownMet c ≡ holds tb (thread s t) c
+      own-holds = side-holds tb g _ (thread s t) (row-sound t h) used i (o .takes .branch-in) z (valueBy tb (thread s u) j)
+
+      partner-stays : thread (withThread s t ownMet) u ≡ thread s u
+      partner-stays = thread-other s t ownMet u (o .partner .other)
+
+      partner-holds : (c : ℕ) → holds tb partnerMet c ≡ holds tb (thread (withThread s t ownMet) u) c
+      partner-holds c =
+          rw partner-stays
+          (side-holds tb g _ (thread s u) (row-sound u (o .partner .thread-in)) partner-used j (o .partner .branch-in) partner-number (valueBy tb (thread s t) i) c)
+
+      joined-made : length (s .threads) ≡ maxThreads → Counted tb s → numberBy tb (standsAt (thread s t)) i ≡ true
+          → MoveMade tb s t (Meets i u j) (written tb s t (Meets i u j))
+      unfolding written weighedAfter
+      joined-made long e y =
+          let still : length (withThread s t ownMet .threads) ≡ maxThreads = threads-with s t ownMet ∙ long in
+          record {
+            after = written-settled tb s e t (Meets i u j);
+            counted = kept-counted tb (withThread s t ownMet) (kept-counted tb s e long t h ownMet own-holds) still u (o .partner .thread-in) partnerMet partner-holds;
+            weights = λ whole. rw y
+                (row-weighed tb (withThread s t ownMet) still
+                (row-kept tb s long whole t h ownMet own-holds (weighs-same (thread s t) ownMet ready (metBy-ready tb (thread s t) i (valueBy tb (thread s u) j))))
+                u (o .partner .thread-in) partnerMet partner-holds minusOne
+                (rw partner-stays (weighs-less (thread s u) partnerMet (o .partner .waits) (metBy-ready tb (thread s u) j (valueBy tb (thread s t) i)))));
+          }
 
 -- ---- the code's ways out: s₁ after the writes
 
 module _ (tb : Table) (b : List ℕ) (t : ℕ) (s₁ : State) where
-  -- what a move wrote, where the rows hold what they held
-  wrote : Counted tb (stateOf b) → (m : Move) → s₁ ≡ written tb (stateOf b) t m → Counted tb (written tb (stateOf b) t m) → MoveMade tb (stateOf b) t m s₁
-  wrote e m f k = record { after = rw f (written-settled tb (stateOf b) e t m); counted = rw f k }
+  -- one row is written, which holds what it held
+  module _ (m : Move) (row : List ℕ) (f : s₁ ≡ withThread (stateOf b) t row) (d : written tb (stateOf b) t m ≡ withThread (stateOf b) t row)
+      (same : (c : ℕ) → holds tb row c ≡ holds tb (thread (stateOf b) t) c) (e : Counted tb (stateOf b)) (h : t < maxThreads) where
+    row-wrote : (settled tb (stateOf b) ≡ stateOf b → settled tb (withThread (stateOf b) t row) ≡ weighedAfter tb (standsAt (thread (stateOf b) t)) t m (withThread (stateOf b) t row))
+        → MoveMade tb (stateOf b) t m s₁
+    row-wrote w = rw f (record {
+      after = rw d at (written-settled tb (stateOf b) e t m);
+      counted = kept-counted tb (stateOf b) e (length-threads b) t h row same;
+      weights = w;
+    })
+
+    -- which is ready as it was
+    ready-wrote : ((x : State) → weighedAfter tb (standsAt (thread (stateOf b) t)) t m x ≡ x) → isReady (thread (stateOf b) t) ≡ true → isReady row ≡ true
+        → MoveMade tb (stateOf b) t m s₁
+    ready-wrote still r q =
+        row-wrote (λ whole. rw (still (withThread (stateOf b) t row))
+        (row-kept tb (stateOf b) (length-threads b) whole t h row same (weighs-same (thread (stateOf b) t) row r q)))
 
   pub call-keeps : (k : Bool) → s₁ ≡ written tb (stateOf b) t Calls → k ≡ callKeeps tb (thread (stateOf b) t) → k ≡ true → Counted tb (stateOf b)
       → t < maxThreads
       → isReady (thread (stateOf b) t) ≡ true → MoveMade tb (stateOf b) t Calls s₁
-  unfolding written
+  unfolding written weighedAfter entered
   call-keeps k f q y e h r =
-      wrote e Calls f (kept-counted tb (stateOf b) e (length-threads b) t h
-      (entered tb (callee tb (standsAt (thread (stateOf b) t))) (λ k. slotOf (thread (stateOf b) t) (argument tb (standsAt (thread (stateOf b) t)) k)))
-      (call-holds tb (thread (stateOf b) t) (ready-used (thread (stateOf b) t) r) (sym q ∙ y)))
+      ready-wrote Calls _ f refl (call-holds tb (thread (stateOf b) t) (ready-used (thread (stateOf b) t) r) (sym q ∙ y)) e h (λ x. refl) r refl
 
-  pub number-keeps : (i u j n a k ty : ℕ) → s₁ ≡ written tb (stateOf b) t (Meets i u j) → ty ≡ typeAt tb n k → k ≡ at tb a Field.b → a ≡ branchAt tb n i
-      → n ≡ standsAt (thread (stateOf b) t) → ty ≡ 0 → Counted tb (stateOf b) → CanMeet tb (stateOf b) t i u j → MoveMade tb (stateOf b) t (Meets i u j) s₁
-  number-keeps i u j n a k ty f q r p o y e can =
-      wrote e (Meets i u j) f (can .number-kept (sym (number-read tb (thread (stateOf b) t) i n a k ty q r p o) ∙ eq-eqb ty 0 y))
+  pub number-keeps : (i u j n : ℕ) (r : Bool) → s₁ ≡ written tb (stateOf b) t (Meets i u j) → r ≡ numberBy tb n i → n ≡ standsAt (thread (stateOf b) t) → r ≡ true
+      → CanMeet tb (stateOf b) t i u j → MoveMade tb (stateOf b) t (Meets i u j) s₁
+  number-keeps i u j n r f q o y can = rw f (can .number-made (rw (← o, ← q) y))
 
   -- a move m that was decided in a run
   module _ (m : Move) where
     pub waits-made : s₁ ≡ withThread (stateOf b) t (waitingRow (thread (stateOf b) t)) → m ≡ Waits → Counted tb (stateOf b) → t < maxThreads
         → isReady (thread (stateOf b) t) ≡ true
         → MoveMade tb (stateOf b) t m s₁
-    unfolding written
+    unfolding written weighedAfter waitingRow
     waits-made f n e h r =
-        rw n (wrote e Waits f (kept-counted tb (stateOf b) e (length-threads b) t h (waitingRow (thread (stateOf b) t)) (waiting-holds tb (thread (stateOf b) t) (ready-used (thread (stateOf b) t) r))))
+        let row = waitingRow (thread (stateOf b) t) in
+        let same = waiting-holds tb (thread (stateOf b) t) (ready-used (thread (stateOf b) t) r) in
+        rw n (row-wrote Waits row f refl same e h (λ whole. row-weighed tb (stateOf b) (length-threads b) whole t h row same 1 (weighs-more (thread (stateOf b) t) row r refl)))
 
     pub goes-made : (index : List ℕ) (i r v : ℕ) → s₁ ≡ withThread (stateOf b) t (goneStoring tb r v (thread (stateOf b) t)) → Carries tb r v (stateOf b) t m → m ≡ Goes i → m ≡ move tb (stateOf b) t → Running tb index (stateOf b)
         → t < maxThreads
         → isReady (thread (stateOf b) t) ≡ true → MoveMade tb (stateOf b) t m s₁
-    unfolding Chosen written
+    unfolding Chosen written weighedAfter
     goes-made index i x v f c n d run h r =
-        let g : s₁ ≡ written tb (stateOf b) t (Goes i) = f ∙ ap (withThread (stateOf b) t) (gone-storing tb x v (stateOf b) t i (goes-assigns tb x v (stateOf b) t i m c n)) in
+        let g : s₁ ≡ withThread (stateOf b) t (goneBy tb (thread (stateOf b) t) i) = f ∙ ap (withThread (stateOf b) t) (gone-storing tb x v (stateOf b) t i (goes-assigns tb x v (stateOf b) t i m c n)) in
         let q : move tb (stateOf b) t ≡ Goes i = sym d ∙ n in
         let o : Chosen tb (stateOf b) t (Goes i) = rw q at (chosen tb (stateOf b) t) in
-        rw n (wrote (run .counted) (Goes i) g
-        (kept-counted tb (stateOf b) (run .counted) (length-threads b) t h (goneBy tb (thread (stateOf b) t) i) (gone-holds tb (run .accepted) (stateOf b) (run .sound) t h r i o)))
+        rw n (ready-wrote (Goes i) (goneBy tb (thread (stateOf b) t) i) g refl (gone-holds tb (run .accepted) (stateOf b) (run .sound) t h r i o)
+        (run .counted) h (λ y. refl) r (goneBy-ready tb (thread (stateOf b) t) i))
 
 -- ---- what is known of threads that can meet
 
@@ -168,23 +199,23 @@ module _ (tb : Table) (b : List ℕ) (t : ℕ) (m : Move) (e : m ≡ move tb (st
         partner-in = o .partner .thread-in;
         other = o .partner .other;
         facing = (o .direction, o .takes .does, o .partner .does);
-        number-kept = λ y. joined-counted tb (run .accepted) (stateOf b) (run .sound) t h r i u j o (eqb-true _ 0 y) (run .counted) (length-threads b);
+        number-made = λ y. joined-made tb (run .accepted) (stateOf b) (run .sound) t h r i u j o (eqb-true _ 0 y) (length-threads b) (run .counted) y;
       }
 
--- ---- a thread that the bench meets: s₁ after the write, s₂ settled
+-- ---- a thread that the bench meets, which waited and is ready now: s₁ after the write, s₂ weighed
 
-module _ (tb : Table) (b : List ℕ) (u j v : ℕ) (s₁ : State) (f : s₁ ≡ withThread (stateOf b) u (metBy tb (thread (stateOf b) u) j v)) where
-  pub met-counted : u < maxThreads → Granted tb → Sound tb (stateOf b) → AtPort tb (stateOf b) u j → Counted tb s₁
-  unfolding AtPort
-  met-counted h g ok (d, port, l, e) =
+module _ (tb : Table) (b : List ℕ) (u j v : ℕ) (s₁ s₂ : State) where
+  pub met-made : s₂ ≡ rowWeighed tb s₁ u minusOne → s₁ ≡ withThread (stateOf b) u (metBy tb (thread (stateOf b) u) j v) → u < maxThreads → Granted tb
+      → Sound tb (stateOf b) → AtPort tb (stateOf b) u j
+      → s₂ ≡ metByBench tb (stateOf b) u j v
+  unfolding AtPort metByBench
+  met-made q f h g ok (d, port, l, e) =
       let a = partner-answers tb (stateOf b) bench d port u j e in
       let used = waiting-used (thread (stateOf b) u) (a .waits) in
-      rw f (kept-counted tb (stateOf b) (counted-start tb (stateOf b) (ok .counts)) (length-threads b) u h (metBy tb (thread (stateOf b) u) j v)
-      (side-holds tb g _ (thread (stateOf b) u) (ok .orderly .row u h) used j (a .branch-in) (port-number tb g (stateOf b) (ok .orderly) d port u j l a) v))
-
-  pub met-made : (s₂ : State) → s₂ ≡ settled tb s₁ → s₂ ≡ metByBench tb (stateOf b) u j v
-  unfolding metByBench
-  met-made s₂ q = q ∙ rw f
+      let row = metBy tb (thread (stateOf b) u) j v in
+      q ∙ rw f (sym (row-weighed tb (stateOf b) (length-threads b) (ok .counts) u h row
+      (side-holds tb g _ (thread (stateOf b) u) (ok .orderly .row u h) used j (a .branch-in) (port-number tb g (stateOf b) (ok .orderly) d port u j l a) v)
+      minusOne (weighs-less (thread (stateOf b) u) row (a .waits) (metBy-ready tb (thread (stateOf b) u) j v))))
 
 -- r is the number of ports, as it was read
 pub at-port : (tb : Table) (s : State) (d : Direction) (p u j r : ℕ) (x : Partner) → r ≡ ports tb → p < r → x ≡ partnerOf tb s bench d p → x ≡ At u j

@@ -1,11 +1,11 @@
 -- A run begins in a sound state, a turn of a ready thread keeps its invariant, and what the code leaves is the turn of the rules. Assumes nothing.
 use Prim.Native.Nat.{ℕ, _<_}
-use mathlib.Core.Path.{_≡_, _∙_}
+use mathlib.Core.Path.{_≡_, sym, _∙_}
 use mathlib.Core.Bool.{true}
 use mathlib.Core.List.{List}
 use Rattle.table.specs.Table.{Table}
 use Rattle.table.specs.Index.{Indexed}
-use Rattle.state.specs.State.{State, maxThreads, thread, isReady, withMark, withChannels}
+use Rattle.state.specs.State.{State, maxThreads, thread, standsAt, isReady, withMark, withChannels}
 use Rattle.rules.specs.Holding.{settled}
 use Rattle.rules.specs.Moves.{oneUp, move, written, perform}
 use Rattle.rules.specs.Calls.{turnBy}
@@ -22,6 +22,8 @@ use Rattle.turns.specs.Counted.{Counted}
 use Rattle.turns.specs.Counted.Laws.{counted-start, move-alike, written-settled}
 use Rattle.turns.specs.Made.Laws.{turn-ends, turn-sound}
 use Rattle.turns.specs.TopRaised.{raisedBy, turn-used}
+use Rattle.turns.specs.Weights.{weighedAfter}
+use Rattle.turns.specs.Weights.Laws.{weighed-mark}
 use Rattle.turns.specs.Running.{Running, MoveMade, TurnTaken}
 
 -- ---- a run begins
@@ -36,7 +38,7 @@ module _ (tb : Table) (index : List ℕ) (s : State) (run : Running tb index s) 
   unfolding settled withChannels
   running-apart = sound-apart tb (settled tb s) (run .sound)
 
-pub counted-mark : (tb : Table) (s s₁ : State) (i v : ℕ) → Counted tb s → s₁ ≡ withMark s i v → Counted tb s₁
+counted-mark : (tb : Table) (s s₁ : State) (i v : ℕ) → Counted tb s → s₁ ≡ withMark s i v → Counted tb s₁
 unfolding Counted settled withMark withChannels
 counted-mark tb s s₁ i v e f = rw f e
 
@@ -48,12 +50,12 @@ module _ (tb : Table) (s s₁ : State) (t : ℕ) (m : Move) where
 
 module _ (tb : Table) (s : State) (t : ℕ) (m : Move) (e : Counted tb s) where
   pub lacks-thread : m ≡ LacksThread → MoveMade tb s t m s
-  unfolding written
-  lacks-thread f = rw f (record { after = written-settled tb s e t LacksThread; counted = e })
+  unfolding written weighedAfter
+  lacks-thread f = rw f (record { after = written-settled tb s e t LacksThread; counted = e; weights = λ whole. whole })
 
   pub lacks-channel : m ≡ LacksChannel → MoveMade tb s t m s
-  unfolding written
-  lacks-channel f = rw f (record { after = written-settled tb s e t LacksChannel; counted = e })
+  unfolding written weighedAfter
+  lacks-channel f = rw f (record { after = written-settled tb s e t LacksChannel; counted = e; weights = λ whole. whole })
 
 -- ---- a turn: s₁ after the move, s₂ with the turn moved on
 
@@ -85,4 +87,5 @@ module _ (tb : Table) (index : List ℕ) (s : State) (t top : ℕ) (m : Move) (s
     decided = same-move;
     running = record { accepted = run .accepted; indexed = run .indexed; counted = counted-mark tb s₁ s₂ 2 v (a .counted) f; sound = still-sound };
     used = still-used;
+    weights = λ whole. rw f (settled-mark tb s₁ 2 v ∙ rw (a .weights whole) (sym (weighed-mark tb (standsAt (thread s t)) t s₁ 2 v m)));
   }

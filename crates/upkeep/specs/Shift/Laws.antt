@@ -97,6 +97,10 @@ leave-row ty N W n w u r e f g h j =
     let b : (W + (0 + (4294967296 - bit u)) % 4294967296) % 4294967296 ≡ w = omega (arith, bit-le u) in
     rw (q, a, b)
 
+weigh-sums : (n w W dw : ℕ) (u v : Bool) → sum (bit v) dw ≡ bit u → W + bit v ≡ w + bit u → n < 1000 → w < 1000 → (sum n 0 ≡ n) × (sum w dw ≡ W)
+unfolding sum
+weigh-sums n w W dw u v e f h j = (omega arith, omega (arith, bit-le u, bit-le v))
+
 bit-both : (u h : Bool) → h ≡ true → bit (u && h) ≡ bit u
 bit-both true h e = rw e
 bit-both false h e = refl
@@ -119,6 +123,10 @@ entering tb row chs = shiftTo (ownList tb row) 1 (bit (isWaiting row)) chs (ownR
 
 abbrev pub leaving : Table → List ℕ → List (List ℕ) → List (List ℕ)
 leaving tb row chs = shiftTo (ownList tb row) minusOne (difference 0 (bit (isWaiting row))) chs rowSlots
+
+-- and once it adds dw more to the counts of waiting holders
+abbrev pub weighing : Table → List ℕ → ℕ → List (List ℕ) → List (List ℕ)
+weighing tb row dw chs = shiftTo (ownList tb row) 0 dw chs (ownRoom tb row)
 
 -- no count comes near the end of the 32-bit numbers
 abbrev pub Low : (ℕ → ℕ) → (ℕ → ℕ) → Type 0
@@ -152,6 +160,25 @@ module _ (chs : List (List ℕ)) (ty n w : ℕ → ℕ) where
         let q : (w c + 0) % 4294967296 ≡ w c = omega arith in
         shift-same chs x 0 0 c (omega arith) y ∙ rw (raw c h, p, q))
         (λ z. shift-other chs x 0 0 c z ∙ raw c h ∙ free-row (ty c) (n c) (w c) (free c h z)),
+  )
+
+  -- a row in place of one that held the same and waited where v is true adds dw more to the counts of waiting holders
+  pub weigh-law : (tb : Table) (row : List ℕ) (dw : ℕ) (v : Bool) (N W : ℕ → ℕ) → sum (bit v) dw ≡ bit (isWaiting row) → Raw chs ty n w → Low n w
+      → ((c : ℕ) → c < maxChannels → n c ≡ 0 → (ty c ≡ 0) × (w c ≡ 0))
+      → ((c : ℕ) → c < maxChannels → (N c ≡ n c) × (W c + bit (v && holds tb row c) ≡ w c + bit (isWaiting row && holds tb row c)))
+      → Settled (weighing tb row dw chs) ty N W
+  unfolding bit
+  weigh-law tb row dw v N W e (long, raw) low free more = (
+    length-shiftTo tb row 0 dw chs long (ownRoom tb row),
+    λ c h.
+        let (a, b) = low c h in let (p, q) = more c h in
+        room-shifted tb row 0 dw chs long c h ∙ rw (raw c h, p) (caseB (holds tb row c)
+        (λ y. let q′ : W c + bit v ≡ w c + bit (isWaiting row) = rw (bit-both v (holds tb row c) y, bit-both (isWaiting row) (holds tb row c) y) at q in
+        let (x, k) = weigh-sums (n c) (w c) (W c) dw (isWaiting row) v e q′ a b in
+        rw (y, x, k))
+        (λ z. let q′ : W c + 0 ≡ w c + 0 = rw (bit-neither v (holds tb row c) z, bit-neither (isWaiting row) (holds tb row c) z) at q in
+        let same : W c ≡ w c = omega arith in
+        rw (z, same) (free-row (ty c) (n c) (w c) (free c h)))),
   )
 
   pub leave-law : (tb : Table) (row : List ℕ) (N W : ℕ → ℕ) → Settled chs ty N W

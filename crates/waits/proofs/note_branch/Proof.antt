@@ -1,6 +1,6 @@
 use borrow.Author.Needs.{needs}
 use Rattle.rules.specs.Program.{same}
-use Rattle.waits.proofs.Ways.{silent, offering}
+use Rattle.waits.proofs.Ways.{meeting, alone}
 use Rattle.waits.proofs.note_branch.Statement.{statement}
 use Rattle.waits.proofs.note_branch.Tie as tie
 
@@ -10,18 +10,18 @@ note-branch-spec =
     tie.close
     (tie.spec
     (λ c κs. search needs)
-    (λ c κs. search needs)
-    (λ c κs. search needs)
-    (λ c κs. search needs)
     (λ c. search needs)
-    (λ c. search needs)
+    (λ c κs. search needs)
+    (λ c κs. search needs)
     (λ c κs. search needs)
     (λ c. search needs)
     (λ c κs. search needs)
     (λ c. search needs)
     (λ c κs. search needs)
     (λ c. search needs)
-    (λ c. (search offering, (search offering, search offering)))
+    (λ c. (search meeting, (search meeting, search meeting)))
     (λ c. search needs)
-    (λ c. (search offering, (search offering, search offering)))
-    (λ c. (search silent, (search silent, search silent))))
+    (λ c. (search meeting, (search meeting, search meeting)))
+    (λ c. (search meeting, (search meeting, search meeting)))
+    (λ c κs. search needs)
+    (λ c. (search alone, (search alone, search alone))))

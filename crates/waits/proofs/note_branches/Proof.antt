@@ -11,17 +11,17 @@ use Rattle.table.specs.Table.{tableOf}
 use Rattle.state.specs.State.{stateOf, maxChannels}
 use Rattle.rules.specs.declared.Direction.the-variants.{Out, In}
 use Rattle.waits.specs.Waits.{branchHeld, whoTo}
-use Rattle.waits.proofs.Ways.{branches-none, branches-more, branches-all, held-all, held-not}
+use Rattle.waits.proofs.Ways.{branches-none, branches-more, branches-all, row-held, held-all, held-not}
 use Rattle.waits.proofs.note_branches.Statement.{statement}
 use Rattle.waits.proofs.note_branches.Tie as tie
 
 abbrev Inv-loop : tie.InvT-loop
-Inv-loop table index state t n senders₀ receivers₀ count i₀ senders receivers i =
+Inv-loop table index state t n senders₀ receivers₀ count from i₀ senders receivers i =
     (i ≤ count) × (length senders ≡ length senders₀) × (length receivers ≡ length receivers₀) × (every (branchHeld (tableOf table) (stateOf state) t) i ≡ true)
     × (senders ≡ tabulate maxChannels (whoTo (tableOf table) (stateOf state) Out t i)) × (receivers ≡ tabulate maxChannels (whoTo (tableOf table) (stateOf state) In t i))
 
 abbrev μ-loop : tie.MeasureT-loop
-μ-loop table index state t n senders₀ receivers₀ count i₀ senders receivers i = count - i
+μ-loop table index state t n senders₀ receivers₀ count from i₀ senders receivers i = count - i
 
 pub note-branches-spec : {M : Type 1} → statement M
 note-branches-spec =
@@ -30,14 +30,18 @@ note-branches-spec =
     Inv-loop
     μ-loop
     (λ c κs. search needs)
+    (λ c κs. search needs)
+    (λ c κs. search needs)
     (λ c. (search needs, search needs, search needs, search every-none, search branches-none, search branches-none))
+    (λ c. search needs)
+    (λ c. search needs)
     (λ c κs. search needs)
     (λ c. search needs)
     (λ c. search needs)
-    (λ c. (search (held-not, not-true), (λ e. contra e refl, λ e. contra e refl)))
+    (λ c. (search (held-not, row-held, not-true), (λ e. contra e refl, λ e. contra e refl)))
     (λ c. search needs)
     (λ c. search needs)
-    (λ c. (search needs, search needs, search needs, search (every-more, not-false), search branches-more, search branches-more))
+    (λ c. (search needs, search needs, search needs, search (every-more, row-held, not-false), search branches-more, search branches-more))
     (λ c. search needs)
     (λ c. search needs)
     (λ c. (search held-all, (λ e. search branches-all, λ e. search branches-all))))

@@ -18,7 +18,7 @@ use Rattle.state.specs.State.{State, maxChannels, thread, standsAt, slotOf, isW
 use Rattle.rules.specs.Program.{branchAt, fieldA, actOf, guardHolds}
 use Rattle.rules.specs.Offers.{meets?, offersIn, offersAt, offers}
 use Rattle.rules.specs.declared.Direction.{Direction}
-use Rattle.waits.specs.Waits.{noted, noteOf, offerNoted, branchNoted, who, whoTo}
+use Rattle.waits.specs.Waits.{noted, noteOf, offerNoted, who, whoTo}
 
 -- a thread is noted once
 noted-again : (m t : ℕ) → noted (noted m t) t ≡ noted m t
@@ -77,14 +77,14 @@ module _ (tb : Table) (s : State) (d : Direction) (t : ℕ) where
     entry : (c : ℕ) → c < maxChannels → getD l c 0 ≡ whoTo tb s d t i c
     entry c h = ap (λ m. getD m c 0) e ∙ getD-tabulate 128 c (whoTo tb s d t i) 0 h
 
-    length-noted : length (branchNoted tb s d t i l) ≡ maxChannels
-    unfolding branchNoted offerNoted
+    length-noted : length (offerNoted tb (thread s t) d (line i) t l) ≡ maxChannels
+    unfolding offerNoted
     length-noted = caseB (isOpen i)
         (λ y. rw y (length-set l (channelAt i) (noted (getD l (channelAt i) 0) t) ∙ long))
         (λ n. rw n long)
 
-    entry-noted : (c : ℕ) → c < maxChannels → getD (branchNoted tb s d t i l) c 0 ≡ whoTo tb s d t (suc i) c
-    unfolding branchNoted offerNoted
+    entry-noted : (c : ℕ) → c < maxChannels → getD (offerNoted tb (thread s t) d (line i) t l) c 0 ≡ whoTo tb s d t (suc i) c
+    unfolding offerNoted
     entry-noted c h = caseB (isOpen i)
         (λ y. rw y (caseB (eqb (channelAt i) c)
         (λ z. let q : channelAt i ≡ c = eqb-true (channelAt i) c z in
@@ -93,8 +93,8 @@ module _ (tb : Table) (s : State) (d : Direction) (t : ℕ) where
         ∙ (entry c h ∙ sym (whoTo-same i c (open-offer i c y ∙ z))))))
         (λ n. rw n (entry c h ∙ sym (whoTo-same i c (shut-offer i c n))))
 
-    pub branch-noted : (m : List ℕ) → m ≡ branchNoted tb s d t i l → m ≡ tabulate maxChannels (whoTo tb s d t (i + 1))
-    branch-noted m f = rw (f, add-one i) (is-tabulate (branchNoted tb s d t i l) 128 (whoTo tb s d t (suc i)) 0 length-noted entry-noted)
+    pub branch-noted : (m : List ℕ) → m ≡ offerNoted tb (thread s t) d (line i) t l → m ≡ tabulate maxChannels (whoTo tb s d t (i + 1))
+    branch-noted m f = rw (f, add-one i) (is-tabulate (offerNoted tb (thread s t) d (line i) t l) 128 (whoTo tb s d t (suc i)) 0 length-noted entry-noted)
 
   -- no branch, and all branches
   pub no-branch-noted : tabulate maxChannels (who tb s d t) ≡ tabulate maxChannels (whoTo tb s d t 0)

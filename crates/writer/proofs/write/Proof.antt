@@ -9,6 +9,7 @@ write-spec =
     (tie.spec
     (λ c. search answers)
     (λ c. search needs)
+    (λ c. search needs)
     (λ c κs. search needs)
     (λ c. search answers)
     (λ c κs. search needs)

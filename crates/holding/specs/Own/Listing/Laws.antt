@@ -13,18 +13,23 @@ use Rattle.numbers.specs.Search.Laws.{caseB, some-cong, some-zero, some-suc, is
 use Rattle.table.specs.Table.{Table, slotRow, slotCount}
 use Rattle.table.specs.Layout.{start, definitionOf, slotType}
 use Rattle.table.specs.declared.Part.the-variants.{Slots}
-use Rattle.state.specs.State.{standsAt, slotOf, maxChannels, rowSlots}
+use Rattle.state.specs.State.{standsAt, slotOf, inUse, maxChannels, rowSlots}
 use Rattle.rules.specs.Program.{channelSlot}
 use Rattle.rules.specs.Holding.{hasAt}
-use Rattle.holding.specs.Own.{ownOf, ownList, ownRoom, holdsTo}
+use Rattle.holding.specs.Own.{ownOf, ownList, ownRoom, typesOf, holdsTo}
 use Rattle.holding.specs.Own.Laws.{room-used, room-le, own-past, holds-none, own-suc}
-use Rattle.holding.specs.Own.Listing.{listed, ownBy, listedTo}
+use Rattle.holding.specs.Own.Listing.{listed, channelBy, ownBy, listedTo}
 
--- the same tests in another order: v is what a slot has, p what the list says of it, and b whether a slot before has it
-same-tests : (v : ℕ) (number p b : Bool) → (v < maxChannels → p ≡ b)
-    → cond (ltb v maxChannels) (cond number maxChannels (cond p maxChannels v)) maxChannels ≡ cond (not number) (cond (ltb v maxChannels) (cond b maxChannels v) maxChannels) maxChannels
-same-tests v true p b e = caseB (ltb v 128) (λ y. rw y) (λ z. rw z)
-same-tests v false p b e = caseB (ltb v 128) (λ y. rw (y, e (ltb-true v 128 y))) (λ z. rw z)
+-- the same tests in another order: v is what a slot has, p what is said of it, and b whether a slot before has it
+same-tests : (v : ℕ) (number p b : Bool) → (number ≡ false → v < maxChannels → p ≡ b)
+    → cond p maxChannels (cond (ltb v maxChannels) (cond number maxChannels v) maxChannels) ≡ cond (not number) (cond (ltb v maxChannels) (cond b maxChannels v) maxChannels) maxChannels
+same-tests v true true b e = refl
+same-tests v true false b e = caseB (ltb v 128) (λ y. rw y) (λ z. rw z)
+same-tests v false p b e = caseB (ltb v 128) (λ y. rw (y, e refl (ltb-true v 128 y))) (λ z. rw z (both p))
+  where
+    both : (p : Bool) → _≡_ {A = ℕ} (cond p maxChannels maxChannels) maxChannels
+    both true = refl
+    both false = refl
 
 full-at : (n k : ℕ) → k < n → _≡_ {A = ℕ} (getD (replicate n maxChannels) k 0) maxChannels
 full-at zero k h = absurd (omega arith)
@@ -37,17 +42,27 @@ module _ (tb : Table) (row : List ℕ) where
   met-holds c zero h = some-zero (λ i. eqb (ownOf tb row i) c) ∙ sym (holds-none tb row c h)
   met-holds c (suc k) h = rw (some-suc (λ i. eqb (ownOf tb row i) c) k, own-suc tb row c h k, met-holds c k h)
 
-  module _ (from : ℕ) (e : from ≡ slotRow tb + start tb Slots (definitionOf tb (standsAt row))) where
-    -- one entry more, of a list that has the own channels of the slots before
-    own-is : (l : List ℕ) (k : ℕ) → k < ownRoom tb row → ((i : ℕ) → i < k → getD l i 0 ≡ ownOf tb row i) → ownBy tb from row l k ≡ ownOf tb row k
-    unfolding ownBy ownOf channelSlot holdsTo listed
-    own-is l k h before =
+  module _ (from : ℕ) (e : inUse row ≡ true → from ≡ typesOf tb row) where
+    -- the channel in a slot, where p says whether a slot before has it
+    pub own-first : (k : ℕ) (p : Bool) → k < ownRoom tb row
+        → (channelBy tb from row k < maxChannels → p ≡ holdsTo tb row (channelBy tb from row k) k)
+        → cond p maxChannels (channelBy tb from row k) ≡ ownOf tb row k
+    unfolding channelBy ownOf channelSlot holdsTo typesOf
+    own-first k p h f =
         let d = definitionOf tb (standsAt row) in
         let place : slotRow tb + start tb Slots d + k ≡ slotRow tb + (start tb Slots d + k) = omega arith in
         let (u, i) = room-used tb row k h in
-        rw (e, place, u, lt-ltb k (slotCount tb d) i)
-        (same-tests (slotOf row k) (eqb (slotType tb d k) 0) (listed l k (slotOf row k)) (some (hasAt tb row (slotOf row k)) k)
-        (λ g. some-cong (λ i. eqb (getD l i 0) (slotOf row k)) (λ i. eqb (ownOf tb row i) (slotOf row k)) k (λ i j. rw (before i j)) ∙ met-holds (slotOf row k) k g ∙ rw u))
+        rw (e u, place, u, lt-ltb k (slotCount tb d) i)
+        (same-tests (slotOf row k) (eqb (slotType tb d k) 0) p (some (hasAt tb row (slotOf row k)) k)
+        (λ n g. let q : channelBy tb from row k ≡ slotOf row k = rw (e u, place, n, lt-ltb (slotOf row k) 128 g) in (rw (q, u) at f) g))
+
+    -- one entry more, of a list that has the own channels of the slots before
+    own-is : (l : List ℕ) (k : ℕ) → k < ownRoom tb row → ((i : ℕ) → i < k → getD l i 0 ≡ ownOf tb row i) → ownBy tb from row l k ≡ ownOf tb row k
+    unfolding ownBy listed
+    own-is l k h before =
+        let c = channelBy tb from row k in
+        own-first k (listed l k c) h
+        (λ g. some-cong (λ i. eqb (getD l i 0) c) (λ i. eqb (ownOf tb row i) c) k (λ i j. rw (before i j)) ∙ met-holds c k g)
 
     length-listedTo : (l : List ℕ) (k : ℕ) → length (listedTo tb from row l k) ≡ length l
     unfolding listedTo
