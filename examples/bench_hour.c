@@ -1,10 +1,15 @@
 /*
  * An hour at the bench, from a program's side: bench_hour FILE, with the procedure in units.txt.
  *
- * The bench gives the numbers of units at port 0. For each unit the procedure starts a tester, a
- * thread of its own, which asks for a reading and waits until the bench takes it at port 1. Units
- * from 100 on get no reading: their testers wait for good, until a collection takes them away and
- * the bench pulls the units. A number below 0 tells the procedure that there are no more.
+ * The bench gives the numbers of units at port 0, and each goes into the coil. For each unit the
+ * procedure starts a tester, a thread of its own, which asks for a reading and waits until the bench
+ * takes it at port 1. Units from 100 on get no reading: their testers wait for good, until a
+ * collection takes them away and the bench pulls the units. A number below 0 tells the procedure that
+ * there are no more.
+ *
+ * Two people sit at the bench. The trainee runs the procedure and takes readings, and must not feed
+ * the coil; that, and the collections, are for the leader. A list of rights says so, and the engine
+ * keeps to it: what the trainee may not do is refused, and the trainee hears nothing else.
  *
  * Shows each call, what its answers mean and what a bench does about them. Status: 0 all went
  * well; 1 the file was refused; 2 it could not be read, or this program has made a mistake.
@@ -20,12 +25,17 @@
 #define READINGS_OUT 1
 #define STEPS_AT_ONCE 1000
 
+/* The seats that are in use. */
+enum { LEADER = 0, TRAINEE = 1 };
+static const char *const people[] = {"leader", "trainee"};
+
 /* Where a tester waits for its reading, and the slot in which it has the number of its unit. */
 #define AT_READING 12
 #define UNIT 2
 
 static uint8_t table[PITHREAD_TABLE_BYTES];
 static uint8_t state[PITHREAD_STATE_BYTES];
+static uint8_t rights[PITHREAD_RIGHTS_BYTES];
 
 /* Grounds 1 to 7: the file's author has to mend the line that is named. */
 static const char *const file_faults[] = {
@@ -39,15 +49,26 @@ static const char *const file_faults[] = {
     "no path leads to this node",
 };
 
-/* Grounds 8 to 12 are mistakes of the calling program; with what it can do about each. Nothing was
- * changed, so it may go on. */
-static const char *const mistakes[] = {
-    "a buffer has the wrong length: hand over all of it",
-    "the table is not what loading wrote: load the file again, the state stays good",
-    "the state does not belong to the table, or was damaged: take up a copy of it, or start again",
-    "the thread is not ready, or there is none of this number: look at its row first",
-    "there is no such port: the file's header says how many there are",
-};
+/* Grounds 8 to 12 and 18 are mistakes of the calling program; with what it can do about each. Nothing
+ * was changed, so it may go on. Null for the other grounds. */
+static const char *mistake(int32_t refusal) {
+    switch (refusal) {
+    case PITHREAD_BUFFER_LENGTH:
+        return "a buffer has the wrong length: hand over all of it";
+    case PITHREAD_TABLE:
+        return "the table is not what loading wrote: load the file again, the state stays good";
+    case PITHREAD_RIGHTS:
+        return "the list of rights has a number outside 0 to 3, be it of another seat: lay the shop's list in again";
+    case PITHREAD_STATE:
+        return "the state does not belong to the table, or was damaged: take up a copy of it, or start again";
+    case PITHREAD_THREAD:
+        return "the thread is not ready, or there is none of this number: look at its row first";
+    case PITHREAD_PORT:
+        return "there is no such port: the file's header says how many there are";
+    default:
+        return NULL;
+    }
+}
 
 /* Reads up to `most` bytes. Answers 1, or 0 if the file cannot be read. */
 static int read_procedure(const char *path, uint8_t *bytes, size_t most, size_t *length) {
@@ -61,21 +82,69 @@ static int read_procedure(const char *path, uint8_t *bytes, size_t most, size_t 
     return read;
 }
 
-static int is_mistake(int32_t refusal) {
-    return refusal >= PITHREAD_BUFFER_LENGTH && refusal <= PITHREAD_PORT;
-}
-
 static void report_mistake(FILE *to, const char *call, int32_t refusal) {
-    fprintf(to, "%s: refused, ground %" PRId32 ": %s\n", call, refusal,
-            mistakes[refusal - PITHREAD_BUFFER_LENGTH]);
+    fprintf(to, "%s: refused, ground %" PRId32 ": %s\n", call, refusal, mistake(refusal));
 }
 
 /* This program stops where it does not expect a mistake. */
 static void stop_if_mistaken(const char *call, int32_t refusal) {
-    if (is_mistake(refusal)) {
+    if (mistake(refusal) != NULL) {
         report_mistake(stderr, call, refusal);
         exit(2);
     }
+}
+
+/* Says who called. Ground 19 is no mistake of the program: the person at the seat hears that it is for
+ * another to do, and the program does not go on as if it had been done. Answers 1 if it was refused
+ * so. */
+static int is_denied(const char *call, uint32_t seat, int32_t refusal) {
+    printf("%s by the %s: ", call, people[seat]);
+    if (refusal != PITHREAD_SEAT) {
+        return 0;
+    }
+    printf("refused, ground %" PRId32 ": this seat has not the right, ask the leader\n", refusal);
+    return 1;
+}
+
+/* A word of a state or of a list of rights: four bytes, the lowest first. */
+static int32_t word_at(const uint8_t *bytes, size_t place) {
+    uint32_t bits = 0;
+    for (size_t byte = 4; byte > 0; byte--) {
+        bits = bits << 8 | bytes[4 * place + byte - 1];
+    }
+    return (int32_t)bits;
+}
+
+static size_t place_of_right(uint32_t seat, uint32_t number) {
+    return PITHREAD_SEAT_NUMBERS * (size_t)seat + number;
+}
+
+static void set_right(uint32_t seat, uint32_t number, int32_t right) {
+    uint8_t *bytes = rights + 4 * place_of_right(seat, number);
+    for (size_t byte = 0; byte < 4; byte++) {
+        bytes[byte] = (uint8_t)((uint32_t)right >> 8 * byte);
+    }
+}
+
+static void show_rights(uint32_t seat) {
+    printf("rights of the %s:", people[seat]);
+    for (uint32_t number = 0; number < PITHREAD_SEAT_NUMBERS; number++) {
+        printf(" %" PRId32, word_at(rights, place_of_right(seat, number)));
+    }
+    printf("\n");
+}
+
+/* What the shop allows; docs/SEATS.md has it as a table. All other numbers are 0: the six seats that
+ * nobody sits at have no right. */
+static void lay_in_rights(void) {
+    memset(rights, 0, sizeof rights);
+    set_right(LEADER, UNITS_IN, PITHREAD_MAY_GIVE);
+    set_right(LEADER, READINGS_OUT, PITHREAD_MAY_TAKE);
+    set_right(LEADER, PITHREAD_BENCH_RIGHT, PITHREAD_BOTH_RIGHTS);
+    set_right(TRAINEE, READINGS_OUT, PITHREAD_MAY_TAKE);
+    set_right(TRAINEE, PITHREAD_BENCH_RIGHT, PITHREAD_MAY_STEP);
+    show_rights(LEADER);
+    show_rights(TRAINEE);
 }
 
 static void load(const char *path) {
@@ -102,35 +171,42 @@ static void start(void) {
     printf("start: thread 0 is ready\n");
 }
 
-static pithread_ran run(void) {
-    pithread_ran ran = pithread_run(table, sizeof table, state, sizeof state, STEPS_AT_ONCE);
+static pithread_ran run(uint32_t seat) {
+    pithread_ran ran = pithread_run(table, sizeof table, state, sizeof state, rights, sizeof rights, seat,
+                                    STEPS_AT_ONCE);
     stop_if_mistaken("run", ran.refusal);
     return ran;
 }
 
-static pithread_given give(int32_t number) {
-    pithread_given given = pithread_give(table, sizeof table, state, sizeof state, UNITS_IN, number);
+static pithread_given give(uint32_t seat, int32_t number) {
+    pithread_given given = pithread_give(table, sizeof table, state, sizeof state, rights, sizeof rights, seat,
+                                         UNITS_IN, number);
     stop_if_mistaken("give", given.refusal);
     return given;
 }
 
-static pithread_taken take(void) {
-    pithread_taken taken = pithread_take(table, sizeof table, state, sizeof state, READINGS_OUT);
+static pithread_taken take(uint32_t seat) {
+    pithread_taken taken = pithread_take(table, sizeof table, state, sizeof state, rights, sizeof rights, seat,
+                                         READINGS_OUT);
     stop_if_mistaken("take", taken.refusal);
     return taken;
 }
 
 /* One step of one thread. Grounds 13 and 14 are no mistakes: the thread stays as it is until a row
  * comes free, and the bench steps others in the meantime. */
-static void show_step(uint32_t thread) {
+static void show_step(uint32_t seat, uint32_t thread) {
     static const char *const acts[] = {"ended", "called", "waits", "took a branch"};
-    pithread_stepped stepped = pithread_step(table, sizeof table, state, sizeof state, thread);
+    pithread_stepped stepped =
+        pithread_step(table, sizeof table, state, sizeof state, rights, sizeof rights, seat, thread);
     stop_if_mistaken("step", stepped.refusal);
-    if (stepped.refusal != PITHREAD_DONE) {
-        printf("step: thread %" PRIu32 " lacks a row, ground %" PRId32 "\n", thread, stepped.refusal);
+    if (is_denied("step", seat, stepped.refusal)) {
         return;
     }
-    printf("step: thread %" PRIu32 " at node %" PRId32 " %s", thread, stepped.node, acts[stepped.act]);
+    if (stepped.refusal != PITHREAD_DONE) {
+        printf("thread %" PRIu32 " lacks a row, ground %" PRId32 "\n", thread, stepped.refusal);
+        return;
+    }
+    printf("thread %" PRIu32 " at node %" PRId32 " %s", thread, stepped.node, acts[stepped.act]);
     if (stepped.partner != PITHREAD_NOBODY) {
         printf(", with thread %" PRId32, stepped.partner);
     }
@@ -138,9 +214,12 @@ static void show_step(uint32_t thread) {
 }
 
 /* The reason says what comes next. */
-static void show_run(void) {
-    pithread_ran ran = run();
-    printf("run: %" PRId32 " steps; ", ran.steps);
+static void show_run(uint32_t seat) {
+    pithread_ran ran = run(seat);
+    if (is_denied("run", seat, ran.refusal)) {
+        return;
+    }
+    printf("%" PRId32 " steps; ", ran.steps);
     switch (ran.reason) {
     case PITHREAD_ALL_STEPS:
         printf("there may be more to do, run again\n");
@@ -158,31 +237,28 @@ static void show_run(void) {
 }
 
 /* A number that nobody receives stays with the bench, which gives it again later. */
-static void show_give(int32_t number) {
-    pithread_given given = give(number);
+static void show_give(uint32_t seat, int32_t number) {
+    pithread_given given = give(seat, number);
+    if (is_denied("give", seat, given.refusal)) {
+        return;
+    }
     if (given.thread == PITHREAD_NOBODY) {
-        printf("give: nobody receives %" PRId32 " now\n", number);
+        printf("nobody receives %" PRId32 " now\n", number);
     } else {
-        printf("give: thread %" PRId32 " received %" PRId32 "\n", given.thread, number);
+        printf("thread %" PRId32 " received %" PRId32 "\n", given.thread, number);
     }
 }
 
-static void show_take(void) {
-    pithread_taken taken = take();
+static void show_take(uint32_t seat) {
+    pithread_taken taken = take(seat);
+    if (is_denied("take", seat, taken.refusal)) {
+        return;
+    }
     if (taken.thread == PITHREAD_NOBODY) {
-        printf("take: nobody sends a reading now\n");
+        printf("nobody sends a reading now\n");
     } else {
-        printf("take: thread %" PRId32 " sent %" PRId32 "\n", taken.thread, taken.number);
+        printf("thread %" PRId32 " sent %" PRId32 "\n", taken.thread, taken.number);
     }
-}
-
-/* A word of a state: four bytes, the lowest first. */
-static int32_t word_at(const uint8_t *bytes, size_t place) {
-    uint32_t bits = 0;
-    for (size_t byte = 4; byte > 0; byte--) {
-        bits = bits << 8 | bytes[4 * place + byte - 1];
-    }
-    return (int32_t)bits;
 }
 
 /* A word of a thread's row. */
@@ -192,12 +268,16 @@ static int32_t thread_word(const uint8_t *bytes, size_t thread, size_t word) {
 
 /* Threads that can never move again are taken away. Which ones, and at what they waited, is seen in
  * a copy of the state from before: the testers among them show the units that have to be pulled. */
-static void show_collect(void) {
+static void show_collect(uint32_t seat) {
     static uint8_t before[PITHREAD_STATE_BYTES];
     memcpy(before, state, sizeof before);
-    pithread_collected collected = pithread_collect(table, sizeof table, state, sizeof state);
+    pithread_collected collected =
+        pithread_collect(table, sizeof table, state, sizeof state, rights, sizeof rights, seat);
     stop_if_mistaken("collect", collected.refusal);
-    printf("collect: %" PRId32 " threads taken; units to pull:", collected.threads);
+    if (is_denied("collect", seat, collected.refusal)) {
+        return;
+    }
+    printf("%" PRId32 " threads taken; units to pull:", collected.threads);
     int units = 0;
     for (size_t thread = 0; thread < PITHREAD_THREADS; thread++) {
         int waited = thread_word(before, thread, PITHREAD_THREAD_STATUS) == PITHREAD_WAITING;
@@ -225,28 +305,43 @@ static void show_state(void) {
 /* One unit, after the first steps by which the procedure comes to receive it. */
 static void one_unit(void) {
     printf("\none unit:\n");
-    show_step(0);
-    show_step(0);
-    show_take();
-    show_run();
-    show_give(21);
-    show_run();
+    show_step(TRAINEE, 0);
+    show_step(TRAINEE, 0);
+    show_take(TRAINEE);
+    show_run(TRAINEE);
+    show_give(LEADER, 21);
+    show_run(TRAINEE);
     show_state();
-    show_take();
-    show_run();
+    show_take(TRAINEE);
+    show_run(TRAINEE);
 }
 
 /* One unit without a reading. That nobody sends one now does not say that nobody ever will; that the
- * collection takes the tester does. */
+ * collection takes the tester does. The trainee may neither feed the unit to the coil nor collect: both
+ * are refused and change nothing, and the leader does them. */
 static void one_unit_to_pull(void) {
     printf("\none unit to pull:\n");
-    show_give(130);
-    show_collect();
-    show_run();
-    show_take();
+    show_give(TRAINEE, 130);
+    show_give(LEADER, 130);
+    show_collect(LEADER);
+    show_run(TRAINEE);
+    show_take(TRAINEE);
     show_state();
-    show_collect();
+    show_collect(TRAINEE);
     show_state();
+    show_collect(LEADER);
+    show_state();
+}
+
+/* Gives a unit and runs. Answers 1 if a thread received it and no thread is ready any more. The refusals
+ * are looked at first: of a call that is refused the other numbers say nothing. */
+static int feed(int32_t unit) {
+    pithread_given given = give(LEADER, unit);
+    if (given.refusal != PITHREAD_DONE || given.thread == PITHREAD_NOBODY) {
+        return 0;
+    }
+    pithread_ran ran = run(TRAINEE);
+    return ran.refusal == PITHREAD_DONE && ran.reason == PITHREAD_NONE_READY;
 }
 
 /* Gives until a thread lacks a row: the testers keep their rows while nobody takes their readings,
@@ -254,46 +349,50 @@ static void one_unit_to_pull(void) {
 static void many_units(void) {
     int32_t unit = 121;
     printf("\nmany units:\n");
-    while (give(unit).thread != PITHREAD_NOBODY && run().reason == PITHREAD_NONE_READY) {
+    while (feed(unit)) {
         unit--;
     }
     printf("unit %" PRId32 " found no row\n", unit);
-    show_run();
+    show_run(TRAINEE);
     show_state();
-    show_give(unit - 1);
-    show_step(0);
-    show_take();
-    show_run();
-    show_give(unit - 1);
-    show_run();
-    show_collect();
-    show_run();
+    show_give(LEADER, unit - 1);
+    show_step(TRAINEE, 0);
+    show_take(TRAINEE);
+    show_run(TRAINEE);
+    show_give(LEADER, unit - 1);
+    show_run(TRAINEE);
+    show_collect(LEADER);
+    show_run(TRAINEE);
 }
 
 static void all_readings(void) {
     int readings = 0;
     int64_t sum = 0;
     printf("\nall readings:\n");
-    for (pithread_taken taken = take(); taken.thread != PITHREAD_NOBODY; taken = take()) {
+    pithread_taken taken = take(TRAINEE);
+    while (taken.refusal == PITHREAD_DONE && taken.thread != PITHREAD_NOBODY) {
         readings++;
         sum += taken.number;
-        run();
+        run(TRAINEE);
+        taken = take(TRAINEE);
     }
     printf("%d readings, their sum is %" PRId64 "\n", readings, sum);
     show_state();
 }
 
-/* A collection with a mistake in it, made on purpose. */
+/* A collection by the leader with a mistake in it, made on purpose. */
 static void show_mistake(size_t state_bytes) {
-    pithread_collected collected = pithread_collect(table, sizeof table, state, state_bytes);
-    if (is_mistake(collected.refusal)) {
+    pithread_collected collected =
+        pithread_collect(table, sizeof table, state, state_bytes, rights, sizeof rights, LEADER);
+    if (mistake(collected.refusal) != NULL) {
         report_mistake(stdout, "collect", collected.refusal);
     } else {
         printf("collect: done, though it should be refused\n");
     }
 }
 
-/* A buffer handed over in part, a table overwritten, a state overwritten; each is made good. */
+/* A buffer handed over in part, a table, a list of rights and a state overwritten; each is made good.
+ * The seat is looked at ahead of the state: the trainee does not hear that this one is damaged. */
 static void mistakes_made_good(const char *path) {
     static uint8_t copy[PITHREAD_STATE_BYTES];
     printf("\nmistakes:\n");
@@ -302,10 +401,14 @@ static void mistakes_made_good(const char *path) {
     memset(table, 0, sizeof table / 2);
     show_mistake(sizeof state);
     load(path);
+    set_right(TRAINEE, UNITS_IN, PITHREAD_BOTH_RIGHTS + 1);
+    show_mistake(sizeof state);
+    lay_in_rights();
     memset(state, 0, sizeof state / 2);
     show_mistake(sizeof state);
+    show_collect(TRAINEE);
     memcpy(state, copy, sizeof state);
-    show_collect();
+    show_collect(LEADER);
 }
 
 int main(int count, char **words) {
@@ -314,6 +417,7 @@ int main(int count, char **words) {
         return 2;
     }
     load(words[1]);
+    lay_in_rights();
     start();
     one_unit();
     one_unit_to_pull();
@@ -321,9 +425,9 @@ int main(int count, char **words) {
     all_readings();
     mistakes_made_good(words[1]);
     printf("\nthe end:\n");
-    show_give(-1);
-    show_run();
-    show_collect();
+    show_give(LEADER, -1);
+    show_run(TRAINEE);
+    show_collect(LEADER);
     show_state();
     return 0;
 }

@@ -7,6 +7,10 @@
  * and handed over again. pithread_write makes the procedure file of a table again, and
  * pithread_profile tells of a table whether its threads can come to lack a thread row.
  *
+ * A bench has eight seats, 0 to 7. Each step, give, take, run and collection names the seat that
+ * calls, and hands over a list of rights that says what every seat may do. The list is the caller's
+ * too: plain bytes, only read, and kept by no call, so that the next one may bring another.
+ *
  * What a caller owes. A buffer is a pointer and its length in bytes. The pointer is not null, not
  * even for a length of 0, and so many bytes behind it may be read and, unless they are const,
  * written. The buffers of one call do not overlap, and nobody else writes to them while it runs.
@@ -19,7 +23,8 @@
  * Every call answers a struct whose first number is 0 if the call was done, or else the number of
  * the ground on which it was refused. A refused call changes no buffer, and the other numbers of
  * its answer are 0, except that a load names a line. If several grounds apply, the answer is the
- * lowest of them.
+ * lowest of them, except that 18 and 19 come ahead of 10: what is wrong with the rights or the seat
+ * is answered before anything is told of the state.
  */
 #ifndef PITHREAD_H
 #define PITHREAD_H
@@ -36,6 +41,7 @@ extern "C" {
 #define PITHREAD_MOST_FILE_BYTES 63145
 #define PITHREAD_TABLE_BYTES 20760
 #define PITHREAD_STATE_BYTES 6156
+#define PITHREAD_RIGHTS_BYTES 288
 
 /*
  * The words of a state, for a program that shows one. A word is a signed number of 32 bits, its
@@ -81,7 +87,35 @@ enum {
     PITHREAD_WAITING = 2
 };
 
-/* Grounds of a refusal, in the order in which they are tested. */
+/*
+ * The numbers of a list of rights, for a program that writes one. They are words like those of a
+ * state: number w of the list has the bytes 4 * w to 4 * w + 3, the lowest first. Each seat has
+ * PITHREAD_SEAT_NUMBERS of them, one seat behind the other, so that number k of seat s is number
+ * PITHREAD_SEAT_NUMBERS * s + k of the list.
+ *
+ * Numbers 0 to 7 of a seat say what it may do on the port of that number, whether the file has this
+ * port or not: nothing, take, give or both. Number 8, the last, says what it may do with the bench as
+ * a whole: nothing, step and run, collect or both. No seat has a right on a port above 7.
+ */
+#define PITHREAD_SEATS 8
+#define PITHREAD_PORTS 8 /* the most that a file may have; as many numbers of a seat are for ports */
+#define PITHREAD_SEAT_NUMBERS 9
+#define PITHREAD_BENCH_RIGHT 8 /* the place of the last number among those of its seat */
+
+/* What a number of the list may be. Any other is ground 18. */
+enum {
+    PITHREAD_NO_RIGHT = 0,
+    /* For a port. */
+    PITHREAD_MAY_TAKE = 1,
+    PITHREAD_MAY_GIVE = 2,
+    /* For the last number of a seat; the first of the two is the right to run too. */
+    PITHREAD_MAY_STEP = 1,
+    PITHREAD_MAY_COLLECT = 2,
+    /* For each of the nine: the two that it can have, together. */
+    PITHREAD_BOTH_RIGHTS = 3
+};
+
+/* Grounds of a refusal, in the order in which they are tested: 18 and 19 stand between 9 and 10. */
 enum {
     PITHREAD_DONE = 0,
 
@@ -102,12 +136,18 @@ enum {
     /* No path leads to a node. */
     PITHREAD_UNREACHABLE = 7,
 
-    /* Faults of the program that calls: 8 to 12. */
+    /* Faults of the program that calls: 8 to 12; and, from the calls that name a seat, faults of the
+     * list of rights, 18, and of the seat, 19. */
 
     /* A buffer has the wrong length. */
     PITHREAD_BUFFER_LENGTH = 8,
     /* No procedure file has this table: it was not written by pithread_load, or changed since. */
     PITHREAD_TABLE = 9,
+    /* A number of the list of rights is outside 0 to 3, be it one of the calling seat or not. */
+    PITHREAD_RIGHTS = 18,
+    /* There is no such seat, or it has not the right to this call. On a port above 7 no seat has one,
+     * whatever the list says. */
+    PITHREAD_SEAT = 19,
     /* The state is not a sound one for this table: say, pithread_start never wrote it, it belongs
      * to another table, or something other than these calls changed it. Not every such state is
      * found out: one of zeros has no thread, and is sound for a file without ports. */
@@ -192,7 +232,7 @@ typedef struct {
 
 /* The answer of pithread_step. */
 typedef struct {
-    int32_t refusal; /* 0, a ground from 8 to 11, 13 or 14 */
+    int32_t refusal; /* 0, a ground from 8 to 11, 13, 14, 18 or 19 */
     int32_t node;    /* where the thread stood before the step, counted from 0 over the whole file */
     int32_t act;     /* what the step did: PITHREAD_ENDED to PITHREAD_BRANCH */
     int32_t branch;  /* the branch taken, counted from 0 in its choice; 0 for the other acts */
@@ -201,20 +241,20 @@ typedef struct {
 
 /* The answer of pithread_give. */
 typedef struct {
-    int32_t refusal; /* 0, a ground from 8 to 10, or 12 */
+    int32_t refusal; /* 0, a ground from 8 to 10, 12, 18 or 19 */
     int32_t thread;  /* the thread that received the number, or PITHREAD_NOBODY */
 } pithread_given;
 
 /* The answer of pithread_take. */
 typedef struct {
-    int32_t refusal; /* 0, a ground from 8 to 10, or 12 */
+    int32_t refusal; /* 0, a ground from 8 to 10, 12, 18 or 19 */
     int32_t thread;  /* the thread that sent the number, or PITHREAD_NOBODY */
     int32_t number;  /* the number that it sent; 0 with PITHREAD_NOBODY */
 } pithread_taken;
 
 /* The answer of pithread_run. */
 typedef struct {
-    int32_t refusal; /* 0, or a ground from 8 to 10 */
+    int32_t refusal; /* 0, a ground from 8 to 10, 18 or 19 */
     int32_t steps;   /* how many steps were made */
     int32_t reason;  /* why there were no more: PITHREAD_ALL_STEPS to PITHREAD_LACKED_CHANNEL_ROW */
     int32_t thread;  /* for the last two reasons the thread that lacked a row; else PITHREAD_NOBODY */
@@ -222,7 +262,7 @@ typedef struct {
 
 /* The answer of pithread_collect. */
 typedef struct {
-    int32_t refusal; /* 0, or a ground from 8 to 10 */
+    int32_t refusal; /* 0, a ground from 8 to 10, 18 or 19 */
     int32_t threads; /* how many threads were taken */
 } pithread_collected;
 
@@ -255,8 +295,8 @@ pithread_written pithread_write(const uint8_t *table, size_t table_len, uint8_t 
 /*
  * Tells before anything is started whether a procedure keeps to the rental-shop profile. If so, its
  * threads never come to lack a row: from a start on, whatever steps, runs, gives, takes and
- * collections are called, no step is refused on ground 13, no run ends for want of a thread row, and
- * there are never more threads than the bound that is answered.
+ * collections are called, by whatever seats, no step is refused on ground 13, no run ends for want of
+ * a thread row, and there are never more threads than the bound that is answered.
  *
  * Every call of the table has to go to a definition of a higher number, or to its own where no branch
  * of that one is a spawn; ground 16 says that one does not, even if no thread can come to it. And the
@@ -274,18 +314,29 @@ pithread_profiled pithread_profile(const uint8_t *table, size_t table_len);
 
 /*
  * All calls below take a table of PITHREAD_TABLE_BYTES bytes, as pithread_load wrote it, and a state
- * of PITHREAD_STATE_BYTES bytes; all but pithread_start take it as an earlier call left it. They
- * only read the table.
+ * of PITHREAD_STATE_BYTES bytes. They only read the table.
  */
 
 /*
  * Writes the state in which one thread, number 0, stands ready at the first node of the file, with
- * the ports in its parameters. What was in the state buffer before is not read.
+ * the ports in its parameters. What was in the state buffer before is not read. A start names no
+ * seat: who may start anew is for the caller to say.
  */
 pithread_started pithread_start(const uint8_t *table, size_t table_len, uint8_t *state, size_t state_len);
 
 /*
- * Lets one ready thread make one step.
+ * All calls below take the state as an earlier call left it, then a list of rights of
+ * PITHREAD_RIGHTS_BYTES bytes, which they only read, and the seat that calls. Each call names the
+ * right that the seat has to have.
+ *
+ * A seat without it learns nothing of the state: the call is refused on ground 19 whatever bytes the
+ * state has, and whatever thread, number or n is asked for, so that two benches which differ in their
+ * states alone are the same to that seat. With the right, every call is what it would be if there
+ * were no seats.
+ */
+
+/*
+ * Lets one ready thread make one step. The seat has to have PITHREAD_MAY_STEP.
  *
  * At a choice the first branch that can go ahead is taken. A send or receive can if another thread
  * waits with the opposite offer on the same channel; of several such threads the one with the
@@ -294,42 +345,51 @@ pithread_started pithread_start(const uint8_t *table, size_t table_len, uint8_t 
  * but without a free row the step is refused (ground 13 or 14); no later branch is tried.
  */
 pithread_stepped pithread_step(const uint8_t *table, size_t table_len, uint8_t *state, size_t state_len,
-                               uint32_t thread);
+                               const uint8_t *rights, size_t rights_len, uint32_t seat, uint32_t thread);
 
 /*
  * Gives a number to the thread that waits to receive on a port; of several, to the one with the
  * lowest number, through its first such branch. It goes on as ready. If there is none, nothing
- * changes.
+ * changes. The seat has to have PITHREAD_MAY_GIVE for this port.
+ *
+ * A port that no file has, one above 7, is ground 19; one that this file does not have is ground 12
+ * for a seat that has the right.
  */
 pithread_given pithread_give(const uint8_t *table, size_t table_len, uint8_t *state, size_t state_len,
+                             const uint8_t *rights, size_t rights_len, uint32_t seat,
                              uint32_t port, int32_t number);
 
 /*
  * Takes a number from the thread that waits to send on a port; of several, from the one with the
  * lowest number, through its first such branch. It goes on as ready. If there is none, nothing
- * changes.
+ * changes. The seat has to have PITHREAD_MAY_TAKE for this port; ports that are not there are refused
+ * as by a give.
  */
 pithread_taken pithread_take(const uint8_t *table, size_t table_len, uint8_t *state, size_t state_len,
-                             uint32_t port);
+                             const uint8_t *rights, size_t rights_len, uint32_t seat, uint32_t port);
 
 /*
  * Makes up to n steps. Each is a step of the first ready thread from the turn upward, after thread
- * 63 going on with thread 0, and the turn moves to the row behind it.
+ * 63 going on with thread 0, and the turn moves to the row behind it. The seat has to have
+ * PITHREAD_MAY_STEP, for no step too.
  *
  * A thread that lacks a row ends the run; that is no refusal. The steps made before it stay, the
  * thread stays as it is, and the turn moves past it, so that the next run begins with the others.
  *
  * n has sixteen bits. C cuts a larger number to them without a word: 65,536 asks for no step.
  */
-pithread_ran pithread_run(const uint8_t *table, size_t table_len, uint8_t *state, size_t state_len, uint16_t n);
+pithread_ran pithread_run(const uint8_t *table, size_t table_len, uint8_t *state, size_t state_len,
+                          const uint8_t *rights, size_t rights_len, uint32_t seat, uint16_t n);
 
 /*
  * Takes away every thread that can never move again, whatever calls may follow: each waits, and
  * nobody who may still move has a channel on which it offers anything. The bench counts as one who
- * has the ports and may move. Rows of such threads become free, and so do channels that nobody has
- * any more. The turn and the rows at which searches begin stay.
+ * has the ports and may move, whatever rights its seats have. Rows of such threads become free, and so
+ * do channels that nobody has any more. The turn and the rows at which searches begin stay. The seat
+ * has to have PITHREAD_MAY_COLLECT.
  */
-pithread_collected pithread_collect(const uint8_t *table, size_t table_len, uint8_t *state, size_t state_len);
+pithread_collected pithread_collect(const uint8_t *table, size_t table_len, uint8_t *state, size_t state_len,
+                                    const uint8_t *rights, size_t rights_len, uint32_t seat);
 
 #ifdef __cplusplus
 }

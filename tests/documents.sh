@@ -2,8 +2,9 @@
 # What the documents say of files. The names that docs/RULES.md gives are there: a definition or a wrong
 # answer in the file that is linked before it, a function in the crate before its colons (or, without
 # colons, in some crate). The procedure files that docs/PROCEDURES.md and examples/README.md show are those in
-# examples. docs/architecture.svg has the arrows of crates.txt, and docs/ARCHITECTURE.md says of each
-# crate what it is.
+# examples. The list of rights in docs/SEATS.md has the bytes that stand there, and what it shows of the example
+# program is what that prints. docs/architecture.svg has the arrows of crates.txt, and docs/ARCHITECTURE.md says of
+# each crate what it is.
 set -euo pipefail
 root=$(cd "$(dirname "$0")/.." && pwd)
 source "$root/tests/counted.sh"
@@ -126,6 +127,24 @@ shows() {
     [ "$all" -eq 0 ] && [ "$count" -ge "$2" ]
 }
 
+# The list of rights that docs/SEATS.md shows, made and printed by the commands that stand there: 288 bytes, and
+# the lines that are shown.
+rights_hold() {
+    local folder=$scratch/rights
+    mkdir "$folder"
+    awk '/^```rights$/ { on = 1; next } /^```/ { on = 0 } on' docs/SEATS.md >"$folder/rights.txt"
+    sed -nE 's/^    ((for|od) .*)$/\1/p' docs/SEATS.md >"$folder/commands"
+    sed -nE 's/^    ([0-9]{7}.*)$/\1/p' docs/SEATS.md >"$folder/shown"
+    (cd "$folder" && bash -e commands >printed) && [ "$(wc -c <"$folder/rights.bin")" -eq 288 ] &&
+        diff "$folder/shown" "$folder/printed"
+}
+
+# What docs/SEATS.md shows of the hour at the bench is what it prints.
+hour_holds() {
+    sed -nE 's/^    ((give|take|run|step|collect) by .*)$/\1/p' docs/SEATS.md >"$scratch/hour"
+    [ -s "$scratch/hour" ] && [ "$(grep -cxFf "$scratch/hour" examples/bench_hour.out)" -eq "$(wc -l <"$scratch/hour")" ]
+}
+
 # The arrows of crates.txt between crates of ours, and those of the picture: who uses, and what is used.
 arrows_listed() {
     awk -F: '!/^#/ { ours[$1]; list[$1] = $2 }
@@ -169,4 +188,6 @@ check "docs/ARCHITECTURE.md says what each crate is" crates_told
 check "docs/PROCEDURES.md shows files as they are" shows docs/PROCEDURES.md 19
 check "docs/PROCEDURES.md has the command for short lines" grep -qF "awk '$columns'" docs/PROCEDURES.md
 check "examples/README.md shows files as they are" shows examples/README.md 7
+check "docs/SEATS.md has the bytes of its list" rights_hold
+check "docs/SEATS.md shows the hour at the bench as it is" hour_holds
 close_checks

@@ -55,27 +55,28 @@ still_proved() {
     grep -q "^fn driver::$1: proved" "$log"
 }
 
-both='(now (table .entry)) (now (state .entry))'
+all='(now (table .entry)) (now (state .entry)) (now (rights .entry)) seat'
 
-# Other calls than those asked for.
-change "≡ giveResult $both port number" "≡ giveResult $both 0 number"
-change 'engine::give(table, state, port, ' 'engine::give(table, state, 0, '
-change "≡ takeResult $both port" "≡ takeResult $both 0"
-change 'engine::take(table, state, port)' 'engine::take(table, state, 0)'
-change "≡ runResult $both n" "≡ runResult $both 1"
-change 'engine::run(table, state, n)' 'engine::run(table, state, 1)'
+# Other calls than those asked for: a give at another port, a take for another seat, a run of another length.
+change "≡ giveResult $all port number" "≡ giveResult $all 0 number"
+change 'engine::give(table, state, rights, seat, port, ' 'engine::give(table, state, rights, seat, 0, '
+change "≡ takeResult $all port" "≡ takeResult ${all% seat} 0 port"
+change 'engine::take(table, state, rights, seat, port)' 'engine::take(table, state, rights, 0, port)'
+change "≡ runResult $all n" "≡ runResult $all 1"
+change 'engine::run(table, state, rights, seat, n)' 'engine::run(table, state, rights, seat, 1)'
 
 # A step that answers what it should and then goes on: the contract says nothing of the state.
-change "result r (now (state .exit)) ≡ stepResult $both thread" "r ≡ stepResult $both thread .answer"
-change '    interface::step_numbers(engine::step(table, state, thread))' \
-    '    let answer = interface::step_numbers(engine::step(table, state, thread));
-    engine::run(table, state, 1);
+change "result r (now (state .exit)) ≡ stepResult $all thread" "r ≡ stepResult $all thread .answer"
+change '    interface::step_numbers(engine::step(table, state, rights, seat, thread))' \
+    '    let answer = interface::step_numbers(engine::step(table, state, rights, seat, thread));
+    engine::run(table, state, rights, seat, 1);
     answer'
 cat >"$proofs/pithread_step/Proof.antt" <<'PROOF'
 use Prim.Native.Nat.{ℕ}
 use mathlib.Core.Path.{_≡_, ap}
 use mathlib.Core.List.{List}
-use Rattle.rules.specs.Calls.{Outcome, outcome, stepCall}
+use Rattle.rules.specs.Calls.{Outcome, outcome}
+use Rattle.rules.specs.Seats.{seatedStep}
 use Rattle.rules.specs.declared.Stepped.{Stepped}
 use Rattle.interface.specs.Interface.{stepNumbers, stepResult, inNumbers}
 use Rattle.interface.specs.declared.StepAnswer.{StepAnswer}
@@ -83,9 +84,10 @@ use borrow.Author.Needs.{needs}
 use Rattle.pithread.proofs.pithread_step.Statement.{statement}
 use Rattle.pithread.proofs.pithread_step.Tie as tie
 
-told : (table b b₁ : List ℕ) (t : ℕ) (a : Stepped) (r : StepAnswer) → outcome a b₁ ≡ stepCall table b t → r ≡ stepNumbers a → r ≡ stepResult table b t .answer
+told : (table b rights b₁ : List ℕ) (seat t : ℕ) (a : Stepped) (r : StepAnswer) → outcome a b₁ ≡ seatedStep table b rights seat t → r ≡ stepNumbers a
+    → r ≡ stepResult table b rights seat t .answer
 unfolding stepResult inNumbers
-told table b b₁ t a r e f = rw f (ap (λ (x : Outcome Stepped). stepNumbers (x .answer)) e)
+told table b rights b₁ seat t a r e f = rw f (ap (λ (x : Outcome Stepped). stepNumbers (x .answer)) e)
 
 pub pithread-step-spec : {M : Type 1} → statement M
 pithread-step-spec =
@@ -99,25 +101,25 @@ pithread-step-spec =
 PROOF
 
 # A collection that always says that it took nobody: the contract says nothing of the answer.
-change "λ r. ⌜ result r (now (state .exit)) ≡ collectResult $both" "λ _. ⌜ now (state .exit) ≡ collectResult $both .state"
-change '    interface::collect_numbers(collector::collect(table, state))' \
-    '    collector::collect(table, state);
+change "λ r. ⌜ result r (now (state .exit)) ≡ collectResult $all" "λ _. ⌜ now (state .exit) ≡ collectResult $all .state"
+change '    interface::collect_numbers(collector::collect(table, state, rights, seat))' \
+    '    collector::collect(table, state, rights, seat);
     interface::collect_numbers(collector::Collected::Done(0))'
 cat >"$proofs/pithread_collect/Proof.antt" <<'PROOF'
 use Prim.Native.Nat.{ℕ}
 use mathlib.Core.Path.{_≡_, ap}
 use mathlib.Core.List.{List}
 use Rattle.rules.specs.Calls.{Outcome, outcome}
-use Rattle.collector.specs.Collect.{collectCall}
+use Rattle.collector.specs.Collect.{seatedCollect}
 use Rattle.collector.specs.declared.Collected.{Collected}
 use Rattle.interface.specs.Interface.{collectResult, inNumbers}
 use borrow.Author.Needs.{needs}
 use Rattle.pithread.proofs.pithread_collect.Statement.{statement}
 use Rattle.pithread.proofs.pithread_collect.Tie as tie
 
-left : (table b b₁ : List ℕ) (a : Collected) → outcome a b₁ ≡ collectCall table b → b₁ ≡ collectResult table b .state
+left : (table b rights b₁ : List ℕ) (seat : ℕ) (a : Collected) → outcome a b₁ ≡ seatedCollect table b rights seat → b₁ ≡ collectResult table b rights seat .state
 unfolding collectResult inNumbers
-left table b b₁ a e = ap (λ (x : Outcome Collected). x .state) e
+left table b rights b₁ seat a e = ap (λ (x : Outcome Collected). x .state) e
 
 pub pithread-collect-spec : {M : Type 1} → statement M
 pithread-collect-spec =

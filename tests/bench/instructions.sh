@@ -3,7 +3,9 @@
 # difference is printed, so that what comes before and after the calls does not count; the copy of the state, some hundred
 # instructions, does. Needs valgrind, and the archive that `rt staticlib pithread` writes.
 #
-# judge: a step of thread 64, which is refused once table and state have been judged; run_none: a run of no steps.
+# table: a write into no bytes, which is refused once the table has been judged; refuse: a step of a seat without the
+# right, which is refused behind the table and the list of rights; judge: a step of thread 64, which is refused once
+# table, rights and state have been judged; run_none: a run of no steps.
 set -euo pipefail
 root=$(cd "$(dirname "$0")/../.." && pwd)
 cargo build --quiet --manifest-path "$root/tests/Cargo.toml" --release --offline -p bench
@@ -23,14 +25,22 @@ printf '%-12s %-9s %10s %10s\n' state call archive reference
 while read -r state call; do
     printf '%-12s %-9s %10d %10d\n' "$state" "$call" "$(one archive "$state" "$call")" "$(one reference "$state" "$call")"
 done <<CALLS
+alone table
+alone refuse
 alone judge
 alone step
+largest table
+largest refuse
 largest judge
 largest step
+chain table
+chain refuse
 chain judge
 chain run_none
 chain collect
 chain_last step
+clique table
+clique refuse
 clique judge
 clique run_none
 clique collect

@@ -34,6 +34,8 @@ bench *opened_on(const char *name, uint8_t *table) {
     pithread_started started = pithread_start(b->table, PITHREAD_TABLE_BYTES, b->state, PITHREAD_STATE_BYTES);
     check(started.refusal == PITHREAD_DONE, name);
     b->wanted = copied(b->state, PITHREAD_STATE_BYTES);
+    b->rights = same_rights(PITHREAD_BOTH_RIGHTS);
+    b->granted = same_rights(PITHREAD_BOTH_RIGHTS);
     return b;
 }
 
@@ -42,21 +44,9 @@ void closed(bench *b) {
     free(b->loaded);
     free(b->state);
     free(b->wanted);
+    free(b->rights);
+    free(b->granted);
     free(b);
-}
-
-int32_t word_at(const uint8_t *state, size_t place) {
-    uint32_t bits = 0;
-    for (size_t byte = 4; byte > 0; byte--) {
-        bits = bits << 8 | state[4 * place + byte - 1];
-    }
-    return (int32_t)bits;
-}
-
-void put_word(uint8_t *state, size_t place, int32_t value) {
-    for (size_t byte = 0; byte < 4; byte++) {
-        state[4 * place + byte] = (uint8_t)((uint32_t)value >> 8 * byte);
-    }
 }
 
 void want_word(bench *b, size_t place, int32_t value) {
@@ -89,10 +79,20 @@ void adopt(bench *b) {
     memcpy(b->wanted, b->state, PITHREAD_STATE_BYTES);
 }
 
-static buffers buffers_of(const bench *b, uint8_t *state) {
-    buffers with = {b->table, PITHREAD_TABLE_BYTES, state, PITHREAD_STATE_BYTES};
+buffers lent(const bench *b, const uint8_t *table, size_t table_length, uint8_t *state, size_t state_length) {
+    buffers with = {table, table_length, state, state_length, b->rights, PITHREAD_RIGHTS_BYTES,
+                    (uint32_t)b->calls % PITHREAD_SEATS};
     return with;
 }
+
+buffers buffers_of(const bench *b, uint8_t *state) {
+    return lent(b, b->table, PITHREAD_TABLE_BYTES, state, PITHREAD_STATE_BYTES);
+}
+
+/* What every call that names a seat has first. */
+#define SEATED(with)                                                                                       \
+    (with).table, (with).table_length, (with).state, (with).state_length, (with).rights, (with).rights_length, \
+        (with).seat
 
 static answer ask_whole(int call, buffers with) {
     if (call == START) {
@@ -100,29 +100,25 @@ static answer ask_whole(int call, buffers with) {
             pithread_start(with.table, with.table_length, with.state, with.state_length);
         return (answer){{started.refusal}};
     }
-    pithread_collected collected =
-        pithread_collect(with.table, with.table_length, with.state, with.state_length);
+    pithread_collected collected = pithread_collect(SEATED(with));
     return (answer){{collected.refusal, collected.threads}};
 }
 
 static answer ask_steps(int call, buffers with, uint32_t number) {
     if (call == STEP) {
-        pithread_stepped stepped =
-            pithread_step(with.table, with.table_length, with.state, with.state_length, number);
+        pithread_stepped stepped = pithread_step(SEATED(with), number);
         return (answer){{stepped.refusal, stepped.node, stepped.act, stepped.branch, stepped.partner}};
     }
-    pithread_ran ran =
-        pithread_run(with.table, with.table_length, with.state, with.state_length, (uint16_t)number);
+    pithread_ran ran = pithread_run(SEATED(with), (uint16_t)number);
     return (answer){{ran.refusal, ran.steps, ran.reason, ran.thread}};
 }
 
 static answer ask_port(int call, buffers with, uint32_t port, int32_t number) {
     if (call == GIVE) {
-        pithread_given given =
-            pithread_give(with.table, with.table_length, with.state, with.state_length, port, number);
+        pithread_given given = pithread_give(SEATED(with), port, number);
         return (answer){{given.refusal, given.thread}};
     }
-    pithread_taken taken = pithread_take(with.table, with.table_length, with.state, with.state_length, port);
+    pithread_taken taken = pithread_take(SEATED(with), port);
     return (answer){{taken.refusal, taken.thread, taken.number}};
 }
 
@@ -165,6 +161,7 @@ static void expect(bench *b, int call, uint32_t number, int32_t value, answer wa
     check_answer(b->name, names[call], number, ask(call, buffers_of(b, b->state), number, value), wanted);
     check_state(b);
     check(memcmp(b->table, b->loaded, PITHREAD_TABLE_BYTES) == 0, b->name);
+    check(memcmp(b->rights, b->granted, PITHREAD_RIGHTS_BYTES) == 0, b->name);
 }
 
 void step_takes(bench *b, uint32_t thread, int node, int branch, int partner) {
@@ -219,11 +216,14 @@ void settle(bench *b) {
 void expect_refused(const char *name, int call, buffers with, uint32_t number, int ground) {
     uint8_t *table = copied(with.table, with.table_length);
     uint8_t *state = copied(with.state, with.state_length);
+    uint8_t *rights = copied(with.rights, with.rights_length);
     check_answer(name, names[call], number, ask(call, with, number, 5), (answer){{ground}});
     check(memcmp(table, with.table, with.table_length) == 0, name);
     check(memcmp(state, with.state, with.state_length) == 0, name);
+    check(memcmp(rights, with.rights, with.rights_length) == 0, name);
     free(table);
     free(state);
+    free(rights);
 }
 
 static uint8_t *edited(const bench *b, const edit *edits, size_t count) {
@@ -235,7 +235,7 @@ static uint8_t *edited(const bench *b, const edit *edits, size_t count) {
 }
 
 void unsound(const bench *b, const char *what, const edit *edits, size_t count) {
-    static const uint32_t numbers[] = {0, 99};
+    static const uint32_t numbers[] = {0, 7}; /* the cases have neither a thread nor a port 7 */
     uint8_t *state = edited(b, edits, count);
     for (int call = STEP; call < CALLS; call++) {
         for (size_t place = 0; place < sizeof numbers / sizeof *numbers; place++) {

@@ -4,12 +4,15 @@
  * A case says what is to change in the wanted state and then makes a call. Each call compares the
  * whole answer, every byte of the state with the wanted state, and every byte of the table with
  * what loading wrote. All buffers have exactly their length.
+ *
+ * Its seats have all rights, and call in turn; seats.c has the cases where they have not.
  */
 #ifndef BENCH_H
 #define BENCH_H
 
 #include "lines.h"
 #include "pithread.h"
+#include "words.h"
 
 typedef struct {
     const char *name; /* of the case, for what is printed */
@@ -17,7 +20,9 @@ typedef struct {
     uint8_t *loaded; /* the table as loading wrote it */
     uint8_t *state;
     uint8_t *wanted;
-    int calls; /* made so far */
+    uint8_t *rights;  /* all of them, for every seat */
+    uint8_t *granted; /* the same, to compare with */
+    int calls;        /* made so far */
 } bench;
 
 /* A bench with this file, started. */
@@ -43,9 +48,6 @@ void closed(bench *b);
 #define KIND(channel) CHANNEL(channel, PITHREAD_CHANNEL_TYPE)
 #define HOLDERS(channel) CHANNEL(channel, PITHREAD_CHANNEL_HOLDERS)
 #define WAITING(channel) CHANNEL(channel, PITHREAD_CHANNEL_WAITING)
-
-int32_t word_at(const uint8_t *state, size_t place);
-void put_word(uint8_t *state, size_t place, int32_t value);
 
 /* Changes of the wanted state. */
 void want_word(bench *b, size_t place, int32_t value);
@@ -75,7 +77,7 @@ void walk(bench *b, uint32_t thread, int steps);
 void settle(bench *b);
 
 /* All calls behind one function. The number is a thread, a port or the n of a run; a start and a collection
- * have none. */
+ * have none. A start leaves rights and seat out. */
 enum { START, STEP, GIVE, TAKE, RUN, COLLECT, CALLS };
 
 typedef struct {
@@ -83,7 +85,15 @@ typedef struct {
     size_t table_length;
     uint8_t *state;
     size_t state_length;
+    const uint8_t *rights;
+    size_t rights_length;
+    uint32_t seat;
 } buffers;
+
+/* The table and another state of the bench, or another table and another state, of these lengths; with
+ * the bench's rights, and the seat whose turn it is. */
+buffers buffers_of(const bench *b, uint8_t *state);
+buffers lent(const bench *b, const uint8_t *table, size_t table_length, uint8_t *state, size_t state_length);
 
 typedef struct {
     int32_t numbers[5]; /* in the order of the struct that the call answers, then 0 */
@@ -91,7 +101,7 @@ typedef struct {
 
 answer ask(int call, buffers with, uint32_t number, int32_t value);
 
-/* The call is refused on this ground: all other numbers are 0, both buffers are left alone. */
+/* The call is refused on this ground: all other numbers are 0, all buffers are left alone. */
 void expect_refused(const char *name, int call, buffers with, uint32_t number, int ground);
 
 /* Words of a state to be changed. */

@@ -16,5 +16,6 @@ int main(void) {
     check_refusals();
     check_sound_states();
     check_collections();
+    check_seats();
     return close_checks();
 }

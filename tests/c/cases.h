@@ -10,5 +10,6 @@ void check_runs(void);
 void check_refusals(void);
 void check_sound_states(void);
 void check_collections(void);
+void check_seats(void);
 
 #endif

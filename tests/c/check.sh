@@ -47,16 +47,16 @@ check "write.c compiles without a warning" tests/c/build.sh write checks lines f
 check "write.c" target/c/write examples
 check "write.c under valgrind" under_valgrind target/c/write examples
 
-check "profile.c compiles without a warning" tests/c/build.sh profile checks lines files damages
+check "profile.c compiles without a warning" tests/c/build.sh profile checks words lines files damages
 check "profile.c" target/c/profile examples
 check "profile.c under valgrind" under_valgrind target/c/profile examples
 
-check "cases.c compiles without a warning" tests/c/build.sh cases checks lines bench damages \
-    moves meetings rows ports runs refusals sound collections
+check "cases.c compiles without a warning" tests/c/build.sh cases checks words lines bench damages \
+    moves meetings rows ports runs refusals sound collections seats
 check "cases.c" target/c/cases
 check "cases.c under valgrind" under_valgrind target/c/cases
 
-check "stack.c compiles without a warning" tests/c/build.sh stack checks lines files
+check "stack.c compiles without a warning" tests/c/build.sh stack checks words lines files
 check "stack.c" target/c/stack examples/units.txt
 
 check "bench_hour.c compiles without a warning" tests/c/build.sh bench_hour

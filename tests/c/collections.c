@@ -388,7 +388,7 @@ static void at_odd_addresses(void) {
     bench *b = nine_threads();
     uint8_t *table = filled(PITHREAD_TABLE_BYTES + 1, 0);
     uint8_t *state = filled(PITHREAD_STATE_BYTES + 1, PATTERN);
-    buffers with = {table + 1, PITHREAD_TABLE_BYTES, state + 1, PITHREAD_STATE_BYTES};
+    buffers with = lent(b, table + 1, PITHREAD_TABLE_BYTES, state + 1, PITHREAD_STATE_BYTES);
     memcpy(table + 1, b->table, PITHREAD_TABLE_BYTES);
     memcpy(state + 1, b->state, PITHREAD_STATE_BYTES);
     check(ask(COLLECT, with, 0, 0).numbers[1] == 5, "collect at odd addresses");
@@ -468,7 +468,7 @@ static void channel_rows_are_used_again(void) {
 static void expect_length(const bench *b, size_t table_length, size_t state_length) {
     uint8_t *table = resized(b->table, PITHREAD_TABLE_BYTES, table_length);
     uint8_t *state = resized(b->state, PITHREAD_STATE_BYTES, state_length);
-    buffers with = {table, table_length, state, state_length};
+    buffers with = lent(b, table, table_length, state, state_length);
     expect_refused(b->name, COLLECT, with, 0, PITHREAD_BUFFER_LENGTH);
     free(table);
     free(state);
@@ -479,7 +479,7 @@ static void refused_collections(void) {
     bench *b = lone_receiver("refused collections");
     uint8_t *table = copied(b->table, PITHREAD_TABLE_BYTES);
     uint8_t *state = copied(b->state, PITHREAD_STATE_BYTES);
-    buffers with = {b->table, PITHREAD_TABLE_BYTES, state, PITHREAD_STATE_BYTES};
+    buffers with = buffers_of(b, state);
     expect_length(b, 0, 0);
     expect_length(b, PITHREAD_TABLE_BYTES - 1, PITHREAD_STATE_BYTES);
     expect_length(b, PITHREAD_TABLE_BYTES + 1, PITHREAD_STATE_BYTES);

@@ -1,19 +1,12 @@
 /* Giving and taking: who is met, nobody, and what a meeting with the bench leaves behind. */
 #include "bench.h"
 #include "cases.h"
+#include "echo.h"
 
 static void nobody_at(bench *b, uint32_t port) {
     give(b, port, 77, PITHREAD_NOBODY);
     take(b, port, PITHREAD_NOBODY, 0);
 }
-
-/* A number comes in at port 0 and goes out at port 1, again and again. */
-static const line echo[] = {
-    TYPE(0), DEFINITION(2, 3, 3), SLOT(1), SLOT(1), SLOT(0),
-    CHOICE(1), CHOICE(1), CALL(0, 0, 1),
-    BRANCH(ALWAYS, RECEIVE(0, 2), 1),
-    BRANCH(ALWAYS, SEND(1, 2), 2),
-};
 
 static void want_waiting(bench *b, int waiting) {
     want_channel(b, 0, 1, 2, waiting);

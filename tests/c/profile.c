@@ -12,6 +12,7 @@
 #include "lines.h"
 #include "listing.h"
 #include "pithread.h"
+#include "words.h"
 
 #define SIZE_OF(list) (sizeof(list) / sizeof *(list))
 
@@ -234,6 +235,7 @@ static void check_tables(const uint8_t *right) {
  * ground. */
 static int crowd(const uint8_t *table, int last, int *threads) {
     uint8_t *state = filled(PITHREAD_STATE_BYTES, 0);
+    uint8_t *rights = same_rights(PITHREAD_MAY_STEP);
     int refusal = pithread_start(table, PITHREAD_TABLE_BYTES, state, PITHREAD_STATE_BYTES).refusal;
     *threads = 1;
     for (uint32_t thread = 0; refusal == PITHREAD_DONE && thread < (uint32_t)*threads;) {
@@ -241,11 +243,14 @@ static int crowd(const uint8_t *table, int last, int *threads) {
         if (state[node] == last) {
             thread++;
         } else {
-            refusal = pithread_step(table, PITHREAD_TABLE_BYTES, state, PITHREAD_STATE_BYTES, thread).refusal;
+            refusal = pithread_step(table, PITHREAD_TABLE_BYTES, state, PITHREAD_STATE_BYTES, rights,
+                                    PITHREAD_RIGHTS_BYTES, 0, thread)
+                          .refusal;
             *threads += refusal == PITHREAD_DONE;
         }
     }
     free(state);
+    free(rights);
     return refusal;
 }
 

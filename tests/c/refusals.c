@@ -21,7 +21,7 @@ static void expect_all(const char *what, int ground, buffers with, uint32_t numb
 static void expect_length(const bench *b, size_t table_length, size_t state_length) {
     uint8_t *table = resized(b->table, PITHREAD_TABLE_BYTES, table_length);
     uint8_t *state = resized(b->state, PITHREAD_STATE_BYTES, state_length);
-    buffers with = {table, table_length, state, state_length};
+    buffers with = lent(b, table, table_length, state, state_length);
     expect_all("lengths", PITHREAD_BUFFER_LENGTH, with, 0);
     memset(table, PATTERN, table_length);
     memset(state, PATTERN, state_length);
@@ -49,7 +49,7 @@ static void wrong_lengths(void) {
 /* All calls with this table; then with a state and a number that are wrong too. */
 static void expect_table(const char *what, const bench *b, const uint8_t *table) {
     uint8_t *state = copied(b->state, PITHREAD_STATE_BYTES);
-    buffers with = {table, PITHREAD_TABLE_BYTES, state, PITHREAD_STATE_BYTES};
+    buffers with = lent(b, table, PITHREAD_TABLE_BYTES, state, PITHREAD_STATE_BYTES);
     expect_all(what, PITHREAD_TABLE, with, 0);
     memset(state, PATTERN, PITHREAD_STATE_BYTES);
     expect_all(what, PITHREAD_TABLE, with, NO_SUCH);
@@ -86,7 +86,7 @@ static void start_reads_no_state(void) {
     bench *b = OPENED("start over any state", listing);
     for (int byte = 0; byte < 256; byte += 51) {
         uint8_t *state = filled(PITHREAD_STATE_BYTES, byte);
-        buffers with = {b->table, PITHREAD_TABLE_BYTES, state, PITHREAD_STATE_BYTES};
+        buffers with = buffers_of(b, state);
         if (byte > 0) {
             expect_refused("a state of one byte repeated", RUN, with, 0, PITHREAD_STATE);
         }
@@ -114,12 +114,12 @@ static void wrong_threads(void) {
 }
 
 static void expect_port(const bench *b, uint32_t port) {
-    buffers with = {b->table, PITHREAD_TABLE_BYTES, b->state, PITHREAD_STATE_BYTES};
-    expect_refused(b->name, GIVE, with, port, PITHREAD_PORT);
-    expect_refused(b->name, TAKE, with, port, PITHREAD_PORT);
+    expect_refused(b->name, GIVE, buffers_of(b, b->state), port, PITHREAD_PORT);
+    expect_refused(b->name, TAKE, buffers_of(b, b->state), port, PITHREAD_PORT);
 }
 
-/* Two ports, and beside them a channel of the same type on which a thread waits. */
+/* Two ports, and beside them a channel of the same type on which a thread waits. No seat has a right on
+ * ports above 7: these are in seats.c. */
 static void wrong_ports(void) {
     static const line lines[] = {
         TYPE(0), DEFINITION(2, 4, 3), SLOT(1), SLOT(1), SLOT(1), SLOT(0),
@@ -127,11 +127,10 @@ static void wrong_ports(void) {
         BRANCH(ALWAYS, NEW(2), 1),
         BRANCH(ALWAYS, RECEIVE(2, 3), 2),
     };
-    static const uint32_t ports[] = {2, 3, 8, 127, 128, 256, 65536, 2147483648u, 4294967294u, NO_SUCH};
     bench *b = OPENED("ports", lines);
     settle(b);
-    for (size_t place = 0; place < sizeof ports / sizeof *ports; place++) {
-        expect_port(b, ports[place]);
+    for (uint32_t port = 2; port < PITHREAD_PORTS; port++) {
+        expect_port(b, port);
     }
     give(b, 1, 6, PITHREAD_NOBODY);
     closed(b);

@@ -30,7 +30,7 @@ static void listing_at_odd_addresses(void) {
     bench *b = OPENED("listing at odd addresses", listing);
     uint8_t *table = filled(PITHREAD_TABLE_BYTES + 1, 0);
     uint8_t *state = filled(PITHREAD_STATE_BYTES + 1, PATTERN);
-    buffers with = {table + 1, PITHREAD_TABLE_BYTES, state + 1, PITHREAD_STATE_BYTES};
+    buffers with = lent(b, table + 1, PITHREAD_TABLE_BYTES, state + 1, PITHREAD_STATE_BYTES);
     memcpy(table + 1, b->table, PITHREAD_TABLE_BYTES);
     check(ask(START, with, 0, 0).numbers[0] == PITHREAD_DONE, "start at odd addresses");
     check(memcmp(state + 1, b->state, PITHREAD_STATE_BYTES) == 0, "start at odd addresses");

@@ -15,6 +15,7 @@
 #include "files.h"
 #include "lines.h"
 #include "pithread.h"
+#include "words.h"
 
 /* The header says about 28,000 and about 12,000. */
 enum { MOST_OF_A_LOAD = 28500, MOST_OF_OTHERS = 12500 };
@@ -24,6 +25,7 @@ enum { STACK_BYTES = 262144 };
 static whole_file file;
 static uint8_t table[PITHREAD_TABLE_BYTES];
 static uint8_t state[PITHREAD_STATE_BYTES];
+static uint8_t *rights;
 static uint8_t written[PITHREAD_MOST_FILE_BYTES];
 static uint8_t *ladder;
 
@@ -47,24 +49,27 @@ static int32_t start(void) {
     return pithread_start(table, sizeof table, state, sizeof state).refusal;
 }
 
+/* What every call that names a seat has first; the last seat has all rights, as the others. */
+#define SEATED table, sizeof table, state, sizeof state, rights, PITHREAD_RIGHTS_BYTES, PITHREAD_SEATS - 1
+
 static int32_t step(void) {
-    return pithread_step(table, sizeof table, state, sizeof state, 0).refusal;
+    return pithread_step(SEATED, 0).refusal;
 }
 
 static int32_t run(void) {
-    return pithread_run(table, sizeof table, state, sizeof state, 1000).refusal;
+    return pithread_run(SEATED, 1000).refusal;
 }
 
 static int32_t give(void) {
-    return pithread_give(table, sizeof table, state, sizeof state, 0, 130).refusal;
+    return pithread_give(SEATED, 0, 130).refusal;
 }
 
 static int32_t take(void) {
-    return pithread_take(table, sizeof table, state, sizeof state, 1).refusal;
+    return pithread_take(SEATED, 1).refusal;
 }
 
 static int32_t collect(void) {
-    return pithread_collect(table, sizeof table, state, sizeof state).refusal;
+    return pithread_collect(SEATED).refusal;
 }
 
 static uint8_t stack[STACK_BYTES];
@@ -115,6 +120,7 @@ int main(int count, char **words) {
     }
     whole_file rungs = ladder_file();
     ladder = table_of_file("the ladder", rungs.bytes, rungs.length);
+    rights = same_rights(PITHREAD_BOTH_RIGHTS);
     load(); /* first once to bind what the archive uses of the C library */
     check_stack("load", load, MOST_OF_A_LOAD);
     check_stack("write", write_file, MOST_OF_OTHERS);
@@ -128,5 +134,6 @@ int main(int count, char **words) {
     free(file.bytes);
     free(rungs.bytes);
     free(ladder);
+    free(rights);
     return close_checks();
 }

@@ -14,11 +14,14 @@ use Rattle.rules.specs.Holding.{settled}
 use Rattle.rules.specs.Start.{freeRow}
 use Rattle.rules.specs.Calls.{outcome, admission}
 use Rattle.rules.specs.Calls.Laws.{call-refused, call-admitted}
+use Rattle.rules.specs.Seats.{seatAdmission}
+use Rattle.rules.specs.declared.Right.the-variants as Right
 use Rattle.rules.specs.declared.Refusal.{Refusal}
 use Rattle.rules.specs.declared.Admission.{Admission}
 use Rattle.rules.specs.declared.Admission.the-variants.{Admitted, Refused}
+use Rattle.engine.specs.Admitted.{seat-refuses}
 use Rattle.collector.specs.declared.Collected.the-variants as Collected
-use Rattle.collector.specs.Collect.{collected, takenCount, collectOn, collectCall}
+use Rattle.collector.specs.Collect.{collected, takenCount, collectOn, collectCall, seatedCollect}
 use Rattle.collector.specs.Freeing.{leaves, freedBy, collectedTo}
 use Rattle.collector.specs.Freeing.Laws.{freed-none}
 
@@ -76,3 +79,9 @@ module _ (table b : List ℕ) (a : Admission) (e : a ≡ admission table b) wher
       → n ≡ takenCount (tableOf table) (stateOf w) → stateOf w₁ ≡ collected (tableOf table) (stateOf w) → outcome (Collected.Done n) b₁ ≡ collectCall table b
   unfolding collectCall collectOn
   collect-admitted f w w₁ b₁ q h n i j = rw (call-admitted Collected.Refused table b (collectOn (tableOf table) (view b)) (sym e ∙ f), h, j, i, q f)
+
+-- made at a seat. a: what the seat's grounds say
+pub seated-refused : (table b rights : List ℕ) (seat : ℕ) (a : Admission) → a ≡ seatAdmission table b rights seat Right.Collect → (g : Refusal) → a ≡ Refused g
+    → outcome (Collected.Refused g) b ≡ seatedCollect table b rights seat
+unfolding seatedCollect
+seated-refused table b rights seat a e = seat-refuses table b rights seat Right.Collect a e Collected.Refused (collectCall table b)

@@ -11,6 +11,8 @@ use Rattle.state.specs.State.{State, maxThreads, thread, inUse, view, withThrea
 use Rattle.rules.specs.Holding.{settled}
 use Rattle.rules.specs.Start.{freeRow}
 use Rattle.rules.specs.Calls.{Outcome, After, afterwards, onBuffers}
+use Rattle.rules.specs.Seats.{atSeat}
+use Rattle.rules.specs.declared.Right.the-variants as Right
 use Rattle.marking.specs.Enabled.{nobody, enabledSet}
 use Rattle.collector.specs.declared.Collected.{Collected}
 use Rattle.collector.specs.declared.Collected.the-variants as Collected
@@ -37,3 +39,7 @@ collectOn tb s = afterwards (Collected.Done (takenCount tb s)) (collected tb s)
 
 unfoldable pub collectCall : List ℕ → List ℕ → Outcome Collected
 collectCall table state = onBuffers Collected.Refused table state (collectOn (tableOf table) (view state))
+
+-- made at a seat, which has to have the right to collect (document 02, S-6)
+unfoldable pub seatedCollect : List ℕ → List ℕ → List ℕ → ℕ → Outcome Collected
+seatedCollect table state rights seat = atSeat table state rights seat Collected.Refused Right.Collect (collectCall table state)

@@ -4,14 +4,18 @@ ghost use Prim.Native.Nat.{_<_};
 ghost use Rattle.numbers.specs.Count.{bit};
 ghost use Rattle.table.specs.Table.{tableOf};
 ghost use Rattle.table.specs.Index.{Indexed};
+ghost use Rattle.flow.specs.Flow.{flow};
+ghost use Rattle.flow.specs.Marks.{marksOf};
 ghost use Rattle.state.specs.State.{maxThreads, stateOf};
 ghost use Rattle.rules.specs.Holding.{settled};
 ghost use Rattle.rules.specs.Calls.{outcome};
+ghost use Rattle.engine.specs.Admitted.{Judged};
 ghost use Rattle.marking.specs.Enabled.{nobody, enabledSet};
-ghost use Rattle.collector.specs.Collect.{collected, takenCount, collectCall};
+ghost use Rattle.collector.specs.Collect.{collected, takenCount, collectCall, seatedCollect};
 ghost use Rattle.collector.specs.Freeing.{leaves, freedBy};
 use rules::Admission;
 use rules::Refusal;
+use rules::Right;
 
 // How many threads a collection took.
 pub enum Collected {
@@ -76,18 +80,40 @@ pub fn collect_in(table: &[u8], index: &[u32], state: &mut [u32; state::WORDS]) 
     take_unmarked(table, index, state, &marks)
 }
 
-// Frees the threads that are not enabled.
-pub fn collect(table: &[u8], state: &mut [u8]) -> Collected
+// Frees the threads that are not enabled, in a collection that its seat may make: grounds 8, 9, 18 and 19 have not refused it.
+fn collect_granted(table: &[u8], index: &[u32], marks: &[u32], state: &mut [u8]) -> Collected
+    requires { ⌜ Judged (now table) (now state) ⌝ }
+    requires { ⌜ Indexed (tableOf (now table)) (now index) ⌝ }
+    requires { ⌜ marksOf (now marks) ≡ flow (tableOf (now table)) ⌝ }
     ensures { λ r. ⌜ outcome r (now (state .exit)) ≡ collectCall (now (table .entry)) (now (state .entry)) ⌝ }
 {
-    let mut index = [0u32; table::INDEX];
     let mut words = [0u32; state::WORDS];
-    match engine::admit(table, state, &mut index, &mut words) {
+    match engine::admit_state(table, index, marks, state, &mut words) {
         Admission::Refused(ground) => Collected::Refused(ground),
         Admission::Admitted => {
-            let count = collect_in(table, &index, &mut words);
+            let count = collect_in(table, index, &mut words);
             engine::write(&words, state);
             Collected::Done(count)
         }
+    }
+}
+
+// A collection, made at a seat.
+pub fn collect(table: &[u8], state: &mut [u8], rights: &[u8], seat: u32) -> Collected
+    ensures { λ r. ⌜ outcome r (now (state .exit)) ≡ seatedCollect (now (table .entry)) (now (state .entry)) (now (rights .entry)) seat ⌝ }
+{
+    let mut index = [0u32; table::INDEX];
+    let mut marks = [0u32; engine::MARKED];
+    match engine::admit_seat(
+        table,
+        state,
+        rights,
+        seat,
+        Right::Collect,
+        &mut index,
+        &mut marks,
+    ) {
+        Admission::Refused(ground) => Collected::Refused(ground),
+        Admission::Admitted => collect_granted(table, &index, &marks, state),
     }
 }

@@ -4,7 +4,7 @@ use mathlib.Core.Path.{_≡_, sym, _∙_}
 use mathlib.Core.List.{List}
 use lib.IntN.{pos}
 use Rattle.interface.specs.Interface.{loadResult, startResult}
-use Rattle.guarantee.specs.Claim.{afterList}
+use Rattle.guarantee.specs.SeatedClaim.{afterSeats}
 use Rattle.guarantee.specs.InNumbers.{leftFrom, InNumbers}
 use Rattle.guarantee.specs.InNumbers.Proof.{all-so, in-numbers}
 use Rattle.driver.specs.Encoding.{callsOf}
@@ -13,8 +13,8 @@ use Rattle.driver.specs.Encoding.{callsOf}
 -- list by themselves, and demand 3 holds of that list
 pub guaranteed : (file t : List ℕ) → loadResult file t .answer .refusal ≡ pos 0
     → (state : List ℕ) → startResult (loadResult file t .table) state .answer .refusal ≡ pos 0
-    → (calls end : List ℕ) → end ≡ afterList (loadResult file t .table) (startResult (loadResult file t .table) state .state) (callsOf calls)
-    → (end ≡ leftFrom (loadResult file t .table) state (callsOf calls)) × InNumbers (loadResult file t .table) state (callsOf calls)
-guaranteed file t e state s calls end f =
+    → (lists calls end : List ℕ) → end ≡ afterSeats (loadResult file t .table) (startResult (loadResult file t .table) state .state) (callsOf lists calls)
+    → (end ≡ leftFrom (loadResult file t .table) state (callsOf lists calls)) × InNumbers (loadResult file t .table) state (callsOf lists calls)
+guaranteed file t e state s lists calls end f =
     let table = loadResult file t .table in
-    (f ∙ sym (all-so table (startResult table state .state) (callsOf calls)), in-numbers file t e state s (callsOf calls))
+    (f ∙ sym (all-so table (startResult table state .state) (callsOf lists calls)), in-numbers file t e state s (callsOf lists calls))

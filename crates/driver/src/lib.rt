@@ -2,16 +2,19 @@
 // it again; and starts a table that keeps to the rental-shop profile. What this ensures follows from the contracts of those functions alone: a contract
 // that says less, or something else, leaves it unproved.
 ghost use mathlib.Core.Path.{_≡_};
+ghost use mathlib.Core.Bool.{cond};
+ghost use lib.Dec.{ltb};
 ghost use Prim.Native.Nat.{_<_};
 ghost use lib.ListN.{set};
 ghost use mir.Syntax.{w32};
 ghost use mir.Val.{ofZ};
 ghost use Rattle.numbers.specs.Bytes.{words};
 ghost use Rattle.engine_laws.specs.Lists.{step as Step, give as Give, take as Take, run as Run};
-ghost use Rattle.guarantee.specs.Claim.{on, collect as Collect, afterAny, afterList};
+ghost use Rattle.guarantee.specs.Claim.{on, collect as Collect};
+ghost use Rattle.guarantee.specs.SeatedClaim.{afterBy, afterSeat, afterSeats};
 ghost use Rattle.driver.specs.Restore.{restoredTo, restored};
 ghost use Rattle.driver.specs.ProfiledStart.{begunTo, begun};
-ghost use Rattle.driver.specs.Encoding.{pattern, pattern-small, callBy, callsOf, answerTo, answersTo, wordsOf, writtenFrom};
+ghost use Rattle.driver.specs.Encoding.{pattern, pattern-small, callBy, partOf, recordAt, callsOf, answerTo, answerAt, answersTo, wordsOf, writtenFrom};
 
 // The numbers of an answer in their order: the refusal, then those that the call has, then 0.
 pub struct Answer {
@@ -22,12 +25,12 @@ pub struct Answer {
     pub fifth: i32,
 }
 
-// The functions `step`, `give`, `take`, `run` and `collect` each make one call by the exported function, and put its numbers in their order.
-fn step(table: &[u8], state: &mut [u8], thread: u32) -> Answer
-    ensures { λ _. ⌜ now (state .exit) ≡ afterAny (now (table .entry)) (now (state .entry)) (on (Step thread)) ⌝ }
-    ensures { λ r. ⌜ r ≡ answerTo (now (table .entry)) (now (state .entry)) (on (Step thread)) ⌝ }
+// The functions `step`, `give`, `take`, `run` and `collect` each make one call at a seat by the exported function, and put its numbers in their order.
+fn step(table: &[u8], state: &mut [u8], rights: &[u8], seat: u32, thread: u32) -> Answer
+    ensures { λ _. ⌜ now (state .exit) ≡ afterBy (now (table .entry)) (now (state .entry)) (now (rights .entry)) seat (on (Step thread)) ⌝ }
+    ensures { λ r. ⌜ r ≡ answerTo (now (table .entry)) (now (state .entry)) (now (rights .entry)) seat (on (Step thread)) ⌝ }
 {
-    let answer = pithread::pithread_step(table, state, thread);
+    let answer = pithread::pithread_step(table, state, rights, seat, thread);
     Answer {
         refusal: answer.refusal,
         second: answer.node,
@@ -37,11 +40,11 @@ fn step(table: &[u8], state: &mut [u8], thread: u32) -> Answer
     }
 }
 
-fn give(table: &[u8], state: &mut [u8], port: u32, number: u32) -> Answer
-    ensures { λ _. ⌜ now (state .exit) ≡ afterAny (now (table .entry)) (now (state .entry)) (on (Give port (pattern number) (pattern-small number))) ⌝ }
-    ensures { λ r. ⌜ r ≡ answerTo (now (table .entry)) (now (state .entry)) (on (Give port (pattern number) (pattern-small number))) ⌝ }
+fn give(table: &[u8], state: &mut [u8], rights: &[u8], seat: u32, port: u32, number: u32) -> Answer
+    ensures { λ _. ⌜ now (state .exit) ≡ afterBy (now (table .entry)) (now (state .entry)) (now (rights .entry)) seat (on (Give port (pattern number) (pattern-small number))) ⌝ }
+    ensures { λ r. ⌜ r ≡ answerTo (now (table .entry)) (now (state .entry)) (now (rights .entry)) seat (on (Give port (pattern number) (pattern-small number))) ⌝ }
 {
-    let answer = pithread::pithread_give(table, state, port, numbers::signed(number));
+    let answer = pithread::pithread_give(table, state, rights, seat, port, numbers::signed(number));
     Answer {
         refusal: answer.refusal,
         second: answer.thread,
@@ -51,11 +54,11 @@ fn give(table: &[u8], state: &mut [u8], port: u32, number: u32) -> Answer
     }
 }
 
-fn take(table: &[u8], state: &mut [u8], port: u32) -> Answer
-    ensures { λ _. ⌜ now (state .exit) ≡ afterAny (now (table .entry)) (now (state .entry)) (on (Take port)) ⌝ }
-    ensures { λ r. ⌜ r ≡ answerTo (now (table .entry)) (now (state .entry)) (on (Take port)) ⌝ }
+fn take(table: &[u8], state: &mut [u8], rights: &[u8], seat: u32, port: u32) -> Answer
+    ensures { λ _. ⌜ now (state .exit) ≡ afterBy (now (table .entry)) (now (state .entry)) (now (rights .entry)) seat (on (Take port)) ⌝ }
+    ensures { λ r. ⌜ r ≡ answerTo (now (table .entry)) (now (state .entry)) (now (rights .entry)) seat (on (Take port)) ⌝ }
 {
-    let answer = pithread::pithread_take(table, state, port);
+    let answer = pithread::pithread_take(table, state, rights, seat, port);
     Answer {
         refusal: answer.refusal,
         second: answer.thread,
@@ -65,11 +68,11 @@ fn take(table: &[u8], state: &mut [u8], port: u32) -> Answer
     }
 }
 
-fn run(table: &[u8], state: &mut [u8], n: u16) -> Answer
-    ensures { λ _. ⌜ now (state .exit) ≡ afterAny (now (table .entry)) (now (state .entry)) (on (Run n)) ⌝ }
-    ensures { λ r. ⌜ r ≡ answerTo (now (table .entry)) (now (state .entry)) (on (Run n)) ⌝ }
+fn run(table: &[u8], state: &mut [u8], rights: &[u8], seat: u32, n: u16) -> Answer
+    ensures { λ _. ⌜ now (state .exit) ≡ afterBy (now (table .entry)) (now (state .entry)) (now (rights .entry)) seat (on (Run n)) ⌝ }
+    ensures { λ r. ⌜ r ≡ answerTo (now (table .entry)) (now (state .entry)) (now (rights .entry)) seat (on (Run n)) ⌝ }
 {
-    let answer = pithread::pithread_run(table, state, n);
+    let answer = pithread::pithread_run(table, state, rights, seat, n);
     Answer {
         refusal: answer.refusal,
         second: answer.steps,
@@ -79,11 +82,11 @@ fn run(table: &[u8], state: &mut [u8], n: u16) -> Answer
     }
 }
 
-fn collect(table: &[u8], state: &mut [u8]) -> Answer
-    ensures { λ _. ⌜ now (state .exit) ≡ afterAny (now (table .entry)) (now (state .entry)) Collect ⌝ }
-    ensures { λ r. ⌜ r ≡ answerTo (now (table .entry)) (now (state .entry)) Collect ⌝ }
+fn collect(table: &[u8], state: &mut [u8], rights: &[u8], seat: u32) -> Answer
+    ensures { λ _. ⌜ now (state .exit) ≡ afterBy (now (table .entry)) (now (state .entry)) (now (rights .entry)) seat Collect ⌝ }
+    ensures { λ r. ⌜ r ≡ answerTo (now (table .entry)) (now (state .entry)) (now (rights .entry)) seat Collect ⌝ }
 {
-    let answer = pithread::pithread_collect(table, state);
+    let answer = pithread::pithread_collect(table, state, rights, seat);
     Answer {
         refusal: answer.refusal,
         second: answer.threads,
@@ -93,18 +96,61 @@ fn collect(table: &[u8], state: &mut [u8]) -> Answer
     }
 }
 
-// The call of these three words.
-fn work_call(table: &[u8], state: &mut [u8], code: u32, argument: u32, number: u32) -> Answer
-    ensures { λ _. ⌜ now (state .exit) ≡ afterAny (now (table .entry)) (now (state .entry)) (callBy code argument number) ⌝ }
-    ensures { λ r. ⌜ r ≡ answerTo (now (table .entry)) (now (state .entry)) (callBy code argument number) ⌝ }
+// The call of three words, at a seat.
+fn work_call(
+    table: &[u8],
+    state: &mut [u8],
+    rights: &[u8],
+    seat: u32,
+    code: u32,
+    argument: u32,
+    number: u32,
+) -> Answer
+    ensures { λ _. ⌜ now (state .exit) ≡ afterBy (now (table .entry)) (now (state .entry)) (now (rights .entry)) seat (callBy code argument number) ⌝ }
+    ensures { λ r. ⌜ r ≡ answerTo (now (table .entry)) (now (state .entry)) (now (rights .entry)) seat (callBy code argument number) ⌝ }
 {
     match code {
-        0 => step(table, state, argument),
-        1 => give(table, state, argument, number),
-        2 => take(table, state, argument),
-        3 => run(table, state, (argument % 65536) as u16),
-        _ => collect(table, state),
+        0 => step(table, state, rights, seat, argument),
+        1 => give(table, state, rights, seat, argument, number),
+        2 => take(table, state, rights, seat, argument),
+        3 => run(table, state, rights, seat, (argument % 65536) as u16),
+        _ => collect(table, state, rights, seat),
     }
+}
+
+// The lesser of two numbers.
+fn least(a: usize, b: usize) -> usize
+    ensures { λ r. ⌜ r ≡ cond (ltb a b) a b ⌝ }
+{
+    if a < b {
+        return a;
+    }
+    b
+}
+
+// The n bytes of `lists` from a place on, or as many of them as there are.
+fn part_of(lists: &[u8], from: u32, n: u32) -> &[u8]
+    ensures { λ r. ⌜ now r ≡ partOf (now (lists .entry)) from n ⌝ }
+{
+    let at = least(from as usize, lists.len());
+    let end = least(at + n as usize, lists.len());
+    &lists[at..end]
+}
+
+// The call of record i.
+fn work_record(table: &[u8], state: &mut [u8], lists: &[u8], calls: &[u8], i: usize) -> Answer
+    requires { ⌜ i < 768614336404564650 ⌝ }
+    ensures { λ _. ⌜ now (state .exit) ≡ afterSeat (now (table .entry)) (now (state .entry)) (recordAt (now (lists .entry)) (words (now (calls .entry))) i) ⌝ }
+    ensures { λ r. ⌜ r ≡ answerAt (now (table .entry)) (now (state .entry)) (recordAt (now (lists .entry)) (words (now (calls .entry))) i) ⌝ }
+{
+    let code = numbers::word_at(calls, i * 6);
+    let argument = numbers::word_at(calls, i * 6 + 1);
+    let number = numbers::word_at(calls, i * 6 + 2);
+    let seat = numbers::word_at(calls, i * 6 + 3);
+    let from = numbers::word_at(calls, i * 6 + 4);
+    let bytes = numbers::word_at(calls, i * 6 + 5);
+    let rights = part_of(lists, from, bytes);
+    work_call(table, state, rights, seat, code, argument, number)
 }
 
 // The word at place i becomes the pattern of z.
@@ -126,19 +172,23 @@ fn put_answer(answers: &mut [u8], i: usize, answer: Answer)
     put_number(answers, i + 4, answer.fifth);
 }
 
-// Works the calls in `calls`, in turn, and lays their answers into `answers`, as far as it goes. A call is a record of twelve bytes, three words with the
-// lowest byte first: which call, its thread, port or number of steps, and the number given; an answer is a record of twenty.
+// Works the calls in `calls`, in turn, and lays their answers into `answers`, as far as it goes. A call is a record of 24 bytes, six words with the lowest
+// byte first: which call, its thread, port or number of steps, the number given, the seat, and where in `lists` its list of rights begins and how many
+// bytes it has; an answer is a record of twenty.
 #[no_mangle]
-pub extern "C" fn driver_work_list(table: &[u8], state: &mut [u8], calls: &[u8], answers: &mut [u8])
-    ensures { λ _. ⌜ now (state .exit) ≡ afterList (now (table .entry)) (now (state .entry)) (callsOf (now (calls .entry))) ⌝ }
+pub extern "C" fn driver_work_list(
+    table: &[u8],
+    state: &mut [u8],
+    lists: &[u8],
+    calls: &[u8],
+    answers: &mut [u8],
+)
+    ensures { λ _. ⌜ now (state .exit) ≡ afterSeats (now (table .entry)) (now (state .entry)) (callsOf (now (lists .entry)) (now (calls .entry))) ⌝ }
     ensures { λ _. ⌜ words (now (answers .exit)) ≡ writtenFrom (words (now (answers .entry))) 0
-        (answersTo (now (table .entry)) (now (state .entry)) (callsOf (now (calls .entry)))) ⌝ }
+        (answersTo (now (table .entry)) (now (state .entry)) (callsOf (now (lists .entry)) (now (calls .entry)))) ⌝ }
 {
-    for i in 0..calls.len() / 12 {
-        let code = numbers::word_at(calls, i * 3);
-        let argument = numbers::word_at(calls, i * 3 + 1);
-        let number = numbers::word_at(calls, i * 3 + 2);
-        let answer = work_call(table, state, code, argument, number);
+    for i in 0..calls.len() / 24 {
+        let answer = work_record(table, state, lists, calls, i);
         put_answer(answers, i * 5, answer);
     }
 }

@@ -10,6 +10,7 @@ use mir.Val.{Fits}
 use borrow.Author.Tests.{eq-eqb, ne-eqb, not-true, not-false}
 use Rattle.numbers.specs.Bytes.{words}
 use Rattle.numbers.specs.Bytes.Laws.{bytes-fit}
+use Rattle.numbers.specs.Search.Laws.{contra}
 use Rattle.numbers.specs.Tests.{clash}
 use Rattle.table.specs.Table.{tableOf}
 use Rattle.table.specs.Index.{Indexed}
@@ -20,7 +21,10 @@ use Rattle.state.specs.State.{State, stateLength, view, stateOf, stateBytes}
 use Rattle.rules.specs.Start.{started}
 use Rattle.rules.specs.Sound.{sound}
 use Rattle.rules.specs.Calls.{Outcome, outcome, After, afterwards, andThen, lengthsRight, startAdmission, admission, onBuffers, startOn, startCall, stepOn, stepCall, giveOn, giveCall, takeOn, takeCall, runOn, runCall}
+use Rattle.rules.specs.Seats.{rightsLength, rightsAdmission, seatAdmission, seatedStep, seatedGive, seatedTake, seatedRun}
 use Rattle.rules.specs.Calls.Laws.{start-admits, by-refused, by-admitted, call-refused, call-admitted, call-unchanged, step-unchanged, give-unchanged, take-unchanged}
+use Rattle.rules.specs.declared.Right.{Right}
+use Rattle.rules.specs.declared.Right.the-variants.{Take, Give, StepAndRun}
 use Rattle.rules.specs.declared.Refusal.{Refusal}
 use Rattle.rules.specs.declared.Refusal.the-variants as Ground
 use Rattle.rules.specs.declared.Admission.{Admission}
@@ -41,8 +45,9 @@ use Rattle.rules_laws.specs.Accepted.{granted}
 use Rattle.rules_laws.specs.Shape.Laws.{view-shaped}
 use Rattle.rules_laws.specs.Soundness.{Sound}
 use Rattle.rules_laws.specs.Soundness.Laws.{sound-elim}
+use Rattle.engine.specs.Admitted.{Judged, seat-refuses}
 
--- ---- grounds 8, 9 and 10
+-- ---- grounds 8 and 9
 
 module _ (table state : List ℕ) where
   pub table-long : (length table ≡ 20760 → ⊥) → false ≡ lengthsRight table state
@@ -69,35 +74,62 @@ module _ (table state : List ℕ) where
       unfolding startAdmission
       table-refused h = rw (← e, not-false x f, ← g, h)
 
--- ---- a: what start's grounds say
+-- ---- grounds 8, 9, 18 and 19, of a call that asks its seat for a right
 
-module _ (table b : List ℕ) (a : Admission) (e : a ≡ startAdmission table b) where
-  pub still-refused : (g : Refusal) → a ≡ Refused g → Refused g ≡ admission table b
-  unfolding admission andThen
-  still-refused g f = rw (← e, f)
+module _ (table b rights : List ℕ) (seat : ℕ) (right : Right) where
+  pub rights-long : (length rights ≡ 288 → ⊥) → Refused Ground.Length ≡ seatAdmission table b rights seat right
+  unfolding seatAdmission
+  rights-long h = rw (ne-eqb (length rights) rightsLength h)
 
-  module _ (f : a ≡ Admitted) where
-    pub start-length : length b ≡ stateLength
-    start-length = start-admits table b (sym e ∙ f) .1
+  -- a: what start's grounds say
+  module _ (l : length rights ≡ 288) (a : Admission) (e : a ≡ startAdmission table b) where
+    pub start-refuses : (g : Refusal) → a ≡ Refused g → Refused g ≡ seatAdmission table b rights seat right
+    unfolding seatAdmission andThen
+    start-refuses g f = rw (eq-eqb (length rights) rightsLength l, ← e, f)
 
-    -- the table grants what the calls ask
-    pub start-granted : ((i : ℕ) → Fits w8 (getD table i 0)) → Granted (tableOf table)
-    start-granted fit = granted table (start-admits table b (sym e ∙ f) .2) (bytes-fit table fit)
+    -- x: what the list says of the seat
+    pub list-tells : a ≡ Admitted → (x : Admission) → x ≡ rightsAdmission rights seat right → x ≡ seatAdmission table b rights seat right
+    unfolding seatAdmission andThen
+    list-tells f x q = rw (eq-eqb (length rights) rightsLength l, ← e, f) q
 
-    -- w: the words of the state's buffer, and x: whether they are a sound state
-    module _ (x : Bool) (w : List ℕ) (i : w ≡ words b) (h : x ≡ sound (tableOf table) (stateOf w)) where
-      pub state-sound : x ≡ true → Admitted ≡ admission table b
-      unfolding admission andThen
-      state-sound j = rw (← e, f, ← i, ← h, j)
+-- ---- ground 10, where grounds 8 and 9 do not refuse
 
-      pub state-unsound : x ≡ false → Refused Ground.State ≡ admission table b
-      unfolding admission andThen
-      state-unsound j = rw (← e, f, ← i, ← h, j)
+pub start-judged : (table b : List ℕ) (a : Admission) → a ≡ startAdmission table b → a ≡ Admitted → Judged table b
+unfolding Judged
+start-judged table b a e f = sym e ∙ f
 
-      pub is-sound : x ≡ true → ((i : ℕ) → Fits w8 (getD b i 0)) → Sound (tableOf table) (stateOf w)
-      is-sound j fit =
-          let z : sound (tableOf table) (stateOf w) ≡ true = sym h ∙ j in
-          rw i (sound-elim (tableOf table) (view b) (view-shaped b start-length (bytes-fit b fit)) (rw i at z))
+module _ (table b : List ℕ) (e : Judged table b) where
+  pub judged-length : length b ≡ stateLength
+  unfolding Judged
+  judged-length = start-admits table b e .1
+
+  -- the table grants what the calls ask
+  pub judged-granted : ((i : ℕ) → Fits w8 (getD table i 0)) → Granted (tableOf table)
+  unfolding Judged
+  judged-granted fit = granted table (start-admits table b e .2) (bytes-fit table fit)
+
+  -- x: whether the lengths are right, which they are
+  pub judged-lengths : (x : Bool) → x ≡ lengthsRight table b → not x ≡ true → Refused Ground.Length ≡ admission table b
+  unfolding Judged lengthsRight
+  judged-lengths x f h =
+      let (l, m, a) = start-admits table b e in
+      let y : x ≡ true = rw (eq-eqb (length table) tableLength l, eq-eqb (length b) stateLength m) at f in
+      contra y (not-true x h)
+
+  -- w: the words of the state's buffer, and x: whether they are a sound state
+  module _ (x : Bool) (w : List ℕ) (i : w ≡ words b) (h : x ≡ sound (tableOf table) (stateOf w)) where
+    pub state-sound : x ≡ true → Admitted ≡ admission table b
+    unfolding Judged admission andThen
+    state-sound j = rw (e, ← i, ← h, j)
+
+    pub state-unsound : x ≡ false → Refused Ground.State ≡ admission table b
+    unfolding Judged admission andThen
+    state-unsound j = rw (e, ← i, ← h, j)
+
+    pub is-sound : x ≡ true → ((i : ℕ) → Fits w8 (getD b i 0)) → Sound (tableOf table) (stateOf w)
+    is-sound j fit =
+        let z : sound (tableOf table) (stateOf w) ≡ true = sym h ∙ j in
+        rw i (sound-elim (tableOf table) (view b) (view-shaped b judged-length (bytes-fit b fit)) (rw i at z))
 
 -- the index of a table that was accepted, and the marks of its flow
 pub accepted-indexed : (table l : List ℕ) (y : Bool) → (y ≡ true → Indexed (tableOf table) l) → y ≡ true → Indexed (tableOf table) l
@@ -109,6 +141,9 @@ accepted-marked table l y f g = f g
 -- ---- start
 
 module _ (table b : List ℕ) (a : Admission) (e : a ≡ startAdmission table b) where
+  pub started-length : a ≡ Admitted → length b ≡ stateLength
+  started-length f = start-admits table b (sym e ∙ f) .1
+
   pub start-refused : (g : Refusal) → a ≡ Refused g → outcome (Started.Refused g) b ≡ startCall table b
   unfolding startCall
   start-refused g f = sym (by-refused Started.Refused b (startOn (tableOf table)) (startAdmission table b) g (sym e ∙ f))
@@ -204,3 +239,26 @@ module _ (table b : List ℕ) (a : Admission) (e : a ≡ admission table b) wher
         → outcome r b₁ ≡ runCall table b n
     unfolding runCall
     run-done r n b₁ k h = written Ran.Refused (λ s. runOn (tableOf table) s n) r k b₁ h
+
+-- ---- the calls at a seat. a: what the seat's grounds say
+
+module _ (table b rights : List ℕ) (seat : ℕ) (a : Admission) where
+  pub seated-step-refused : (t : ℕ) → a ≡ seatAdmission table b rights seat StepAndRun → (g : Refusal) → a ≡ Refused g
+      → outcome (Stepped.Refused g) b ≡ seatedStep table b rights seat t
+  unfolding seatedStep
+  seated-step-refused t e = seat-refuses table b rights seat StepAndRun a e Stepped.Refused (stepCall table b t)
+
+  pub seated-give-refused : (p v : ℕ) → a ≡ seatAdmission table b rights seat (Give p) → (g : Refusal) → a ≡ Refused g
+      → outcome (Given.Refused g) b ≡ seatedGive table b rights seat p v
+  unfolding seatedGive
+  seated-give-refused p v e = seat-refuses table b rights seat (Give p) a e Given.Refused (giveCall table b p v)
+
+  pub seated-take-refused : (p : ℕ) → a ≡ seatAdmission table b rights seat (Take p) → (g : Refusal) → a ≡ Refused g
+      → outcome (Taken.Refused g) b ≡ seatedTake table b rights seat p
+  unfolding seatedTake
+  seated-take-refused p e = seat-refuses table b rights seat (Take p) a e Taken.Refused (takeCall table b p)
+
+  pub seated-run-refused : (n : ℕ) → a ≡ seatAdmission table b rights seat StepAndRun → (g : Refusal) → a ≡ Refused g
+      → outcome (Ran.Refused g) b ≡ seatedRun table b rights seat n
+  unfolding seatedRun
+  seated-run-refused n e = seat-refuses table b rights seat StepAndRun a e Ran.Refused (runCall table b n)

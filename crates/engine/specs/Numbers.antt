@@ -1,18 +1,20 @@
--- The numbers of document 01 for the answers of the engine's calls. A number is its 32-bit pattern, so that -1 is `minusOne`.
+-- The numbers of documents 01 and 02 for the answers of the engine's calls. A number is its 32-bit pattern, so that -1 is `minusOne`.
 pub mod Laws
 use Prim.Native.Nat.{ℕ}
 use Rattle.state.specs.State.{minusOne}
 use Rattle.rules.specs.declared.Refusal.{Refusal}
-use Rattle.rules.specs.declared.Refusal.the-variants.{Length, Table, State, Thread, Port, ThreadRow, ChannelRow}
+use Rattle.rules.specs.declared.Refusal.the-variants.{Length, Table, Rights, Seat, State, Thread, Port, ThreadRow, ChannelRow}
 use Rattle.rules.specs.declared.Deed.{Deed}
 use Rattle.rules.specs.declared.Deed.the-variants.{Ended, Called, Waited, Took, TookWith}
 use Rattle.rules.specs.declared.Reason.{Reason}
 use Rattle.rules.specs.declared.Reason.the-variants.{AllDone, NoneReady, LackedThread, LackedChannel}
 
--- grounds 8 to 14
+-- grounds 8 to 14, and those of seats, which are asked before 10
 unfoldable pub refusalNumber : Refusal → ℕ
 refusalNumber Length = 8
 refusalNumber Table = 9
+refusalNumber Rights = 18
+refusalNumber Seat = 19
 refusalNumber State = 10
 refusalNumber Thread = 11
 refusalNumber Port = 12

@@ -85,6 +85,12 @@ module _ (tb : Table) (s : State) (t : ℕ) where
     λ k. step-answered tb s t ∙ rw (k .0, k .1),
   )
 
+  -- a step on a state is refused on no ground but 11, 13 and 14
+  pub own-grounds : (r : Refusal) → stepOn tb s t .answer ≡ Stepped.Refused r → (r ≡ Ground.Thread) ⊎ ((r ≡ Ground.ThreadRow) ⊎ (r ≡ Ground.ChannelRow))
+  own-grounds r e =
+      ⊎-elim (λ k. inl (k .1))
+      (λ k. inr (⊎-elim (λ l. inl (l .0)) (λ l. inr (l .0)) (move-refused node (move tb s t) r (k .1))))
+      (own-refused r e)
+
   pub own-no-port : stepOn tb s t .answer ≡ Stepped.Refused Ground.Port → ⊥
-  own-no-port e =
-      ⊎-elim (λ k. clash cc) (λ k. ⊎-elim (λ l. clash cc) (λ l. clash cc) (move-refused node (move tb s t) Ground.Port (k .1))) (own-refused Ground.Port e)
+  own-no-port e = ⊎-elim (λ q. clash cc) (λ k. ⊎-elim (λ q. clash cc) (λ q. clash cc) k) (own-grounds Ground.Port e)

@@ -33,7 +33,7 @@ unfoldable pub atEntry : Refusal → Bool
 atEntry r = eqb (refusalNumber r) 8 || (eqb (refusalNumber r) 9 || eqb (refusalNumber r) 10)
 
 module _ (table state : List ℕ) where
-  lengths-iff : (lengthsRight table state ≡ true) ↔ RightLengths table state
+  pub lengths-iff : (lengthsRight table state ≡ true) ↔ RightLengths table state
   unfolding lengthsRight
   lengths-iff = (
     λ e. (eqb-true (length table) tableLength (and-left _ _ e), eqb-true (length state) stateLength (and-right (eqb (length table) tableLength) _ e)),

@@ -3,6 +3,7 @@ pub mod Movers
 pub mod OneSided
 pub mod Sealed
 pub mod Entry
+pub mod Seats
 pub mod Lacking
 pub mod Answers
 pub mod Bench

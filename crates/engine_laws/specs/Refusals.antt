@@ -27,7 +27,7 @@ use Rattle.rules.specs.declared.Ran.the-variants as Ran
 use Rattle.engine.specs.Numbers.{refusalNumber}
 use Rattle.engine_laws.specs.Entry.{Admitted, atEntry, own-ground, entry-ground, start-not-state}
 use Rattle.engine_laws.specs.Lacking.{Takes, NoThreadRow, NoChannelRow, lacks-thread-iff, lacks-channel-iff}
-use Rattle.engine_laws.specs.Answers.{step-own, own-thread, own-thread-row, own-channel-row, own-no-port}
+use Rattle.engine_laws.specs.Answers.{step-own, own-thread, own-thread-row, own-channel-row, own-grounds, own-no-port}
 use Rattle.engine_laws.specs.Bench.{NobodyOffers, give-no-port, give-refused, give-own, give-nobody, take-no-port, take-refused, take-own, take-nobody}
 
 module _ (table state : List ℕ) where
@@ -140,6 +140,11 @@ module _ (table state : List ℕ) where
         λ e. let (h, f) = o .0 e in let (c, m) = w .0 f in let (k, n) = l .0 m in (h, c, k, n),
         λ q. let (h, c, k, n) = q in o .1 (h, w .1 (c, l .1 (k, n))),
       )
+
+  -- a step is refused on no ground but those at entry, 11, 13 and 14
+  pub step-all-grounds : (t : ℕ) (r : Refusal) → stepCall table state t .answer ≡ Stepped.Refused r
+      → (atEntry r ≡ true) ⊎ ((r ≡ Ground.Thread) ⊎ ((r ≡ Ground.ThreadRow) ⊎ (r ≡ Ground.ChannelRow)))
+  step-all-grounds t r e = caseB (atEntry r) (λ y. inl y) (λ y. inr (own-grounds tb s t r (step-by t r y .0 e .1)))
 
   -- a step is not refused on ground 12
   pub step-grounds : (t : ℕ) (r : Refusal) → stepCall table state t .answer ≡ Stepped.Refused r → r ≢ Ground.Port

@@ -30,22 +30,22 @@ use Rattle.engine_laws.specs.Entry.{RightLengths, start-admitted-iff, ad
 use Rattle.engine_laws.specs.Buffers.{SoundBuffer, view-sound, bytes-sound}
 
 module _ (table : List ℕ) (ok : accepted table ≡ true) where
-  lengths : (state : List ℕ) → length state ≡ stateLength → RightLengths table state
+  pub right-lengths : (state : List ℕ) → length state ≡ stateLength → RightLengths table state
   unfolding accepted
-  lengths state long = (eqb-true (length table) tableLength (search parts), long)
+  right-lengths state long = (eqb-true (length table) tableLength (search parts), long)
 
   -- start is not refused: it asks nothing of the state but its length
   pub start-made : (state : List ℕ) → length state ≡ stateLength → startCall table state ≡ outcome Started.Done (stateBytes (started (tableOf table)))
   unfolding startCall startOn
   start-made state long =
-      by-admitted Started.Refused state (startOn (tableOf table)) (startAdmission table state) (start-admitted-iff table state .1 (lengths state long, ok))
+      by-admitted Started.Refused state (startOn (tableOf table)) (startAdmission table state) (start-admitted-iff table state .1 (right-lengths state long, ok))
 
   pub start-done : (state : List ℕ) → length state ≡ stateLength → startCall table state .answer ≡ Started.Done
   start-done state long = ap (λ (o : Outcome Started). o .answer) (start-made state long)
 
   -- a sound buffer is refused on none of the grounds 8, 9 and 10
   pub admitted : (state : List ℕ) → SoundBuffer table state → admission table state ≡ Admission.Admitted
-  admitted state b = admitted-iff table state .1 (lengths state (b .long), ok, b .tested)
+  admitted state b = admitted-iff table state .1 (right-lengths state (b .long), ok, b .tested)
 
   -- ---- a call on a sound buffer, k being the call on the state that it holds
 

@@ -1,5 +1,6 @@
 -- The whole claim, demand 3 of document 01, on every list of calls from the start of a file that loads. This file says it and `Proof.antt` shows it: what
--- a reader must believe is here, and in the definitions that are named here.
+-- a reader must believe is here, and in the definitions that are named here. The calls are those without seats; `SeatedClaim.antt` says it of the calls as C
+-- makes them, at seats.
 use Prim.Native.Nat.{ℕ, _<_}
 use mathlib.Core.Path.{_≡_}
 use mathlib.Core.Bool.{Bool, true, false, not, _&&_}
@@ -36,8 +37,8 @@ pub data Any : Type 0 where
   on : Call → Any
   collect : Any
 
--- the bytes of the state's buffer after a call, by the definitions that the contracts of the delivered calls cite, and after a list of calls, the first of
--- it first. A call that is refused leaves the bytes as they were (document 01, on refusals), and the list goes on
+-- the bytes of the state's buffer after a call, by the definitions that the contracts of `engine` and `collector` cite for a call that its seat may make, and
+-- after a list of calls, the first of it first. A call that is refused leaves the bytes as they were (document 01, on refusals), and the list goes on
 unfoldable pub afterAny : List ℕ → List ℕ → Any → List ℕ
 afterAny table state (on k) = after table state k
 afterAny table state collect = collectCall table state .state

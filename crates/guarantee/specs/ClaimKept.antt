@@ -50,7 +50,8 @@ any-at-entry table state collect e = collect-refused-iff table state Ground.Stat
 -- ---- a table that is accepted
 
 module _ (table : List ℕ) (ok : accepted table ≡ true) where
-  not-ten : (state : List ℕ) → SoundBuffer table state → (k : Any) → ¬ RefusedBy table state k Ground.State
+  -- no call on a sound buffer is refused with 10
+  pub not-ten : (state : List ℕ) → SoundBuffer table state → (k : Any) → ¬ RefusedBy table state k Ground.State
   not-ten state b k e = let a = admitted table ok state b in let f = any-at-entry table state k e in clash cc
 
   -- a collection of a sound buffer is not refused: it answers how many threads it takes
@@ -95,7 +96,8 @@ module _ (table : List ℕ) (ok : accepted table ≡ true) (fit : (i : ℕ) → 
 
   -- ---- lists of calls
 
-  any-sound : (state : List ℕ) → SoundBuffer table state → (k : Any) → SoundBuffer table (afterAny table state k)
+  -- a call leaves a sound buffer sound
+  pub any-sound : (state : List ℕ) → SoundBuffer table state → (k : Any) → SoundBuffer table (afterAny table state k)
   unfolding afterAny
   any-sound state b (on k) = after-sound table ok fit state b k
   any-sound state b collect = collect-sound state b

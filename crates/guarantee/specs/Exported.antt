@@ -1,10 +1,10 @@
--- The claim speaks of loading and of the calls by which `Claim.antt` performs a list. Here they are held against what the contracts of the exported calls
+-- The claim speaks of loading and of the calls by which `SeatedClaim.antt` performs a list. Here they are held against what the contracts of the exported calls
 -- say, in the numbers that C sees: a load is answered with refusal 0 exactly where the file loads; the calls leave the same bytes; and a call is answered
 -- with refusal 10 only where the claim has it so. Assumes nothing.
 use Prim.Native.Nat.{ℕ, _<_}
 use native.Mathlib.Omega.{arith}
 use mathlib.Core.Path.{_≡_, refl, sym, ap, _∙_}
-use mathlib.Core.List.{List}
+use mathlib.Core.List.{List, [], _∷_}
 use mathlib.Core.Logic.{_≢_, _↔_}
 use lib.Dec.{eqb}
 use lib.ListN.{length}
@@ -27,7 +27,8 @@ use Rattle.loader.specs.declared.Verdict.{Verdict}
 use Rattle.loader.specs.declared.Verdict.the-variants.{Sound, Fault}
 use Rattle.loader_laws.specs.Lowest.{number-range}
 use Rattle.loader_laws.specs.Yields.{text-loads}
-use Rattle.rules.specs.Calls.{startCall, stepCall, giveCall, takeCall, runCall}
+use Rattle.rules.specs.Calls.{startCall}
+use Rattle.rules.specs.Seats.{seatedStep, seatedGive, seatedTake, seatedRun}
 use Rattle.rules.specs.declared.Refusal.{Refusal}
 use Rattle.rules.specs.declared.Refusal.the-variants as Ground
 use Rattle.rules.specs.declared.Stepped.{Stepped}
@@ -40,12 +41,18 @@ use Rattle.rules.specs.declared.Ran.{Ran}
 use Rattle.rules.specs.declared.Ran.the-variants as Ran
 use Rattle.engine.specs.Numbers.{refusalNumber}
 use Rattle.engine.specs.Numbers.Laws.{ground-range, same-number}
-use Rattle.engine_laws.specs.Lists.{step, give, take, run, after, RefusedWith}
-use Rattle.collector.specs.Collect.{collectCall}
+use Rattle.engine_laws.specs.Lists.{step, give, take, run}
+use Rattle.collector.specs.Collect.{seatedCollect}
 use Rattle.collector.specs.declared.Collected.{Collected}
 use Rattle.collector.specs.declared.Collected.the-variants as Collected
 use Rattle.interface.specs.Interface.{loadedTo, numbered, loadResult, inNumbers, startResult, stepFields, stepNumbers, stepResult, giveFields, giveNumbers, giveResult, takeFields, takeNumbers, takeResult, runFields, runNumbers, runResult, collectFields, collectNumbers, collectResult}
-use Rattle.guarantee.specs.Claim.{Any, on, collect, afterAny, RefusedBy}
+use Rattle.interface.specs.declared.StepAnswer.{StepAnswer}
+use Rattle.interface.specs.declared.GiveAnswer.{GiveAnswer}
+use Rattle.interface.specs.declared.TakeAnswer.{TakeAnswer}
+use Rattle.interface.specs.declared.RunAnswer.{RunAnswer}
+use Rattle.interface.specs.declared.CollectAnswer.{CollectAnswer}
+use Rattle.guarantee.specs.Claim.{Any, on, collect}
+use Rattle.guarantee.specs.SeatedClaim.{AtSeat, afterBy, afterSeat, RefusedAt}
 
 -- ---- loading
 
@@ -111,21 +118,50 @@ pub load-keeps : (file t : List ℕ) → loadResult file t .answer .refusal ≢ 
 unfolding loadResult numbered loaded Load.refusalNumber
 load-keeps file t n = after-refused (verdict (procedureText file)) (procedureText file) t (λ e. n (rw e))
 
--- ---- what C sees of a call: the bytes that it leaves, and the first number of its answer
+-- ---- what C sees of a call at a seat: the bytes that it leaves, and the numbers of its answer, the first of which is the refusal
 
-unfoldable pub left : List ℕ → List ℕ → Any → List ℕ
-left table state (on (step t)) = stepResult table state t .state
-left table state (on (give p v h)) = giveResult table state p (toZ w32 v) .state
-left table state (on (take p)) = takeResult table state p .state
-left table state (on (run n)) = runResult table state n .state
-left table state collect = collectResult table state .state
+unfoldable pub stepList : StepAnswer → List ℤ
+stepList a = a .refusal ∷ a .node ∷ a .act ∷ a .branch ∷ a .partner ∷ []
 
-unfoldable pub refusal : List ℕ → List ℕ → Any → ℤ
-refusal table state (on (step t)) = stepResult table state t .answer .refusal
-refusal table state (on (give p v h)) = giveResult table state p (toZ w32 v) .answer .refusal
-refusal table state (on (take p)) = takeResult table state p .answer .refusal
-refusal table state (on (run n)) = runResult table state n .answer .refusal
-refusal table state collect = collectResult table state .answer .refusal
+unfoldable pub giveList : GiveAnswer → List ℤ
+giveList a = a .refusal ∷ a .thread ∷ []
+
+unfoldable pub takeList : TakeAnswer → List ℤ
+takeList a = a .refusal ∷ a .thread ∷ a .number ∷ []
+
+unfoldable pub runList : RunAnswer → List ℤ
+runList a = a .refusal ∷ a .steps ∷ a .reason ∷ a .thread ∷ []
+
+unfoldable pub collectList : CollectAnswer → List ℤ
+collectList a = a .refusal ∷ a .threads ∷ []
+
+module _ (table state rights : List ℕ) (seat : ℕ) where
+  unfoldable pub leftBy : Any → List ℕ
+  leftBy (on (step t)) = stepResult table state rights seat t .state
+  leftBy (on (give p v h)) = giveResult table state rights seat p (toZ w32 v) .state
+  leftBy (on (take p)) = takeResult table state rights seat p .state
+  leftBy (on (run n)) = runResult table state rights seat n .state
+  leftBy collect = collectResult table state rights seat .state
+
+  unfoldable pub refusalBy : Any → ℤ
+  refusalBy (on (step t)) = stepResult table state rights seat t .answer .refusal
+  refusalBy (on (give p v h)) = giveResult table state rights seat p (toZ w32 v) .answer .refusal
+  refusalBy (on (take p)) = takeResult table state rights seat p .answer .refusal
+  refusalBy (on (run n)) = runResult table state rights seat n .answer .refusal
+  refusalBy collect = collectResult table state rights seat .answer .refusal
+
+  unfoldable pub answerBy : Any → List ℤ
+  answerBy (on (step t)) = stepList (stepResult table state rights seat t .answer)
+  answerBy (on (give p v h)) = giveList (giveResult table state rights seat p (toZ w32 v) .answer)
+  answerBy (on (take p)) = takeList (takeResult table state rights seat p .answer)
+  answerBy (on (run n)) = runList (runResult table state rights seat n .answer)
+  answerBy collect = collectList (collectResult table state rights seat .answer)
+
+abbrev pub left : List ℕ → List ℕ → AtSeat Any → List ℕ
+left table state k = leftBy table state (k .rights) (k .seat) (k .call)
+
+abbrev pub refusal : List ℕ → List ℕ → AtSeat Any → ℤ
+refusal table state k = refusalBy table state (k .rights) (k .seat) (k .call)
 
 -- C gives a number, and the claim has its pattern
 pub given-so : (v : ℕ) → v < 4294967296 → ofZ w32 (toZ w32 v) ≡ v
@@ -137,13 +173,16 @@ pub started-so : (table state : List ℕ) → startResult table state .state ≡
 unfolding startResult inNumbers
 started-so table state = refl
 
-pub left-so : (table state : List ℕ) (k : Any) → left table state k ≡ afterAny table state k
-unfolding left afterAny after stepResult giveResult takeResult runResult collectResult inNumbers
-left-so table state (on (step t)) = refl
-left-so table state (on (give p v h)) = ap (λ x. giveCall table state p x .state) (given-so v h)
-left-so table state (on (take p)) = refl
-left-so table state (on (run n)) = refl
-left-so table state collect = refl
+pub left-by : (table state rights : List ℕ) (seat : ℕ) (k : Any) → leftBy table state rights seat k ≡ afterBy table state rights seat k
+unfolding leftBy afterBy stepResult giveResult takeResult runResult collectResult inNumbers
+left-by table state rights seat (on (step t)) = refl
+left-by table state rights seat (on (give p v h)) = ap (λ x. seatedGive table state rights seat p x .state) (given-so v h)
+left-by table state rights seat (on (take p)) = refl
+left-by table state rights seat (on (run n)) = refl
+left-by table state rights seat collect = refl
+
+pub left-so : (table state : List ℕ) (k : AtSeat Any) → left table state k ≡ afterSeat table state k
+left-so table state k = left-by table state (k .rights) (k .seat) (k .call)
 
 -- ---- a number of a ground is the number of that ground alone, and of no call that is done
 
@@ -188,17 +227,28 @@ module _ (r : Refusal) where
   collect-number (Collected.Done n) e = absurd (not-zero r e)
   collect-number (Collected.Refused q) e = ap (λ x. Collected.Refused x) (number-is q r e)
 
--- a call that C sees refused with the number of a ground is one that the claim has refused on that ground
-pub refused-by : (table state : List ℕ) (k : Any) (r : Refusal) → refusal table state k ≡ pos (refusalNumber r) → RefusedBy table state k r
-unfolding refusal RefusedBy RefusedWith stepResult giveResult takeResult runResult collectResult inNumbers
-refused-by table state (on (step t)) r e = step-number r (stepCall table state t .answer) e
-refused-by table state (on (give p v h)) r e =
-    give-number r (giveCall table state p v .answer) (sym (ap (λ x. giveNumbers (giveCall table state p x .answer) .refusal) (given-so v h)) ∙ e)
-refused-by table state (on (take p)) r e = take-number r (takeCall table state p .answer) e
-refused-by table state (on (run n)) r e = run-number r (runCall table state n .answer) e
-refused-by table state collect r e = collect-number r (collectCall table state .answer) e
+-- a call that C sees refused with the number of a ground is one that the claim has refused on that ground, and conversely
+module _ (table state rights : List ℕ) (seat : ℕ) where
+  pub refused-by : (k : Any) (r : Refusal) → refusalBy table state rights seat k ≡ pos (refusalNumber r) → RefusedAt table state rights seat k r
+  unfolding refusalBy RefusedAt stepResult giveResult takeResult runResult collectResult inNumbers
+  refused-by (on (step t)) r e = step-number r (seatedStep table state rights seat t .answer) e
+  refused-by (on (give p v h)) r e =
+      give-number r (seatedGive table state rights seat p v .answer)
+      (sym (ap (λ x. giveNumbers (seatedGive table state rights seat p x .answer) .refusal) (given-so v h)) ∙ e)
+  refused-by (on (take p)) r e = take-number r (seatedTake table state rights seat p .answer) e
+  refused-by (on (run n)) r e = run-number r (seatedRun table state rights seat n .answer) e
+  refused-by collect r e = collect-number r (seatedCollect table state rights seat .answer) e
+
+  pub refused-shows : (k : Any) (r : Refusal) → RefusedAt table state rights seat k r → refusalBy table state rights seat k ≡ pos (refusalNumber r)
+  unfolding refusalBy RefusedAt stepResult giveResult takeResult runResult collectResult inNumbers stepNumbers giveNumbers takeNumbers runNumbers collectNumbers stepFields giveFields takeFields runFields collectFields
+  refused-shows (on (step t)) r e = ap (λ a. stepNumbers a .refusal) e ∙ ground-signed r
+  refused-shows (on (give p v h)) r e =
+      ap (λ x. giveNumbers (seatedGive table state rights seat p x .answer) .refusal) (given-so v h) ∙ ap (λ a. giveNumbers a .refusal) e ∙ ground-signed r
+  refused-shows (on (take p)) r e = ap (λ a. takeNumbers a .refusal) e ∙ ground-signed r
+  refused-shows (on (run n)) r e = ap (λ a. runNumbers a .refusal) e ∙ ground-signed r
+  refused-shows collect r e = ap (λ a. collectNumbers a .refusal) e ∙ ground-signed r
 
 -- as the claim needs it: refused with 10
-pub refused-so : (table state : List ℕ) (k : Any) → refusal table state k ≡ pos 10 → RefusedBy table state k Ground.State
+pub refused-so : (table state : List ℕ) (k : AtSeat Any) → refusal table state k ≡ pos 10 → RefusedAt table state (k .rights) (k .seat) (k .call) Ground.State
 unfolding refusalNumber
-refused-so table state k = refused-by table state k Ground.State
+refused-so table state k = refused-by table state (k .rights) (k .seat) (k .call) Ground.State

@@ -1,9 +1,13 @@
 pub mod Claim
 pub mod ClaimKept
 pub mod Later
+pub mod SeatedClaim
+pub mod Through
 pub mod Proof
+pub mod SeatedProof
 pub mod Exported
 pub mod InNumbers
 pub mod EmptyInNumbers
 pub mod WriteInNumbers
 pub mod ReasonsInLists
+pub mod SeatsInNumbers

@@ -1,10 +1,10 @@
--- Why a run ends, in the numbers that C sees: what `pithread_run` answers and leaves, said by what `pithread_step` answers and leaves. Of buffers of
--- bytes, whatever their length. Assumes nothing.
+-- Why a run ends, in the numbers that C sees: what `pithread_run` answers and leaves, said by what `pithread_step` answers and leaves at the same seat. Of
+-- buffers of bytes, whatever their length. Assumes nothing.
 use Prim.Native.Nat.{ℕ, _<_, _≤_}
 use native.Mathlib.Omega.{arith}
 use mathlib.Core.Path.{_≡_, refl, sym, ap, _∙_}
-use mathlib.Core.Bool.{true}
-use mathlib.Core.Logic.{_⊎_, ⊎-elim, _↔_}
+use mathlib.Core.Bool.{true, false}
+use mathlib.Core.Logic.{_⊎_, inr, ⊎-elim, _↔_}
 use mathlib.Core.List.{List}
 use lib.IntN.{ℤ, pos, negsuc}
 use lib.ListN.{getD}
@@ -12,9 +12,16 @@ use mir.Syntax.{w32}
 use mir.Val.{toZ}
 use mir.Facts.{toZ-pos}
 use borrow.Author.Tests.{ltb-true}
+use Rattle.numbers.specs.Search.Laws.{contra}
 use Rattle.numbers.specs.Tests.{parts, clash}
+use Rattle.table.specs.Table.{tableOf}
 use Rattle.state.specs.State.{maxThreads, view}
-use Rattle.rules.specs.Calls.{canStep, runCall}
+use Rattle.rules.specs.Calls.{Outcome, canStep, stepOn, stepCall, runCall}
+use Rattle.rules.specs.Calls.Laws.{start-admits, call-answer}
+use Rattle.rules.specs.Seats.{seatAdmission, seatedStep, seatedRun}
+use Rattle.rules.specs.Seats.Laws.{seat-admits, state-unread, seat-granted, seat-answer}
+use Rattle.rules.specs.declared.Right.the-variants.{StepAndRun}
+use Rattle.rules.specs.declared.Admission.the-variants as Admission
 use Rattle.rules.specs.declared.Refusal.{Refusal}
 use Rattle.rules.specs.declared.Refusal.the-variants as Ground
 use Rattle.rules.specs.declared.Deed.{Deed}
@@ -25,25 +32,31 @@ use Rattle.rules.specs.declared.Reason.the-variants.{AllDone, NoneReady, Lacked
 use Rattle.rules.specs.declared.Ran.{Ran}
 use Rattle.rules.specs.declared.Ran.the-variants as Ran
 use Rattle.engine.specs.Numbers.{refusalNumber, reasonNumber, heldUpNumber}
+use Rattle.engine_laws.specs.Entry.{Admitted, admitted-iff}
+use Rattle.engine_laws.specs.Seats.{atSeatEntry, seat-refused-entry}
+use Rattle.engine_laws.specs.Lists.{step, RefusedWith}
 use Rattle.engine_laws.specs.Refusals.{step-thread-row-iff, step-channel-row-iff}
 use Rattle.engine_laws.specs.Reasons.{turnPast, due, Idle, dueAnswer, afterTurns, leftBy, RunEnds, run-ends}
 use Rattle.interface.specs.Interface.{inNumbers, stepFields, stepNumbers, stepResult, runFields, runNumbers, runResult}
 use Rattle.interface.specs.declared.RunAnswer.{RunAnswer}
-use Rattle.guarantee.specs.Exported.{ground-signed, not-zero, step-number}
+use Rattle.guarantee.specs.Claim.{on, RefusedBy}
+use Rattle.guarantee.specs.SeatedClaim.{asked}
+use Rattle.guarantee.specs.Through.{refused-iff}
+use Rattle.guarantee.specs.Exported.{ground-signed, not-zero, refusalBy, refused-by, refused-shows}
 
--- the first number of the answer to a step of the first ready thread from the turn on
-unfoldable pub dueRefusal : List ℕ → List ℕ → ℤ
-dueRefusal table state = stepResult table state (due state) .answer .refusal
+-- the first number of the answer to a step of the first ready thread from the turn on, at a seat
+unfoldable pub dueRefusal : List ℕ → List ℕ → List ℕ → ℕ → ℤ
+dueRefusal table state rights seat = stepResult table state rights seat (due state) .answer .refusal
 
--- a run of at most n steps made k of them, was answered with a and left the bytes `left`. After its steps the buffer has `afterTurns table k state`
-pub record RunAnswers (table state : List ℕ) (n k : ℕ) (a : RunAnswer) (left : List ℕ) : Type 0 where
+-- a run of at most n steps, at a seat, made k of them, was answered with a and left the bytes `left`. After its steps the buffer has `afterTurns table k state`
+pub record RunAnswers (table state rights : List ℕ) (seat n k : ℕ) (a : RunAnswer) (left : List ℕ) : Type 0 where
   pub steps : a .steps ≡ pos k
   pub at-most : k ≤ n
-  pub each : (i : ℕ) → i < k → dueRefusal table (afterTurns table i state) ≡ pos 0
+  pub each : (i : ℕ) → i < k → dueRefusal table (afterTurns table i state) rights seat ≡ pos 0
   pub reason-0 : (a .reason ≡ pos 0) ↔ (k ≡ n)
   pub reason-1 : (a .reason ≡ pos 1) ↔ ((k < n) × Idle (afterTurns table k state))
-  pub reason-2 : (a .reason ≡ pos 2) ↔ ((k < n) × (dueRefusal table (afterTurns table k state) ≡ pos 13))
-  pub reason-3 : (a .reason ≡ pos 3) ↔ ((k < n) × (dueRefusal table (afterTurns table k state) ≡ pos 14))
+  pub reason-2 : (a .reason ≡ pos 2) ↔ ((k < n) × (dueRefusal table (afterTurns table k state) rights seat ≡ pos 13))
+  pub reason-3 : (a .reason ≡ pos 3) ↔ ((k < n) × (dueRefusal table (afterTurns table k state) rights seat ≡ pos 14))
   -- nobody is held up, and nothing changes after the steps
   pub ends : (a .reason ≡ pos 0) ⊎ (a .reason ≡ pos 1) → (a .thread ≡ negsuc 0) × (left ≡ afterTurns table k state)
   -- the thread whose step would be refused is held up, and the turn moves past it
@@ -90,20 +103,41 @@ run-done (Ran.Refused g) e = absurd (not-zero g (sym e ∙ ground-signed g))
 
 -- ---- a run as the rules have it
 
-module _ (table b : List ℕ) where
+-- the run began with `state`, which its seat might run, and b is another state of the run
+module _ (table state rights : List ℕ) (seat : ℕ) (may : seatAdmission table state rights seat StepAndRun ≡ Admission.Admitted) (b : List ℕ) where
+  -- the seat may step wherever a step would be admitted
+  may-step : Admitted table b → seatAdmission table b rights seat StepAndRun ≡ Admission.Admitted
+  may-step a =
+      let (l, s, i, h) = seat-admits table state rights seat StepAndRun may in
+      state-unread table state rights seat StepAndRun b (admitted-iff table b .0 a .0 .1 ∙ sym (start-admits table state s .1)) ∙ may
+
   -- the number is that of the step's answer
-  done-number : (a : ℕ) (d : Deed) → dueAnswer table b ≡ Stepped.Done a d → dueRefusal table b ≡ pos 0
-  unfolding dueRefusal stepResult inNumbers stepNumbers stepFields
-  done-number a d e = ap (λ x. stepNumbers x .refusal) e
+  done-number : (a : ℕ) (d : Deed) → dueAnswer table b ≡ Stepped.Done a d → dueRefusal table b rights seat ≡ pos 0
+  unfolding dueRefusal stepResult seatedStep inNumbers stepNumbers stepFields stepCall
+  done-number a d e =
+      let y = call-answer Stepped.Refused table b (stepOn (tableOf table) (view b) (due b)) (Stepped.Done a d) (λ r f g. clash cc) .0 e .0 in
+      ap (λ (o : Outcome Stepped). stepNumbers (o .answer) .refusal) (seat-granted table b rights seat StepAndRun Stepped.Refused (stepCall table b (due b)) (may-step y))
+      ∙ ap (λ x. stepNumbers x .refusal) e
 
-  thread-row-number : (dueAnswer table b ≡ Stepped.Refused Ground.ThreadRow) ↔ (dueRefusal table b ≡ pos 13)
-  unfolding dueRefusal stepResult inNumbers stepNumbers stepFields refusalNumber
-  thread-row-number = (λ e. ap (λ x. stepNumbers x .refusal) e, λ e. step-number Ground.ThreadRow (dueAnswer table b) e)
+  row-number : (r : Refusal) → atSeatEntry r ≡ false → (dueAnswer table b ≡ Stepped.Refused r → Admitted table b)
+      → (dueAnswer table b ≡ Stepped.Refused r) ↔ (dueRefusal table b rights seat ≡ pos (refusalNumber r))
+  unfolding dueRefusal refusalBy RefusedBy RefusedWith asked
+  row-number r own y =
+      let k = on (step (due b)) in (
+        λ e. refused-shows table b rights seat k r (refused-iff table b rights seat k r .1 (inr (may-step (y e), e))),
+        λ e. ⊎-elim (λ f. contra (seat-refused-entry table b rights seat StepAndRun r f) own) (λ f. f .1)
+            (refused-iff table b rights seat k r .0 (refused-by table b rights seat k r e)),
+      )
 
-  channel-row-number : (dueAnswer table b ≡ Stepped.Refused Ground.ChannelRow) ↔ (dueRefusal table b ≡ pos 14)
-  unfolding dueRefusal stepResult inNumbers stepNumbers stepFields refusalNumber
-  channel-row-number = (λ e. ap (λ x. stepNumbers x .refusal) e, λ e. step-number Ground.ChannelRow (dueAnswer table b) e)
+  thread-row-number : (dueAnswer table b ≡ Stepped.Refused Ground.ThreadRow) ↔ (dueRefusal table b rights seat ≡ pos 13)
+  unfolding refusalNumber atSeatEntry
+  thread-row-number = row-number Ground.ThreadRow refl (λ e. step-thread-row-iff table b (due b) .0 e .0)
 
+  channel-row-number : (dueAnswer table b ≡ Stepped.Refused Ground.ChannelRow) ↔ (dueRefusal table b rights seat ≡ pos 14)
+  unfolding refusalNumber atSeatEntry
+  channel-row-number = row-number Ground.ChannelRow refl (λ e. step-channel-row-iff table b (due b) .0 e .0)
+
+module _ (table b : List ℕ) where
   -- a thread whose step lacks a row is one of the 64
   can-low : canStep (view b) (due b) ≡ true → due b < maxThreads
   unfolding canStep
@@ -115,7 +149,8 @@ module _ (table b : List ℕ) where
   channel-row-low : dueAnswer table b ≡ Stepped.Refused Ground.ChannelRow → due b < maxThreads
   channel-row-low e = can-low (step-channel-row-iff table b (due b) .0 e .1)
 
-module _ (table state : List ℕ) (n k : ℕ) (r : Reason) (left : List ℕ) (run : RunEnds table state n k r left) (l : n < 65536) where
+module _ (table state rights : List ℕ) (seat : ℕ) (may : seatAdmission table state rights seat StepAndRun ≡ Admission.Admitted)
+    (n k : ℕ) (r : Reason) (left : List ℕ) (run : RunEnds table state n k r left) (l : n < 65536) where
   abbrev b : List ℕ
   b = afterTurns table k state
 
@@ -162,21 +197,21 @@ module _ (table state : List ℕ) (n k : ℕ) (r : Reason) (left : List ℕ) (ru
       let z : r ≡ LackedChannel (due b) = q ∙ ap (λ x. LackedChannel x) (h .1) in
       (thread-is ∙ ap (λ x. toZ w32 (heldUpNumber x)) z ∙ toZ-pos w32 {n = due b} (omega (arith, low)), run .leaves ∙ ap (λ x. leftBy x b) z)
 
-  answers : RunAnswers table state n k a left
+  answers : RunAnswers table state rights seat n k a left
   unfolding number reasonNumber
   answers = record {
     steps = steps-are;
     at-most = run .at-most;
-    each = λ i h. let e = run .steps i h in done-number table (afterTurns table i state) (e .0) (e .1) (e .2);
+    each = λ i h. let e = run .steps i h in done-number table state rights seat may (afterTurns table i state) (e .0) (e .1) (e .2);
     reason-0 = (λ e. run .all-done .0 (zero-is r (sym reason-is ∙ e)), λ q. told AllDone (run .all-done .1 q));
     reason-1 = (λ e. run .none-ready .0 (one-is r (sym reason-is ∙ e)), λ q. told NoneReady (run .none-ready .1 q));
     reason-2 = (
-      λ e. let t = two-is r (sym reason-is ∙ e) in let h = run .lacked-thread (t .0) .0 (t .1) in (h .0, thread-row-number table b .0 (h .2)),
-      λ q. told (LackedThread (due b)) (run .lacked-thread (due b) .1 (q .0, refl, thread-row-number table b .1 (q .1))),
+      λ e. let t = two-is r (sym reason-is ∙ e) in let h = run .lacked-thread (t .0) .0 (t .1) in (h .0, thread-row-number table state rights seat may b .0 (h .2)),
+      λ q. told (LackedThread (due b)) (run .lacked-thread (due b) .1 (q .0, refl, thread-row-number table state rights seat may b .1 (q .1))),
     );
     reason-3 = (
-      λ e. let t = three-is r (sym reason-is ∙ e) in let h = run .lacked-channel (t .0) .0 (t .1) in (h .0, channel-row-number table b .0 (h .2)),
-      λ q. told (LackedChannel (due b)) (run .lacked-channel (due b) .1 (q .0, refl, channel-row-number table b .1 (q .1))),
+      λ e. let t = three-is r (sym reason-is ∙ e) in let h = run .lacked-channel (t .0) .0 (t .1) in (h .0, channel-row-number table state rights seat may b .0 (h .2)),
+      λ q. told (LackedChannel (due b)) (run .lacked-channel (due b) .1 (q .0, refl, channel-row-number table state rights seat may b .1 (q .1))),
     );
     ends = λ x. ⊎-elim (λ e. all-ends (zero-is r (sym reason-is ∙ e))) (λ e. none-ends (one-is r (sym reason-is ∙ e))) x;
     held-up = λ x. ⊎-elim
@@ -184,17 +219,25 @@ module _ (table state : List ℕ) (n k : ℕ) (r : Reason) (left : List ℕ) (ru
         (λ e. let t = three-is r (sym reason-is ∙ e) in channel-held (t .0) (t .1)) x;
   }
 
-  answered : (x : Ran) → x ≡ Ran.Done k r → RunAnswers table state n k (runNumbers x) left
+  answered : (x : Ran) → x ≡ Ran.Done k r → RunAnswers table state rights seat n k (runNumbers x) left
   answered x q = rw q answers
 
 -- ---- the theorem
 
--- a run that C sees not refused: each reason exactly when it is due, the thread held up, and the bytes that are left
-pub run-answers : (table state : List ℕ) → ((i : ℕ) → getD table i 0 < 256) → ((i : ℕ) → getD state i 0 < 256) → (n : ℕ) → n < 65536
-    → runResult table state n .answer .refusal ≡ pos 0
-    → (k : ℕ) × RunAnswers table state n k (runResult table state n .answer) (runResult table state n .state)
-unfolding runResult inNumbers
-run-answers table state fit small n l e =
-    let z = run-done (runCall table state n .answer) e in
-    let ends = run-ends table state fit small n (z .0) (z .1) (z .2) in
-    (z .0, answered table state n (z .0) (z .1) (runCall table state n .state) ends l (runCall table state n .answer) (z .2))
+module _ (table state rights : List ℕ) (seat : ℕ) (fit : (i : ℕ) → getD table i 0 < 256) (small : (i : ℕ) → getD state i 0 < 256) (n : ℕ) (l : n < 65536) where
+  -- a run at a seat that is not refused is the run without seats
+  run-told : (k : ℕ) (r : Reason) → seatedRun table state rights seat n .answer ≡ Ran.Done k r
+      → RunAnswers table state rights seat n k (runNumbers (seatedRun table state rights seat n .answer)) (seatedRun table state rights seat n .state)
+  unfolding seatedRun
+  run-told k r q =
+      let call = runCall table state n in
+      let may = seat-answer table state rights seat StepAndRun Ran.Refused call (Ran.Done k r) (λ g f. clash cc) q in
+      let same = seat-granted table state rights seat StepAndRun Ran.Refused call may in
+      let done : call .answer ≡ Ran.Done k r = sym (ap (λ (o : Outcome Ran). o .answer) same) ∙ q in
+      rw same (answered table state rights seat may n k r (call .state) (run-ends table state fit small n k r done) l (call .answer) done)
+
+  -- a run that C sees not refused: each reason exactly when it is due, the thread held up, and the bytes that are left
+  pub run-answers : runResult table state rights seat n .answer .refusal ≡ pos 0
+      → (k : ℕ) × RunAnswers table state rights seat n k (runResult table state rights seat n .answer) (runResult table state rights seat n .state)
+  unfolding runResult inNumbers
+  run-answers e = let (k, r, q) = run-done (seatedRun table state rights seat n .answer) e in (k, run-told k r q)

@@ -1,4 +1,5 @@
 pub mod Parting
+pub mod Seating
 pub mod PaperCollector
 pub mod OfAgents
 pub mod OfFiles
@@ -9,6 +10,7 @@ pub mod OfWriting
 pub mod OfProfile
 pub mod OfReasons
 pub mod OfGuarantee
+pub mod OfSeats
 pub mod OfTurns
 pub mod OfRefinement
 pub mod OfSums

@@ -29,7 +29,7 @@ use Rattle.rules.specs.declared.Given.the-variants as Given
 use Rattle.rules.specs.declared.Taken.the-variants as Taken
 use Rattle.rules_laws.specs.Shape.{Shaped}
 use Rattle.rules_laws.specs.Shape.Laws.{bytes-long, view-bytes}
-use Rattle.engine_laws.specs.Entry.{Admitted, length-iff, table-iff, state-iff, admitted-iff}
+use Rattle.engine_laws.specs.Entry.{RightLengths, Admitted, length-iff, table-iff, state-iff, admitted-iff}
 use Rattle.engine_laws.specs.Bench.{NobodyOffers}
 use Rattle.engine_laws.specs.Refusals.{step-thread-iff, give-port-iff, take-port-iff, give-nobody-iff}
 use Rattle.engine_laws.specs.Buffers.{bytes-sound}
@@ -108,6 +108,9 @@ zero-table-refused =
 
 -- ---- ground 10: the state of zeros is not sound where there is a port; where there is none it is, and the calls go on to their own grounds
 
+pub zeros-lengths : RightLengths receives (stateBytes blank)
+zeros-lengths = (table-long portReceiver receiver-in-order, bytes-long blank blank-shaped)
+
 zeros-unsound : sound (filledUp portReceiver) blank ≡ false
 unfolding testing
 zeros-unsound = refl
@@ -115,7 +118,7 @@ zeros-unsound = refl
 pub zeros-refused : admission receives (stateBytes blank) ≡ Admission.Refused Ground.State
 zeros-refused =
     state-iff receives (stateBytes blank) .1 (
-      (table-long portReceiver receiver-in-order, bytes-long blank blank-shaped),
+      zeros-lengths,
       table-accepted portReceiver receiver-in-order,
       rw (table-holds portReceiver receiver-in-order, view-bytes blank blank-shaped) zeros-unsound,
     )
@@ -153,6 +156,9 @@ module _ (n : ℕ) where
       let ok = run-sound portReceiver receiver-in-order n in
       let b = bytes-sound receives (begun n) (rw (table-holds portReceiver receiver-in-order) ok) in
       admitted-iff receives (stateBytes (begun n)) .1 ((table-long portReceiver receiver-in-order, b .long), table-accepted portReceiver receiver-in-order, b .tested)
+
+  pub begun-lengths : RightLengths receives (stateBytes (begun n))
+  begun-lengths = admitted-iff receives (stateBytes (begun n)) .0 begun-admitted .0
 
   begun-view : view (stateBytes (begun n)) ≡ begun n
   begun-view = view-bytes (begun n) (run-sound portReceiver receiver-in-order n .orderly .shaped)

@@ -20,6 +20,11 @@ use Rattle.rules.specs.Offers.{partnerOf}
 use Rattle.rules.specs.Moves.{move}
 use Rattle.rules.specs.Calls.{stepAnswer, canStep, stepOn, stepCall, bench, givenTo, giveOn, giveCall}
 use Rattle.rules.specs.Calls.Laws.{step-answered}
+use Rattle.rules.specs.Seats.{hasRight, seatAdmission, seatedStep, seatedGive}
+use Rattle.rules.specs.Seats.Laws.{seat-granted}
+use Rattle.rules.specs.declared.Right.{Right}
+use Rattle.rules.specs.declared.Right.the-variants as Right
+use Rattle.rules.specs.declared.Admission.the-variants as Admission
 use Rattle.rules.specs.declared.Deed.the-variants.{TookWith}
 use Rattle.rules.specs.declared.Stepped.the-variants as Stepped
 use Rattle.rules.specs.declared.Given.the-variants as Given
@@ -28,9 +33,10 @@ use Rattle.rules.specs.declared.Partner.the-variants.{At}
 use Rattle.rules.specs.declared.Move.the-variants.{Spawns}
 use Rattle.rules_laws.specs.Frames.{elem, movers}
 use Rattle.engine.specs.Numbers.{partnerNumber}
-use Rattle.engine_laws.specs.SoundCalls.{call-made}
+use Rattle.engine_laws.specs.Seats.{seat-admitted-iff}
+use Rattle.engine_laws.specs.SoundCalls.{right-lengths, call-made}
 use Rattle.engine_laws.specs.Lists.{Call, step, give, run}
-use Rattle.collector.specs.Collect.{collected, takenCount, collectCall}
+use Rattle.collector.specs.Collect.{collected, takenCount, collectCall, seatedCollect}
 use Rattle.collector.specs.declared.Collected.the-variants as Collected
 use Rattle.collector_laws.specs.Linked.{Series}
 use Rattle.collector_laws.specs.Out.{takenThread}
@@ -41,11 +47,13 @@ use Rattle.examples.specs.Files.{rows-loaded, parting-in-order}
 use Rattle.examples.specs.ListingFile.{listingFile, listing-cut-long}
 use Rattle.guarantee.specs.Claim.{Any, on, unlessRefused, metByGive, moving, movingAll, takenBy, Guarantee}
 use Rattle.guarantee.specs.ClaimKept.{collect-view, taken-is}
+use Rattle.guarantee.specs.SeatedClaim.{AtSeat, movingBy}
 use Rattle.guarantee.specs.Proof.{collection-made, guarantee}
 use Rattle.guarantee.specs.Exported.{table-so, load-keeps}
 use Rattle.guarantee.specs.EmptyInNumbers.{one-iff}
 use Rattle.guarantee.specs.InNumbers.{moved, InNumbers}
 use Rattle.guarantee.specs.InNumbers.Proof.{moved-so, started-iff, in-numbers}
+use Rattle.instances.specs.Seating.{full, full-long, full-in-range, full-steps, full-collects, full-gives}
 use Rattle.instances.specs.Parting.{tb, table, accepts, small, held-table, stateAfter, blank, blank-long, bytesAfter, bytes-sound, bytes-view}
 
 -- ---- the file loads, here into a buffer of zeros
@@ -142,7 +150,7 @@ pub parting-begun : startResult (loadResult (fileText parting) blankTable .table
 parting-begun = rw (table-so (fileText parting) blankTable, loaded-table) (started-iff table accepts blank .1 blank-long)
 
 -- the claim in numbers holds of it, of whatever list
-pub parting-in-numbers : (ks : List Any) → InNumbers (loadResult (fileText parting) blankTable .table) blank ks
+pub parting-in-numbers : (ks : List (AtSeat Any)) → InNumbers (loadResult (fileText parting) blankTable .table) blank ks
 parting-in-numbers = in-numbers (fileText parting) blankTable parting-zero blank parting-begun
 
 -- the first 72 bytes of document 01's listing are refused with 1, and leave the buffer as it was
@@ -154,15 +162,22 @@ cut-refused =
     let one = one-iff cut blankTable .1 (inl (λ (n, e). absurd (omega (arith, listing-cut-long)))) in
     (one, load-keeps cut blankTable (λ z. let q : pos 0 ≡ pos 1 = sym z ∙ one in clash cc))
 
+-- the calls below are made at seat 0, by a list with all rights
+may : (n : ℕ) (right : Right) → hasRight full 0 right ≡ true → seatAdmission table (bytesAfter n) full 0 right ≡ Admission.Admitted
+may n right h =
+    seat-admitted-iff table (bytesAfter n) full 0 right .1 ((right-lengths table accepts (bytesAfter n) (bytes-sound n .long), full-long), accepts, full-in-range, h)
+
 -- the collection after the run of five steps answers 1
-pub one-answered : collectResult table worked .answer .threads ≡ pos 1
-unfolding collectResult inNumbers collectNumbers collectFields
-one-answered = rw one-collected
+pub one-answered : collectResult table worked full 0 .answer .threads ≡ pos 1
+unfolding collectResult seatedCollect inNumbers collectNumbers collectFields
+one-answered = rw (seat-granted table worked full 0 Right.Collect Collected.Refused (collectCall table worked) (may 5 Right.Collect full-collects), one-collected)
 
 -- a give on the port in its place names thread 0
-pub parent-named : moved table worked (give 0 7 (omega arith)) ≡ 0 ∷ []
-unfolding moving metByGive
-parent-named = moved-so table accepts worked (bytes-sound 5) (give 0 7 (omega arith)) ∙ rw parent-met
+pub parent-named : moved table worked full 0 (give 0 7 (omega arith)) ≡ 0 ∷ []
+unfolding movingBy seatedGive metByGive
+parent-named =
+    moved-so table accepts worked (bytes-sound 5) full 0 (give 0 7 (omega arith))
+    ∙ rw (seat-granted table worked full 0 (Right.Give 0) Given.Refused (giveCall table worked 0 7) (may 5 (Right.Give 0) full-gives), parent-met)
 
 -- after one step thread 0 is about to spawn: the answer of its step names thread 1, which it starts and does not meet
 spawns : (canStep (stateAfter 1) 0 ≡ true) × (move tb (stateAfter 1) 0 ≡ Spawns 0 1)
@@ -178,6 +193,13 @@ child-answer =
     rw (call-made table accepts Stepped.Refused (bytesAfter 1) (bytes-sound 1) (stepOn (tableOf table) (view (bytesAfter 1)) 0))
     (step-answered (tableOf table) (view (bytesAfter 1)) 0 ∙ rw (child-moves .0, child-moves .1))
 
-pub child-named : (stepResult table (bytesAfter 1) 0 .answer .partner ≡ pos 1) × (moved table (bytesAfter 1) (step 0) ≡ 0 ∷ [])
-unfolding stepResult inNumbers stepNumbers stepFields partnerNumber moving unlessRefused movers
-child-named = (rw child-answer, moved-so table accepts (bytesAfter 1) (bytes-sound 1) (step 0) ∙ rw (child-answer, child-moves .1))
+child-seated : seatedStep table (bytesAfter 1) full 0 0 ≡ stepCall table (bytesAfter 1) 0
+unfolding seatedStep
+child-seated = seat-granted table (bytesAfter 1) full 0 Right.StepAndRun Stepped.Refused (stepCall table (bytesAfter 1) 0) (may 1 Right.StepAndRun full-steps)
+
+pub child-named : (stepResult table (bytesAfter 1) full 0 0 .answer .partner ≡ pos 1) × (moved table (bytesAfter 1) full 0 (step 0) ≡ 0 ∷ [])
+unfolding stepResult inNumbers stepNumbers stepFields partnerNumber movingBy unlessRefused movers
+child-named = (
+  rw (child-seated, child-answer),
+  moved-so table accepts (bytesAfter 1) (bytes-sound 1) full 0 (step 0) ∙ rw (child-seated, child-answer, child-moves .1),
+)

@@ -12,7 +12,8 @@ use Rattle.profile.specs.Profile as Profile
 use Rattle.profile.specs.Profile.{profileCall}
 use Rattle.profile.specs.declared.Profiled.{Profiled}
 use Rattle.state.specs.State.{minusOne}
-use Rattle.rules.specs.Calls.{Outcome, startCall, stepCall, giveCall, takeCall, runCall}
+use Rattle.rules.specs.Calls.{Outcome, startCall}
+use Rattle.rules.specs.Seats.{seatedStep, seatedGive, seatedTake, seatedRun}
 use Rattle.rules.specs.declared.Started.{Started}
 use Rattle.rules.specs.declared.Started.the-variants as Started
 use Rattle.rules.specs.declared.Stepped.{Stepped}
@@ -24,7 +25,7 @@ use Rattle.rules.specs.declared.Taken.the-variants as Taken
 use Rattle.rules.specs.declared.Ran.{Ran}
 use Rattle.rules.specs.declared.Ran.the-variants as Ran
 use Rattle.engine.specs.Numbers as Numbers
-use Rattle.collector.specs.Collect.{collectCall}
+use Rattle.collector.specs.Collect.{seatedCollect}
 use Rattle.collector.specs.declared.Collected.{Collected}
 use Rattle.collector.specs.declared.Collected.the-variants as Collected
 use Rattle.interface.specs.declared.LoadAnswer.{LoadAnswer}
@@ -147,17 +148,19 @@ inNumbers f o = result (f (o .answer)) (o .state)
 unfoldable pub startResult : List ℕ → List ℕ → StateResult StartAnswer
 startResult table state = inNumbers startNumbers (startCall table state)
 
-unfoldable pub stepResult : List ℕ → List ℕ → ℕ → StateResult StepAnswer
-stepResult table state t = inNumbers stepNumbers (stepCall table state t)
+-- the others are made at a seat, by a list of rights
+module _ (table state rights : List ℕ) (seat : ℕ) where
+  unfoldable pub stepResult : ℕ → StateResult StepAnswer
+  stepResult t = inNumbers stepNumbers (seatedStep table state rights seat t)
 
-unfoldable pub giveResult : List ℕ → List ℕ → ℕ → ℤ → StateResult GiveAnswer
-giveResult table state p v = inNumbers giveNumbers (giveCall table state p (ofZ w32 v))
+  unfoldable pub giveResult : ℕ → ℤ → StateResult GiveAnswer
+  giveResult p v = inNumbers giveNumbers (seatedGive table state rights seat p (ofZ w32 v))
 
-unfoldable pub takeResult : List ℕ → List ℕ → ℕ → StateResult TakeAnswer
-takeResult table state p = inNumbers takeNumbers (takeCall table state p)
+  unfoldable pub takeResult : ℕ → StateResult TakeAnswer
+  takeResult p = inNumbers takeNumbers (seatedTake table state rights seat p)
 
-unfoldable pub runResult : List ℕ → List ℕ → ℕ → StateResult RunAnswer
-runResult table state n = inNumbers runNumbers (runCall table state n)
+  unfoldable pub runResult : ℕ → StateResult RunAnswer
+  runResult n = inNumbers runNumbers (seatedRun table state rights seat n)
 
-unfoldable pub collectResult : List ℕ → List ℕ → StateResult CollectAnswer
-collectResult table state = inNumbers collectNumbers (collectCall table state)
+  unfoldable pub collectResult : StateResult CollectAnswer
+  collectResult = inNumbers collectNumbers (seatedCollect table state rights seat)

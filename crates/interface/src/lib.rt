@@ -43,13 +43,15 @@ pub fn ground_number(ground: Ground) -> u32
     }
 }
 
-// The number of a ground on which a call is refused: 8 to 14.
+// The number of a ground on which a call is refused: 8 to 14, 18 or 19.
 pub fn refusal_of(refusal: Refusal) -> u32
     ensures { λ r. ⌜ r ≡ Numbers.refusalNumber refusal ⌝ }
 {
     match refusal {
         Refusal::Length => 8,
         Refusal::Table => 9,
+        Refusal::Rights => 18,
+        Refusal::Seat => 19,
         Refusal::State => 10,
         Refusal::Thread => 11,
         Refusal::Port => 12,

@@ -23,6 +23,7 @@ use Rattle.writer.specs.Write.{writeCall, bytesNumber}
 use Rattle.writer.specs.Write.Laws.{bytes-few}
 use Rattle.writer.specs.declared.Written.{Written}
 use Rattle.rules.specs.Calls as Calls
+use Rattle.rules.specs.Seats.{seatedGive}
 use Rattle.rules.specs.declared.Given.{Given}
 use Rattle.interface.specs.Interface.{loadedTo, numbered, loadResult, writtenTo, writtenNumbers, writeResult, result, inNumbers, giveNumbers, giveResult}
 use Rattle.interface.specs.declared.GiveAnswer.{GiveAnswer}
@@ -79,9 +80,9 @@ unfolding inNumbers
 answered f o a b r e g = rw g (ap (inNumbers f) e)
 
 -- the number that is given comes by way of its pattern
-pub give-answered : (table b b₁ : List ℕ) (p v : ℕ) (z : ℤ) (a : Given) (r : GiveAnswer) → Calls.outcome a b₁ ≡ Calls.giveCall table b p v
-    → v ≡ ofZ w32 (toZ w32 (ofZ w32 z)) → SFits w32 z → r ≡ giveNumbers a → result r b₁ ≡ giveResult table b p z
+pub give-answered : (table b rights b₁ : List ℕ) (seat p v : ℕ) (z : ℤ) (a : Given) (r : GiveAnswer) → Calls.outcome a b₁ ≡ seatedGive table b rights seat p v
+    → v ≡ ofZ w32 (toZ w32 (ofZ w32 z)) → SFits w32 z → r ≡ giveNumbers a → result r b₁ ≡ giveResult table b rights seat p z
 unfolding giveResult
-give-answered table b b₁ p v z a r e g i f =
+give-answered table b rights b₁ seat p v z a r e g i f =
     let q : v ≡ ofZ w32 z = g ∙ rw (toZ-ofZ i) in
-    answered giveNumbers (Calls.giveCall table b p (ofZ w32 z)) a b₁ r (rw q at e) f
+    answered giveNumbers (seatedGive table b rights seat p (ofZ w32 z)) a b₁ r (rw q at e) f

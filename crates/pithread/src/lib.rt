@@ -54,41 +54,67 @@ pub extern "C" fn pithread_start(table: &[u8], state: &mut [u8]) -> StartAnswer
 }
 
 #[no_mangle]
-pub extern "C" fn pithread_step(table: &[u8], state: &mut [u8], thread: u32) -> StepAnswer
-    ensures { λ r. ⌜ result r (now (state .exit)) ≡ stepResult (now (table .entry)) (now (state .entry)) thread ⌝ }
+pub extern "C" fn pithread_step(
+    table: &[u8],
+    state: &mut [u8],
+    rights: &[u8],
+    seat: u32,
+    thread: u32,
+) -> StepAnswer
+    ensures { λ r. ⌜ result r (now (state .exit)) ≡ stepResult (now (table .entry)) (now (state .entry)) (now (rights .entry)) seat thread ⌝ }
 {
-    interface::step_numbers(engine::step(table, state, thread))
+    interface::step_numbers(engine::step(table, state, rights, seat, thread))
 }
 
 #[no_mangle]
 pub extern "C" fn pithread_give(
     table: &[u8],
     state: &mut [u8],
+    rights: &[u8],
+    seat: u32,
     port: u32,
     number: i32,
 ) -> GiveAnswer
-    ensures { λ r. ⌜ result r (now (state .exit)) ≡ giveResult (now (table .entry)) (now (state .entry)) port number ⌝ }
+    ensures { λ r. ⌜ result r (now (state .exit)) ≡ giveResult (now (table .entry)) (now (state .entry)) (now (rights .entry)) seat port number ⌝ }
 {
-    interface::give_numbers(engine::give(table, state, port, numbers::pattern(number)))
+    let given = numbers::pattern(number);
+    interface::give_numbers(engine::give(table, state, rights, seat, port, given))
 }
 
 #[no_mangle]
-pub extern "C" fn pithread_take(table: &[u8], state: &mut [u8], port: u32) -> TakeAnswer
-    ensures { λ r. ⌜ result r (now (state .exit)) ≡ takeResult (now (table .entry)) (now (state .entry)) port ⌝ }
+pub extern "C" fn pithread_take(
+    table: &[u8],
+    state: &mut [u8],
+    rights: &[u8],
+    seat: u32,
+    port: u32,
+) -> TakeAnswer
+    ensures { λ r. ⌜ result r (now (state .exit)) ≡ takeResult (now (table .entry)) (now (state .entry)) (now (rights .entry)) seat port ⌝ }
 {
-    interface::take_numbers(engine::take(table, state, port))
+    interface::take_numbers(engine::take(table, state, rights, seat, port))
 }
 
 #[no_mangle]
-pub extern "C" fn pithread_run(table: &[u8], state: &mut [u8], n: u16) -> RunAnswer
-    ensures { λ r. ⌜ result r (now (state .exit)) ≡ runResult (now (table .entry)) (now (state .entry)) n ⌝ }
+pub extern "C" fn pithread_run(
+    table: &[u8],
+    state: &mut [u8],
+    rights: &[u8],
+    seat: u32,
+    n: u16,
+) -> RunAnswer
+    ensures { λ r. ⌜ result r (now (state .exit)) ≡ runResult (now (table .entry)) (now (state .entry)) (now (rights .entry)) seat n ⌝ }
 {
-    interface::run_numbers(engine::run(table, state, n))
+    interface::run_numbers(engine::run(table, state, rights, seat, n))
 }
 
 #[no_mangle]
-pub extern "C" fn pithread_collect(table: &[u8], state: &mut [u8]) -> CollectAnswer
-    ensures { λ r. ⌜ result r (now (state .exit)) ≡ collectResult (now (table .entry)) (now (state .entry)) ⌝ }
+pub extern "C" fn pithread_collect(
+    table: &[u8],
+    state: &mut [u8],
+    rights: &[u8],
+    seat: u32,
+) -> CollectAnswer
+    ensures { λ r. ⌜ result r (now (state .exit)) ≡ collectResult (now (table .entry)) (now (state .entry)) (now (rights .entry)) seat ⌝ }
 {
-    interface::collect_numbers(collector::collect(table, state))
+    interface::collect_numbers(collector::collect(table, state, rights, seat))
 }

@@ -1,5 +1,5 @@
 -- What C sees of the check of a table, and the pledge in the numbers that C passes and gets (document 02, S-3). The theorems on the definitions are in `Grounds.antt`
--- and `Proof.antt`; this file says them in C's numbers, and shows them. Assumes nothing.
+-- and `SeatedPledge.antt`; this file says them in C's numbers, and shows them. Assumes nothing.
 use Prim.Native.Nat.{ℕ, _≤_, _<_}
 use native.Mathlib.Omega.{arith}
 use mathlib.Core.Path.{_≡_, refl, sym, ap, _∙_}
@@ -10,23 +10,22 @@ use lib.Dec.{eqb}
 use lib.ListN.{length, getD}
 use lib.IntN.{pos}
 use mir.Syntax.{w32}
-use mir.Val.{toZ}
 use mir.Facts.{toZ-pos}
 use Rattle.numbers.specs.Tests.{clash}
 use Rattle.table.specs.Table.{tableLength, tableOf}
 use Rattle.loader.specs.Load.{accepted}
 use Rattle.loader_laws.specs.Yields.{loaded-small}
 use Rattle.state.specs.State.{maxThreads, view}
-use Rattle.rules.specs.Calls.{runCall}
+use Rattle.rules.specs.Seats.{seatedRun}
 use Rattle.rules.specs.declared.Refusal.the-variants as Ground
 use Rattle.rules.specs.declared.Ran.{Ran}
 use Rattle.rules.specs.declared.Ran.the-variants as Ran
-use Rattle.rules.specs.declared.Reason.{Reason}
 use Rattle.rules.specs.declared.Reason.the-variants.{LackedThread}
 use Rattle.engine.specs.Numbers as Numbers
 use Rattle.engine_laws.specs.Lists.{step, give, take, run}
 use Rattle.interface.specs.Interface.{loadResult, startResult, inNumbers, runFields, runNumbers, runResult, profileFields, profileNumbers, profileResult}
 use Rattle.guarantee.specs.Claim.{Any, on, collect}
+use Rattle.guarantee.specs.SeatedClaim.{AtSeat}
 use Rattle.guarantee.specs.Exported.{left, refusal, left-so, started-so, refused-by, load-so, table-so}
 use Rattle.guarantee.specs.ReasonsInLists.{two-is}
 use Rattle.guarantee.specs.InNumbers.{leftFrom}
@@ -34,9 +33,9 @@ use Rattle.guarantee.specs.InNumbers.Proof.{from-so, started-iff}
 use Rattle.profile.specs.Profile.{definitionBound, profileCall, refusalNumber, threadsNumber}
 use Rattle.profile.specs.declared.Profiled.{Profiled}
 use Rattle.profile.specs.declared.Profiled.the-variants.{Passes, WrongLength, WrongTable, ForbiddenCall, ManyThreads}
-use Rattle.profile_laws.specs.Claim.{threadsIn, EndsLacking, NeverLacks}
+use Rattle.profile_laws.specs.Claim.{threadsIn}
 use Rattle.profile_laws.specs.Grounds.{Permitted, Forbidden, length-iff, table-iff, call-iff, threads-iff, passes-iff, passes-some}
-use Rattle.profile_laws.specs.Proof.{accepted-pledge}
+use Rattle.profile_laws.specs.SeatedPledge.{EndsLackingAt, NeverLacksAt, seated-accepted-pledge}
 
 -- ---- what is said
 
@@ -53,21 +52,22 @@ pub record ProfileInNumbers (table : List ℕ) : Type 0 where
   pub threads : profileResult table .refusal ≡ pos 0
       → (profileResult table .threads ≡ pos (definitionBound (tableOf table) 0)) × (1 ≤ definitionBound (tableOf table) 0)
 
--- a run is not answered with reason 2; other calls answer no reason
-unfoldable pub NotTwo : List ℕ → List ℕ → Any → Type 0
-NotTwo table state (on (step t)) = Unit
-NotTwo table state (on (give p v h)) = Unit
-NotTwo table state (on (take p)) = Unit
-NotTwo table state (on (run n)) = runResult table state n .answer .reason ≢ pos 2
-NotTwo table state collect = Unit
+-- a run at a seat is not answered with reason 2; other calls answer no reason
+unfoldable pub NotTwo : List ℕ → List ℕ → List ℕ → ℕ → Any → Type 0
+NotTwo table state rights seat (on (step t)) = Unit
+NotTwo table state rights seat (on (give p v h)) = Unit
+NotTwo table state rights seat (on (take p)) = Unit
+NotTwo table state rights seat (on (run n)) = runResult table state rights seat n .answer .reason ≢ pos 2
+NotTwo table state rights seat collect = Unit
 
 -- no call of a list is answered with refusal 13, and no run of it with reason 2
-unfoldable pub RowsFound : List ℕ → List ℕ → List Any → Type 0
+unfoldable pub RowsFound : List ℕ → List ℕ → List (AtSeat Any) → Type 0
 RowsFound table state [] = Unit
-RowsFound table state (k ∷ ks) = (refusal table state k ≢ pos 13) × NotTwo table state k × RowsFound table (left table state k) ks
+RowsFound table state (k ∷ ks) =
+    (refusal table state k ≢ pos 13) × NotTwo table state (k .rights) (k .seat) (k .call) × RowsFound table (left table state k) ks
 
--- the pledge, of a table, a buffer for the state and a list of calls
-pub record PledgeInNumbers (table state : List ℕ) (ks : List Any) : Type 0 where
+-- the pledge, of a table, a buffer for the state and a list of calls at seats
+pub record PledgeInNumbers (table state : List ℕ) (ks : List (AtSeat Any)) : Type 0 where
   pub rows-found : RowsFound table (startResult table state .state) ks
   -- after the list there are at most as many threads as the check of the table answered
   pub few-threads : (n : ℕ) → profileResult table .threads ≡ pos n → threadsIn (view (leftFrom table state ks)) ≤ n
@@ -155,27 +155,30 @@ unfolding runNumbers runFields
 lacked-so (Ran.Done j r) e = let (t, q) = two-is r e in (j, t, ap (Ran.Done j) q)
 lacked-so (Ran.Refused g) e = clash cc
 
-ends-so : (table state : List ℕ) (k : Any) → ¬ EndsLacking table state k → NotTwo table state k
-unfolding EndsLacking NotTwo runResult inNumbers
-ends-so table state (on (step t)) f = tt
-ends-so table state (on (give p v h)) f = tt
-ends-so table state (on (take p)) f = tt
-ends-so table state (on (run n)) f = λ e. f (lacked-so (runCall table state n .answer) e)
-ends-so table state collect f = tt
+ends-so : (table state rights : List ℕ) (seat : ℕ) (k : Any) → ¬ EndsLackingAt table state rights seat k → NotTwo table state rights seat k
+unfolding EndsLackingAt NotTwo runResult inNumbers
+ends-so table state rights seat (on (step t)) f = tt
+ends-so table state rights seat (on (give p v h)) f = tt
+ends-so table state rights seat (on (take p)) f = tt
+ends-so table state rights seat (on (run n)) f = λ e. f (lacked-so (seatedRun table state rights seat n .answer) e)
+ends-so table state rights seat collect f = tt
 
-found-so : (table state : List ℕ) (ks : List Any) → NeverLacks table state ks → RowsFound table state ks
-unfolding NeverLacks RowsFound Numbers.refusalNumber
+found-so : (table state : List ℕ) (ks : List (AtSeat Any)) → NeverLacksAt table state ks → RowsFound table state ks
+unfolding NeverLacksAt RowsFound Numbers.refusalNumber
 found-so table state [] n = tt
-found-so table state (k ∷ ks) (n, m, rest) =
-    (λ e. n (refused-by table state k Ground.ThreadRow e), ends-so table state k m, found-so table (left table state k) ks (rw (left-so table state k) rest))
+found-so table state (k ∷ ks) (n, m, rest) = (
+  λ e. n (refused-by table state (k .rights) (k .seat) (k .call) Ground.ThreadRow e),
+  ends-so table state (k .rights) (k .seat) (k .call) m,
+  found-so table (left table state k) ks (rw (left-so table state k) rest),
+)
 
 -- of a table that C sees pass, and so is accepted
 module _ (table : List ℕ) (fit : (i : ℕ) → getD table i 0 < 256) (passes : profileResult table .refusal ≡ pos 0)
-    (state : List ℕ) (begun : startResult table state .answer .refusal ≡ pos 0) (ks : List Any) where
+    (state : List ℕ) (begun : startResult table state .answer .refusal ≡ pos 0) (ks : List (AtSeat Any)) where
   pledged : (n : ℕ) → profileCall table ≡ Passes n → PledgeInNumbers table state ks
   pledged n e =
       let ok = profile-in-numbers table fit .zero .0 passes .0 in
-      let p = accepted-pledge table fit n e state (started-iff table ok state .0 begun) ks in
+      let p = seated-accepted-pledge table fit n e state (started-iff table ok state .0 begun) ks in
       record {
         rows-found = found-so table _ ks (rw (started-so table state) (p .never-lacks));
         few-threads = λ m q. let z : pos n ≡ pos m = sym (passes-threads table fit n e) ∙ q in let same : n ≡ m = cc in
@@ -188,6 +191,6 @@ module _ (table : List ℕ) (fit : (i : ℕ) → getD table i 0 < 256) (passes :
 
 -- ---- the theorem: of every file that C sees loaded, whose table C sees pass, and every buffer in which C sees it started
 pub pledge-in-numbers : (file t : List ℕ) → loadResult file t .answer .refusal ≡ pos 0 → profileResult (loadResult file t .table) .refusal ≡ pos 0
-    → (state : List ℕ) → startResult (loadResult file t .table) state .answer .refusal ≡ pos 0 → (ks : List Any)
+    → (state : List ℕ) → startResult (loadResult file t .table) state .answer .refusal ≡ pos 0 → (ks : List (AtSeat Any))
     → PledgeInNumbers (loadResult file t .table) state ks
 pledge-in-numbers file t e = passed-pledge (loadResult file t .table) (rw (table-so file t) (loaded-small file t (load-so file t e)))

@@ -6,4 +6,5 @@ pub mod Weight
 pub mod Lighter
 pub mod Calls
 pub mod Proof
+pub mod SeatedPledge
 pub mod InNumbers

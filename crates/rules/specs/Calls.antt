@@ -1,4 +1,5 @@
--- The calls of the engine, each on a state and then on buffers: their grounds in order, their answers, and what they leave.
+-- The calls of the engine, each on a state and then on buffers: their grounds in order, their answers, and what they leave. `Seats.antt` has them as they are
+-- made at a seat.
 pub mod Laws
 use Prim.Native.Nat.{ℕ, zero, suc}
 use mathlib.Core.Bool.{Bool, not, _&&_, cond}
@@ -167,6 +168,8 @@ pastTurn s t = withMark s Word.turn (oneUp maxThreads t)
 unfoldable pub reasonFor : ℕ → Refusal → Reason
 reasonFor t Ground.Length = NoneReady
 reasonFor t Ground.Table = NoneReady
+reasonFor t Ground.Rights = NoneReady
+reasonFor t Ground.Seat = NoneReady
 reasonFor t Ground.State = NoneReady
 reasonFor t Ground.Thread = NoneReady
 reasonFor t Ground.Port = NoneReady

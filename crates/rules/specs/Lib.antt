@@ -5,3 +5,4 @@ pub mod Offers
 pub mod Moves
 pub mod Sound
 pub mod Calls
+pub mod Seats

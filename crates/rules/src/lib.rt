@@ -38,11 +38,21 @@ pub enum Move {
 pub enum Refusal {
     Length,
     Table,
+    Rights,
+    Seat,
     State,
     Thread,
     Port,
     ThreadRow,
     ChannelRow,
+}
+
+// What a call asks of the seat at which it is made: a take and a give with their port, a step or a run, a collection.
+pub enum Right {
+    Take(u32),
+    Give(u32),
+    StepAndRun,
+    Collect,
 }
 
 // Whether a call may go on to its own grounds.

@@ -239,6 +239,8 @@ fn reason_for(t: u32, ground: Refusal) -> Reason
     match ground {
         Refusal::Length => Reason::NoneReady,
         Refusal::Table => Reason::NoneReady,
+        Refusal::Rights => Reason::NoneReady,
+        Refusal::Seat => Reason::NoneReady,
         Refusal::State => Reason::NoneReady,
         Refusal::Thread => Reason::NoneReady,
         Refusal::Port => Reason::NoneReady,

@@ -41,6 +41,8 @@ numbers! {
     TABLE_BYTES: usize = 20_760;
     /// Bytes of a state.
     STATE_BYTES: usize = 6_156;
+    /// Bytes of a list of rights.
+    RIGHTS_BYTES: usize = 288;
 
     /// Words of a state.
     STATE_WORDS: usize = 1_539;
@@ -76,6 +78,28 @@ numbers! {
     CHANNEL_HOLDERS: usize = 1;
     /// Inside a channel row, how many of its holders are waiting threads.
     CHANNEL_WAITING: usize = 2;
+
+    /// Seats of a bench.
+    SEATS: usize = 8;
+    /// The most ports that a file may have, and as many numbers of a seat are for ports.
+    PORTS: usize = 8;
+    /// Numbers of a list of rights for each seat: one for each port, and one for the bench as a whole.
+    SEAT_NUMBERS: usize = 9;
+    /// Among the numbers of a seat, the place of the one for the bench as a whole.
+    BENCH_RIGHT: usize = 8;
+
+    /// A seat may do nothing, on a port or on the bench as a whole.
+    NO_RIGHT: i32 = 0;
+    /// On a port: the seat may take.
+    MAY_TAKE: i32 = 1;
+    /// On a port: the seat may give.
+    MAY_GIVE: i32 = 2;
+    /// On the bench as a whole: the seat may step and run.
+    MAY_STEP: i32 = 1;
+    /// On the bench as a whole: the seat may collect.
+    MAY_COLLECT: i32 = 2;
+    /// A seat may do both, on a port or on the bench as a whole.
+    BOTH_RIGHTS: i32 = 3;
 
     /// Status of a thread row that is free.
     FREE: i32 = 0;
@@ -120,6 +144,10 @@ numbers! {
     FORBIDDEN_CALL: i32 = 16;
     /// The thread bound of definition 0 is above the number of thread rows.
     MANY_THREADS: i32 = 17;
+    /// A number of the list of rights is outside 0 to 3. Tested behind [`TABLE`] and ahead of [`STATE`].
+    RIGHTS: i32 = 18;
+    /// There is no such seat, or it has not the right. Tested behind [`RIGHTS`] and ahead of [`STATE`].
+    SEAT: i32 = 19;
 
     /// A step: the thread came to its end.
     ENDED: i32 = 0;
@@ -176,7 +204,7 @@ answers! {
 
     /// The answer of a step.
     Stepped {
-        /// 0, a ground from 8 to 11, 13 or 14.
+        /// 0, a ground from 8 to 11, 13, 14, 18 or 19.
         refusal,
         /// Where the thread stood before the step, counted from 0 over the whole file.
         node,
@@ -190,7 +218,7 @@ answers! {
 
     /// The answer of a give.
     Given {
-        /// 0, a ground from 8 to 10, or 12.
+        /// 0, a ground from 8 to 10, 12, 18 or 19.
         refusal,
         /// The thread that received the number, or [`NOBODY`].
         thread,
@@ -198,7 +226,7 @@ answers! {
 
     /// The answer of a take.
     Taken {
-        /// 0, a ground from 8 to 10, or 12.
+        /// 0, a ground from 8 to 10, 12, 18 or 19.
         refusal,
         /// The thread that sent the number, or [`NOBODY`].
         thread,
@@ -208,7 +236,7 @@ answers! {
 
     /// The answer of a run.
     Ran {
-        /// 0, or a ground from 8 to 10.
+        /// 0, a ground from 8 to 10, 18 or 19.
         refusal,
         /// How many steps were made.
         steps,
@@ -220,7 +248,7 @@ answers! {
 
     /// The answer of a collection.
     Collected {
-        /// 0, or a ground from 8 to 10.
+        /// 0, a ground from 8 to 10, 18 or 19.
         refusal,
         /// How many threads were taken.
         threads,

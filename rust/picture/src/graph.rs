@@ -1,6 +1,6 @@
 //! Who holds and who offers what, in a state.
 
-use pithread::{Bench, Refusal, Status};
+use pithread::{Bench, Refusal, Rights, Seat, Status};
 
 use crate::program::Program;
 
@@ -78,7 +78,7 @@ impl Graph {
     pub fn new(bench: &Bench) -> Result<Graph, Refusal> {
         let program = Program::new(bench.table());
         let mut after = bench.clone();
-        after.collect()?;
+        after.at(&Rights::FULL, Seat::ALL[0]).collect()?;
         let threads = bench.state().threads().map(|thread| {
             let pithread::Thread { number, status, node, slots } = thread;
             let offers = match status {

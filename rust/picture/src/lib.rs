@@ -16,7 +16,7 @@ mod svg;
 pub mod text;
 
 use graph::Graph;
-use pithread::{Bench, Ran, Reason, Refusal};
+use pithread::{Bench, Ran, Reason, Refusal, Rights, Seat};
 
 /// What is drawn, and what is said about it.
 pub struct Picture {
@@ -29,7 +29,7 @@ impl Picture {
     /// The procedures of a file after so many steps, or fewer if no more can be made.
     pub fn of_file(name: &str, file: &[u8], steps: u16) -> Result<Picture, Refusal> {
         let mut bench = Bench::load(file)?;
-        let ran = bench.run(steps)?;
+        let ran = bench.at(&Rights::FULL, Seat::ALL[0]).run(steps)?;
         Picture::of_bench(name, &bench, ran)
     }
 

@@ -1,10 +1,11 @@
 //! A procedure at work.
 
 use pithread_header::{
-    ALL_STEPS, BRANCH, CALLED, ENDED, LACKED_CHANNEL_ROW, LACKED_THREAD_ROW, NONE_READY, STATE_BYTES, WAITS,
+    ALL_STEPS, BRANCH, CALLED, ENDED, LACKED_CHANNEL_ROW, LACKED_THREAD_ROW, NONE_READY, RIGHTS_BYTES,
+    STATE_BYTES, WAITS,
 };
 
-use crate::{raw, Refusal, State, Table};
+use crate::{raw, Refusal, Rights, Seat, State, Table};
 
 /// What a step did.
 #[derive(Clone, Copy, Debug, PartialEq, Eq, Hash)]
@@ -72,8 +73,8 @@ pub struct Ran {
 
 /// A table and the state that the calls so far have led to.
 ///
-/// The state is sound from the beginning, and every call keeps it so. Hence no call on a bench is refused
-/// with a ground from 8 to 10; which others it may be refused with is said at each.
+/// The state is sound from the beginning, and every call keeps it so. Calls that move it on are made from a seat:
+/// [`Bench::at`] lends the bench to one.
 #[derive(Clone, Debug, PartialEq, Eq)]
 pub struct Bench {
     table: Table,
@@ -98,10 +99,10 @@ impl Bench {
     /// and with ground 10 if the state is not a sound one for the table.
     ///
     /// ```
-    /// use pithread::{Bench, Refusal};
+    /// use pithread::{Bench, Refusal, Rights, Seat};
     ///
     /// let mut bench = Bench::load(&std::fs::read("../../examples/doubler.txt")?)?;
-    /// bench.run(10)?;
+    /// bench.at(&Rights::FULL, Seat::ALL[0]).run(10)?;
     /// let kept = bench.state().as_bytes().to_vec();
     ///
     /// let again = Bench::resume(bench.table().clone(), &kept)?;
@@ -114,8 +115,8 @@ impl Bench {
     pub fn resume(table: Table, state: &[u8]) -> Result<Bench, Refusal> {
         let bytes = Box::new(state.try_into().map_err(|_| Refusal::BufferLength)?);
         let mut bench = Bench { table, state: State { bytes } };
-        // A run of no steps changes nothing, and judges the state as every call does.
-        bench.run(0)?;
+        // A run of no steps changes nothing, and judges the state as every call of a seat with the right does.
+        bench.at(&Rights::FULL, Seat::ALL[0]).run(0)?;
         Ok(bench)
     }
 
@@ -129,10 +130,51 @@ impl Bench {
         &self.state
     }
 
-    /// Lets one ready thread make one step. Refused with ground 11 if there is no such thread or it is not
-    /// ready, with 13 or 14 if it lacks a row; it can be stepped again once a row is free.
+    /// The table and the state as the calls take them.
+    fn buffers(&mut self) -> (&[u8], &mut [u8]) {
+        (self.table.as_bytes(), &mut self.state.bytes[..])
+    }
+
+    /// Lends the bench to a seat, which may do what the rights say. The next call may name another seat and other
+    /// rights.
+    ///
+    /// ```
+    /// use pithread::{Bench, PortRight, Refusal, Rights, Seat, SeatRights};
+    ///
+    /// let [leader, trainee, ..] = Seat::ALL;
+    /// let mut rights = Rights::NONE;
+    /// rights[leader] = SeatRights::FULL;
+    /// rights[trainee].ports[1] = PortRight::Take;
+    ///
+    /// let mut bench = Bench::load(&std::fs::read("../../examples/doubler.txt")?)?;
+    /// bench.at(&rights, leader).run(10)?;
+    /// assert_eq!(bench.at(&rights, trainee).give(0, 4), Err(Refusal::Seat));
+    /// assert_eq!(bench.at(&rights, trainee).take(1), Ok(None));
+    /// # Ok::<(), Box<dyn std::error::Error>>(())
+    /// ```
+    pub fn at(&mut self, rights: &Rights, seat: Seat) -> AtSeat<'_> {
+        AtSeat { bench: self, rights: rights.to_bytes(), seat: seat.number() }
+    }
+}
+
+/// A bench that is lent to a seat.
+///
+/// A call that the seat has no right to is refused with ground 19, whatever the state. No call is refused with 8,
+/// 9, 10 or 18; with which others it may be is said at each.
+#[derive(Debug)]
+pub struct AtSeat<'a> {
+    bench: &'a mut Bench,
+    rights: [u8; RIGHTS_BYTES],
+    seat: u32,
+}
+
+impl AtSeat<'_> {
+    /// Lets one ready thread make one step. Refused with ground 19 if the seat may not step, with 11 if there is
+    /// no such thread or it is not ready, with 13 or 14 if it lacks a row; it can be stepped again once a row is
+    /// free.
     pub fn step(&mut self, thread: u32) -> Result<Stepped, Refusal> {
-        let stepped = raw::step(self.table.as_bytes(), &mut self.state.bytes[..], thread);
+        let (table, state) = self.bench.buffers();
+        let stepped = raw::step(table, state, &self.rights, self.seat, thread);
         Refusal::unless_done(stepped.refusal, 0)?;
         let act = match stepped.act {
             ENDED => Act::Ended,
@@ -145,26 +187,31 @@ impl Bench {
     }
 
     /// Gives a number to the thread that waits to receive on a port, of several to the one with the lowest
-    /// number, and answers which it is. Nothing changes if there is none. Refused with ground 12 if there
-    /// is no such port.
+    /// number, and answers which it is. Nothing changes if there is none. Refused with ground 19 if the seat may
+    /// not give there, as no seat may above port 7, else with 12 if the file has no such port.
     pub fn give(&mut self, port: u32, number: i32) -> Result<Option<u32>, Refusal> {
-        let given = raw::give(self.table.as_bytes(), &mut self.state.bytes[..], port, number);
+        let (table, state) = self.bench.buffers();
+        let given = raw::give(table, state, &self.rights, self.seat, port, number);
         Refusal::unless_done(given.refusal, 0)?;
         Ok(somebody(given.thread))
     }
 
     /// Takes a number from the thread that waits to send on a port, of several from the one with the lowest
-    /// number. Nothing changes if there is none. Refused with ground 12 if there is no such port.
+    /// number. Nothing changes if there is none. Refused with ground 19 if the seat may not take there, as no
+    /// seat may above port 7, else with 12 if the file has no such port.
     pub fn take(&mut self, port: u32) -> Result<Option<Taken>, Refusal> {
-        let taken = raw::take(self.table.as_bytes(), &mut self.state.bytes[..], port);
+        let (table, state) = self.bench.buffers();
+        let taken = raw::take(table, state, &self.rights, self.seat, port);
         Refusal::unless_done(taken.refusal, 0)?;
         Ok(somebody(taken.thread).map(|thread| Taken { thread, number: taken.number }))
     }
 
     /// Makes up to `n` steps of ready threads in turn. A thread that lacks a row ends the run, which is no
-    /// refusal: the steps before it stay, and the next run begins with the others. Never refused.
+    /// refusal: the steps before it stay, and the next run begins with the others. Refused with ground 19 if the
+    /// seat may not step, and on no other.
     pub fn run(&mut self, n: u16) -> Result<Ran, Refusal> {
-        let ran = raw::run(self.table.as_bytes(), &mut self.state.bytes[..], n);
+        let (table, state) = self.bench.buffers();
+        let ran = raw::run(table, state, &self.rights, self.seat, n);
         Refusal::unless_done(ran.refusal, 0)?;
         let reason = match (ran.reason, somebody(ran.thread)) {
             (ALL_STEPS, _) => Reason::AllSteps,
@@ -177,9 +224,11 @@ impl Bench {
     }
 
     /// Takes away every thread that can never move again, whatever calls may follow, and the channels that
-    /// only such threads have. Answers how many threads were taken. Never refused.
+    /// only such threads have. Answers how many threads were taken. Refused with ground 19 if the seat may not
+    /// collect, and on no other.
     pub fn collect(&mut self) -> Result<u32, Refusal> {
-        let collected = raw::collect(self.table.as_bytes(), &mut self.state.bytes[..]);
+        let (table, state) = self.bench.buffers();
+        let collected = raw::collect(table, state, &self.rights, self.seat);
         Refusal::unless_done(collected.refusal, 0)?;
         Ok(count(collected.threads))
     }

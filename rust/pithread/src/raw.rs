@@ -5,6 +5,9 @@
 //! [`Bench`](crate::Bench) is what a program uses. This layer is for one that keeps its buffers itself,
 //! and for tests that hand over wrong ones.
 //!
+//! Step, give, take, run and collect are made by a seat: behind the state they take a list of rights, 288 bytes,
+//! and the seat's number. [`Rights::to_bytes`](crate::Rights::to_bytes) makes such a list.
+//!
 //! ```
 //! use pithread::raw;
 //!
@@ -17,36 +20,24 @@
 
 pub use pithread_header::{Collected, Given, Loaded, Profiled, Ran, Started, Stepped, Taken, Written};
 
+// Laid out by hand: with a line for each parameter the five calls of a seat would hardly be told apart.
+#[rustfmt::skip]
 #[link(name = "pithread", kind = "static")]
 extern "C" {
     fn pithread_load(file: *const u8, file_len: usize, table: *mut u8, table_len: usize) -> Loaded;
     fn pithread_write(table: *const u8, table_len: usize, file: *mut u8, file_len: usize) -> Written;
     fn pithread_profile(table: *const u8, table_len: usize) -> Profiled;
     fn pithread_start(table: *const u8, table_len: usize, state: *mut u8, state_len: usize) -> Started;
-    fn pithread_step(
-        table: *const u8,
-        table_len: usize,
-        state: *mut u8,
-        state_len: usize,
-        thread: u32,
-    ) -> Stepped;
-    fn pithread_give(
-        table: *const u8,
-        table_len: usize,
-        state: *mut u8,
-        state_len: usize,
-        port: u32,
-        number: i32,
-    ) -> Given;
-    fn pithread_take(
-        table: *const u8,
-        table_len: usize,
-        state: *mut u8,
-        state_len: usize,
-        port: u32,
-    ) -> Taken;
-    fn pithread_run(table: *const u8, table_len: usize, state: *mut u8, state_len: usize, n: u16) -> Ran;
-    fn pithread_collect(table: *const u8, table_len: usize, state: *mut u8, state_len: usize) -> Collected;
+    fn pithread_step(table: *const u8, table_len: usize, state: *mut u8, state_len: usize,
+        rights: *const u8, rights_len: usize, seat: u32, thread: u32) -> Stepped;
+    fn pithread_give(table: *const u8, table_len: usize, state: *mut u8, state_len: usize,
+        rights: *const u8, rights_len: usize, seat: u32, port: u32, number: i32) -> Given;
+    fn pithread_take(table: *const u8, table_len: usize, state: *mut u8, state_len: usize,
+        rights: *const u8, rights_len: usize, seat: u32, port: u32) -> Taken;
+    fn pithread_run(table: *const u8, table_len: usize, state: *mut u8, state_len: usize,
+        rights: *const u8, rights_len: usize, seat: u32, n: u16) -> Ran;
+    fn pithread_collect(table: *const u8, table_len: usize, state: *mut u8, state_len: usize,
+        rights: *const u8, rights_len: usize, seat: u32) -> Collected;
 }
 
 // SAFETY, of every call below: each pointer comes from a slice with the slice's length, a slice that is
@@ -100,27 +91,57 @@ pub fn start(table: &[u8], state: &mut [u8]) -> Started {
     unsafe { pithread_start(table.as_ptr(), table.len(), state.as_mut_ptr(), state.len()) }
 }
 
+/// Calls a function of the archive by a seat: the table, the state, the list of rights and the seat, then the
+/// call's own numbers.
+macro_rules! by_seat {
+    ($call:ident, $table:ident, $state:ident, $rights:ident, $seat:ident $(, $number:ident)*) => {{
+        let (state, state_len) = ($state.as_mut_ptr(), $state.len());
+        let (rights, rights_len) = ($rights.as_ptr(), $rights.len());
+        unsafe {
+            $call($table.as_ptr(), $table.len(), state, state_len, rights, rights_len, $seat $(, $number)*)
+        }
+    }};
+}
+
 /// Lets one ready thread make one step.
-pub fn step(table: &[u8], state: &mut [u8], thread: u32) -> Stepped {
-    unsafe { pithread_step(table.as_ptr(), table.len(), state.as_mut_ptr(), state.len(), thread) }
+///
+/// ```
+/// use pithread::{raw, Bench, Rights};
+///
+/// let bench = Bench::load(&std::fs::read("../../examples/doubler.txt")?)?;
+/// let mut state = *bench.state().as_bytes();
+/// let step = |state: &mut [u8], rights: &[u8], seat| {
+///     raw::step(bench.table().as_bytes(), state, rights, seat, 0).refusal
+/// };
+/// let (none, full) = (Rights::NONE.to_bytes(), Rights::FULL.to_bytes());
+/// assert_eq!(step(&mut state, &full[..284], 5), 8);
+/// assert_eq!(step(&mut state, &[4; 288], 5), 18); // whoever's numbers they are
+/// assert_eq!(step(&mut state, &none, 5), 19);
+/// assert_eq!(step(&mut state, &full, 8), 19); // there is no such seat
+/// assert_eq!(state, *bench.state().as_bytes());
+/// assert_eq!(step(&mut state, &full, 5), 0);
+/// # Ok::<(), Box<dyn std::error::Error>>(())
+/// ```
+pub fn step(table: &[u8], state: &mut [u8], rights: &[u8], seat: u32, thread: u32) -> Stepped {
+    by_seat!(pithread_step, table, state, rights, seat, thread)
 }
 
 /// Gives a number to a thread that waits to receive on a port.
-pub fn give(table: &[u8], state: &mut [u8], port: u32, number: i32) -> Given {
-    unsafe { pithread_give(table.as_ptr(), table.len(), state.as_mut_ptr(), state.len(), port, number) }
+pub fn give(table: &[u8], state: &mut [u8], rights: &[u8], seat: u32, port: u32, number: i32) -> Given {
+    by_seat!(pithread_give, table, state, rights, seat, port, number)
 }
 
 /// Takes a number from a thread that waits to send on a port.
-pub fn take(table: &[u8], state: &mut [u8], port: u32) -> Taken {
-    unsafe { pithread_take(table.as_ptr(), table.len(), state.as_mut_ptr(), state.len(), port) }
+pub fn take(table: &[u8], state: &mut [u8], rights: &[u8], seat: u32, port: u32) -> Taken {
+    by_seat!(pithread_take, table, state, rights, seat, port)
 }
 
 /// Makes up to `n` steps of ready threads in turn.
-pub fn run(table: &[u8], state: &mut [u8], n: u16) -> Ran {
-    unsafe { pithread_run(table.as_ptr(), table.len(), state.as_mut_ptr(), state.len(), n) }
+pub fn run(table: &[u8], state: &mut [u8], rights: &[u8], seat: u32, n: u16) -> Ran {
+    by_seat!(pithread_run, table, state, rights, seat, n)
 }
 
 /// Takes away every thread that can never move again.
-pub fn collect(table: &[u8], state: &mut [u8]) -> Collected {
-    unsafe { pithread_collect(table.as_ptr(), table.len(), state.as_mut_ptr(), state.len()) }
+pub fn collect(table: &[u8], state: &mut [u8], rights: &[u8], seat: u32) -> Collected {
+    by_seat!(pithread_collect, table, state, rights, seat)
 }

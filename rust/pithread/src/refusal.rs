@@ -5,12 +5,13 @@ use std::fmt;
 
 use pithread_header::{
     BUFFER_LENGTH, COUNTS, DONE, FIELD, FILE_LENGTH, FORBIDDEN_CALL, MANY_THREADS, NO_CHANNEL_ROW,
-    NO_THREAD_ROW, PORT, RANGE, READ, SHORT_BUFFER, STATE, TABLE, THREAD, TYPES, UNREACHABLE,
+    NO_THREAD_ROW, PORT, RANGE, READ, RIGHTS, SEAT, SHORT_BUFFER, STATE, TABLE, THREAD, TYPES, UNREACHABLE,
 };
 
 /// The ground on which a call was refused. Nothing has changed then.
 ///
-/// If several grounds apply, the answer is the one with the lowest number.
+/// If several grounds apply, the answer is the one with the lowest number, but that 18 and 19 come ahead of 10: a
+/// seat without the right is told nothing of the state.
 ///
 /// ```
 /// use pithread::{Refusal, Table};
@@ -75,6 +76,10 @@ pub enum Refusal {
     ForbiddenCall,
     /// 17: the thread bound of definition 0 is above the number of thread rows.
     ManyThreads,
+    /// 18: a number of the list of rights is outside 0 to 3, whoever's it is.
+    Rights,
+    /// 19: there is no such seat, or it has not the right.
+    Seat,
 }
 
 impl Refusal {
@@ -100,11 +105,13 @@ impl Refusal {
             SHORT_BUFFER => Refusal::ShortBuffer,
             FORBIDDEN_CALL => Refusal::ForbiddenCall,
             MANY_THREADS => Refusal::ManyThreads,
-            _ => unreachable!("a ground is a number from 1 to 17"),
+            RIGHTS => Refusal::Rights,
+            SEAT => Refusal::Seat,
+            _ => unreachable!("a ground is a number from 1 to 19"),
         })
     }
 
-    /// The number of the ground, from 1 to 17.
+    /// The number of the ground, from 1 to 19.
     pub fn number(self) -> i32 {
         self.parts().0
     }
@@ -144,6 +151,8 @@ impl Refusal {
             Refusal::ShortBuffer => (SHORT_BUFFER, None, "the buffer is shorter than the file"),
             Refusal::ForbiddenCall => (FORBIDDEN_CALL, None, "the profile forbids a call"),
             Refusal::ManyThreads => (MANY_THREADS, None, "there can be more threads than thread rows"),
+            Refusal::Rights => (RIGHTS, None, "a number of the list of rights is outside 0 to 3"),
+            Refusal::Seat => (SEAT, None, "there is no such seat, or it has not the right"),
         }
     }
 }

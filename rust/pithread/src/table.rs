@@ -39,13 +39,13 @@ impl Table {
     /// A card without bytes is a file too, and loads as a procedure that ends.
     ///
     /// ```
-    /// use pithread::{Act, Bench, Table};
+    /// use pithread::{Act, Bench, Rights, Seat, Table};
     ///
     /// let table = Table::load(b"")?;
     /// assert_eq!(table.write(), std::fs::read("../../examples/first/1.txt")?); // three lines
     ///
     /// let mut bench = Bench::start(table)?;
-    /// assert_eq!(bench.step(0)?.act, Act::Ended);
+    /// assert_eq!(bench.at(&Rights::FULL, Seat::ALL[0]).step(0)?.act, Act::Ended);
     /// # Ok::<(), Box<dyn std::error::Error>>(())
     /// ```
     pub fn load(file: &[u8]) -> Result<Table, Refusal> {

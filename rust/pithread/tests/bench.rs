@@ -1,7 +1,7 @@
 //! The safe layer on the files of `examples` and on small ones written here.
 
 use generate::rental::doublings;
-use pithread::{Act, Bench, Ran, Reason, Refusal, Status, Stepped, Table, Taken};
+use pithread::{Act, AtSeat, Bench, Ran, Reason, Refusal, Rights, Seat, Status, Stepped, Table, Taken};
 
 fn example(name: &str) -> Vec<u8> {
     let path = format!("{}/../../examples/{name}", env!("CARGO_MANIFEST_DIR"));
@@ -10,6 +10,11 @@ fn example(name: &str) -> Vec<u8> {
 
 fn bench(name: &str) -> Bench {
     Bench::load(&example(name)).expect("the examples load")
+}
+
+/// The bench lent to a seat that may do everything.
+fn all(bench: &mut Bench) -> AtSeat<'_> {
+    bench.at(&Rights::FULL, Seat::ALL[4])
 }
 
 /// The text of some lines, each of which goes on with zeros.
@@ -45,18 +50,21 @@ fn creators() -> Vec<u8> {
 #[test]
 fn a_number_goes_in_and_comes_out_doubled() {
     let mut bench = bench("doubler.txt");
-    assert_eq!(bench.give(0, 21), Ok(None));
-    assert_eq!(bench.step(0), Ok(Stepped { node: 0, act: Act::Waits }));
-    assert_eq!(bench.take(1), Ok(None));
-    assert_eq!(bench.give(0, 21), Ok(Some(0)));
-    assert_eq!(bench.step(0), Ok(Stepped { node: 1, act: Act::Called }));
-    assert_eq!(bench.step(0), Ok(Stepped { node: 2, act: Act::Branch { branch: 1, partner: None } }));
-    assert_eq!(bench.run(1000), Ok(Ran { steps: 1, reason: Reason::NoneReady }));
-    assert_eq!(bench.take(1), Ok(Some(Taken { thread: 0, number: 42 })));
-    assert_eq!(bench.run(2), Ok(Ran { steps: 2, reason: Reason::AllSteps }));
-    assert_eq!(bench.give(0, -1), Ok(Some(0)));
-    assert_eq!(bench.run(2).map(|ran| ran.steps), Ok(2));
-    assert_eq!(bench.step(0), Ok(Stepped { node: 5, act: Act::Ended }));
+    assert_eq!(all(&mut bench).give(0, 21), Ok(None));
+    assert_eq!(all(&mut bench).step(0), Ok(Stepped { node: 0, act: Act::Waits }));
+    assert_eq!(all(&mut bench).take(1), Ok(None));
+    assert_eq!(all(&mut bench).give(0, 21), Ok(Some(0)));
+    assert_eq!(all(&mut bench).step(0), Ok(Stepped { node: 1, act: Act::Called }));
+    assert_eq!(
+        all(&mut bench).step(0),
+        Ok(Stepped { node: 2, act: Act::Branch { branch: 1, partner: None } })
+    );
+    assert_eq!(all(&mut bench).run(1000), Ok(Ran { steps: 1, reason: Reason::NoneReady }));
+    assert_eq!(all(&mut bench).take(1), Ok(Some(Taken { thread: 0, number: 42 })));
+    assert_eq!(all(&mut bench).run(2), Ok(Ran { steps: 2, reason: Reason::AllSteps }));
+    assert_eq!(all(&mut bench).give(0, -1), Ok(Some(0)));
+    assert_eq!(all(&mut bench).run(2).map(|ran| ran.steps), Ok(2));
+    assert_eq!(all(&mut bench).step(0), Ok(Stepped { node: 5, act: Act::Ended }));
     assert_eq!(bench.state().threads().count(), 0);
 }
 
@@ -65,27 +73,33 @@ fn a_file_without_bytes_is_a_procedure_that_ends() {
     let mut empty = Bench::load(&[]).expect("it loads");
     assert_eq!(empty, bench("first/1.txt"));
     assert_eq!((empty.table().lines(), empty.table().ports()), (3, 0));
-    assert_eq!(empty.give(0, 21), Err(Refusal::Port));
-    assert_eq!(empty.step(0), Ok(Stepped { node: 0, act: Act::Ended }));
-    assert_eq!(empty.run(1000), Ok(Ran { steps: 0, reason: Reason::NoneReady }));
-    assert_eq!(empty.collect(), Ok(0));
+    assert_eq!(all(&mut empty).give(0, 21), Err(Refusal::Port));
+    assert_eq!(all(&mut empty).step(0), Ok(Stepped { node: 0, act: Act::Ended }));
+    assert_eq!(all(&mut empty).run(1000), Ok(Ran { steps: 0, reason: Reason::NoneReady }));
+    assert_eq!(all(&mut empty).collect(), Ok(0));
     assert_eq!(empty.state().threads().count(), 0);
 }
 
 #[test]
 fn a_step_names_whom_it_starts_and_whom_it_meets() {
     let mut bench = bench("listing.txt");
-    bench.step(0).expect("a new channel");
-    assert_eq!(bench.step(0), Ok(Stepped { node: 1, act: Act::Branch { branch: 0, partner: Some(1) } }));
-    assert_eq!(bench.step(1), Ok(Stepped { node: 4, act: Act::Waits }));
-    bench.step(0).expect("a number");
-    assert_eq!(bench.step(0), Ok(Stepped { node: 3, act: Act::Branch { branch: 0, partner: Some(1) } }));
+    all(&mut bench).step(0).expect("a new channel");
+    assert_eq!(
+        all(&mut bench).step(0),
+        Ok(Stepped { node: 1, act: Act::Branch { branch: 0, partner: Some(1) } })
+    );
+    assert_eq!(all(&mut bench).step(1), Ok(Stepped { node: 4, act: Act::Waits }));
+    all(&mut bench).step(0).expect("a number");
+    assert_eq!(
+        all(&mut bench).step(0),
+        Ok(Stepped { node: 3, act: Act::Branch { branch: 0, partner: Some(1) } })
+    );
 }
 
 #[test]
 fn the_state_shows_threads_and_channels() {
     let mut bench = bench("relay.txt");
-    let run = bench.run(5).expect("never refused");
+    let run = all(&mut bench).run(5).expect("never refused");
     assert_eq!(run, Ran { steps: 5, reason: Reason::AllSteps });
     let state = bench.state();
     let threads: Vec<_> = state.threads().collect();
@@ -97,16 +111,16 @@ fn the_state_shows_threads_and_channels() {
     assert_eq!(channels, [(0, 2), (1, 1)]);
     assert!(state.channels().all(|channel| channel.holders == 2 && channel.waiting == 0));
     assert_eq!([state.turn(), state.next_thread(), state.next_channel()], [1, 2, 2]);
-    assert_eq!(bench.run(2).map(|ran| ran.steps), Ok(2));
+    assert_eq!(all(&mut bench).run(2).map(|ran| ran.steps), Ok(2));
     assert_eq!(bench.state().channels().map(|channel| channel.waiting).collect::<Vec<_>>(), [1, 1]);
 }
 
 #[test]
 fn a_thread_that_nobody_can_wake_is_taken() {
     let mut bench = Bench::load(&creators()).expect("the file is right");
-    bench.run(19).expect("never refused");
+    all(&mut bench).run(19).expect("never refused");
     assert_eq!(bench.state().threads().filter(|thread| thread.status == Status::Waiting).count(), 1);
-    assert_eq!(bench.collect(), Ok(1));
+    assert_eq!(all(&mut bench).collect(), Ok(1));
     assert_eq!(bench.state().threads().map(|thread| thread.number).collect::<Vec<_>>(), [0]);
 }
 
@@ -114,16 +128,16 @@ fn a_thread_that_nobody_can_wake_is_taken() {
 fn threads_that_lack_a_row_are_named() {
     let mut bench = bench("workers.txt");
     let reason = loop {
-        bench.run(1000).expect("never refused");
-        bench.give(0, 5).expect("there is such a port");
-        match bench.run(1000).expect("never refused").reason {
+        all(&mut bench).run(1000).expect("never refused");
+        all(&mut bench).give(0, 5).expect("there is such a port");
+        match all(&mut bench).run(1000).expect("never refused").reason {
             Reason::NoneReady => {}
             reason => break reason,
         }
     };
     assert_eq!(reason, Reason::LackedThreadRow { thread: 0 });
     let mut bench = Bench::load(&creators()).expect("the file is right");
-    let ran = bench.run(u16::MAX).expect("never refused");
+    let ran = all(&mut bench).run(u16::MAX).expect("never refused");
     assert_eq!(ran.reason, Reason::LackedChannelRow { thread: 0 });
     assert_eq!(bench.state().channels().count(), 128);
 }
@@ -133,11 +147,11 @@ fn one_of_each() -> Vec<Result<Bench, Refusal>> {
     let file = example("doubler.txt");
     let table = Table::load(&file).expect("it loads");
     let mut full = bench("workers.txt");
-    while matches!(full.run(1000), Ok(Ran { reason: Reason::NoneReady, .. })) {
-        full.give(0, 5).expect("there is such a port");
+    while matches!(all(&mut full).run(1000), Ok(Ran { reason: Reason::NoneReady, .. })) {
+        all(&mut full).give(0, 5).expect("there is such a port");
     }
     let mut crowded = Bench::load(&creators()).expect("the file is right");
-    crowded.run(u16::MAX).expect("never refused");
+    all(&mut crowded).run(u16::MAX).expect("never refused");
     let mut malformed = file.clone();
     malformed[2 * 73 + 4] = b'+';
     let mut damaged = *table.as_bytes();
@@ -155,13 +169,15 @@ fn one_of_each() -> Vec<Result<Bench, Refusal>> {
         Bench::resume(table.clone(), &[0; 6_155]),
         Table::from_bytes(&damaged).and_then(Bench::start),
         Bench::resume(table.clone(), &[0; 6_156]),
-        bench("doubler.txt").step(64).map(|_| full.clone()),
-        bench("doubler.txt").take(2).map(|_| full.clone()),
-        full.clone().step(0).map(|_| full.clone()),
-        crowded.clone().step(0).map(|_| full.clone()),
+        all(&mut bench("doubler.txt")).step(64).map(|_| full.clone()),
+        all(&mut bench("doubler.txt")).take(2).map(|_| full.clone()),
+        all(&mut full.clone()).step(0).map(|_| full.clone()),
+        all(&mut crowded.clone()).step(0).map(|_| full.clone()),
         table.write_into(&mut vec![0; file.len() - 1]).map(|_| full.clone()),
         profile(&file),
         profile(&doublings(7).text()),
+        Rights::from_bytes(&[4; 288]).map(|_| full.clone()),
+        full.clone().at(&Rights::NONE, Seat::ALL[7]).collect().map(|_| full.clone()),
     ]
 }
 
@@ -171,7 +187,7 @@ fn every_ground_has_its_number() {
         .into_iter()
         .map(|result| result.map_or_else(|refusal| refusal.number(), |_| 0))
         .collect();
-    assert_eq!(numbers, (1..=17).collect::<Vec<i32>>());
+    assert_eq!(numbers, (1..=19).collect::<Vec<i32>>());
 }
 
 #[test]
@@ -179,7 +195,7 @@ fn the_grounds_of_a_file_name_a_line() {
     let lines: Vec<Option<u32>> =
         one_of_each().into_iter().map(|result| result.err().and_then(Refusal::line)).collect();
     assert_eq!(lines[..7], [None, Some(3), Some(4), Some(5), Some(13), Some(20), Some(4)]);
-    assert_eq!(lines[7..], [None; 10]);
+    assert_eq!(lines[7..], [None; 12]);
 }
 
 #[test]
@@ -192,27 +208,29 @@ fn a_refusal_says_what_is_wrong() {
     assert_eq!(Refusal::Port.to_string(), "ground 12: there is no such port");
     assert_eq!(Refusal::ForbiddenCall.to_string(), "ground 16: the profile forbids a call");
     assert_eq!(Refusal::ManyThreads.to_string(), "ground 17: there can be more threads than thread rows");
+    assert_eq!(Refusal::Seat.to_string(), "ground 19: there is no such seat, or it has not the right");
 }
 
 #[test]
 fn a_refused_call_changes_nothing() {
     let mut bench = bench("doubler.txt");
-    bench.run(1).expect("never refused");
+    all(&mut bench).run(1).expect("never refused");
     let before = bench.clone();
-    assert_eq!(bench.step(0), Err(Refusal::Thread));
-    assert_eq!(bench.give(2, 1), Err(Refusal::Port));
-    assert_eq!(bench.take(u32::MAX), Err(Refusal::Port));
+    assert_eq!(all(&mut bench).step(0), Err(Refusal::Thread));
+    assert_eq!(all(&mut bench).give(2, 1), Err(Refusal::Port));
+    assert_eq!(all(&mut bench).take(7), Err(Refusal::Port));
+    assert_eq!(all(&mut bench).take(u32::MAX), Err(Refusal::Seat));
     assert!(bench == before);
 }
 
 #[test]
 fn a_bench_goes_on_from_kept_bytes() {
     let mut bench = bench("doubler.txt");
-    bench.run(1).expect("never refused");
+    all(&mut bench).run(1).expect("never refused");
     let table = Table::from_bytes(bench.table().as_bytes()).expect("it was loaded");
     let mut again = Bench::resume(table, bench.state().as_bytes()).expect("it is sound");
     assert!(again == bench);
-    assert_eq!(again.give(0, 4), Ok(Some(0)));
+    assert_eq!(all(&mut again).give(0, 4), Ok(Some(0)));
     assert_eq!(Table::from_bytes(&[]), Err(Refusal::BufferLength));
     assert_eq!(Table::from_bytes(&[0; 20_761]), Err(Refusal::BufferLength));
     // The state of one file is no state of another.

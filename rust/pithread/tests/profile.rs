@@ -2,7 +2,7 @@
 //! pledge.
 
 use generate::rental::{self, doublings, spawns_in_a_row};
-use pithread::{Act, Bench, Reason, Refusal, Table};
+use pithread::{Act, Bench, Reason, Refusal, Rights, Seat, Table};
 
 fn example(name: &str) -> Table {
     let path = format!("{}/../../examples/{name}", env!("CARGO_MANIFEST_DIR"));
@@ -61,7 +61,7 @@ fn crowded(file: &[u8], ends: &[u32]) -> (usize, Option<Refusal>) {
     loop {
         let thread = bench.state().threads().find(|thread| !ends.contains(&thread.node));
         let Some(thread) = thread else { return (bench.state().threads().count(), None) };
-        match bench.step(thread.number) {
+        match bench.at(&Rights::FULL, Seat::ALL[0]).step(thread.number) {
             Ok(stepped) => assert!(matches!(stepped.act, Act::Branch { .. })),
             Err(refusal) => return (bench.state().threads().count(), Some(refusal)),
         }
@@ -82,10 +82,8 @@ fn a_file_that_passes_never_lacks_a_thread_row() {
     let most = table.profile().expect("it passes") as usize;
     let mut bench = Bench::start(table).expect("never refused");
     for steps in 0..200 {
-        assert_ne!(
-            bench.run(steps % 7).map(|ran| matches!(ran.reason, Reason::LackedThreadRow { .. })),
-            Ok(true)
-        );
+        let ran = bench.at(&Rights::FULL, Seat::ALL[0]).run(steps % 7).expect("the seat may run");
+        assert!(!matches!(ran.reason, Reason::LackedThreadRow { .. }));
         assert!(bench.state().threads().count() <= most);
     }
 }

@@ -3,7 +3,7 @@
 use std::hint::black_box;
 
 use generate::standstills::Foot;
-use interface::{Collected, Engine, STATE_BYTES, THREADS};
+use interface::{Collected, Engine, FULL_RIGHTS, STATE_BYTES, THREADS};
 
 use crate::report::{heading, line, Unit};
 use crate::standing::{chained, mutual, Standing};
@@ -47,7 +47,8 @@ fn times(subject: &Subject) -> Times {
 fn sample(engine: &Engine, subject: &Subject, state: &mut [u8]) {
     for _ in 0..CALLS {
         state.copy_from_slice(&subject.standing.state);
-        let collected = (engine.collect)(black_box(&subject.standing.table), black_box(state));
+        let table = black_box(&subject.standing.table);
+        let collected = (engine.collect)(table, black_box(state), black_box(&FULL_RIGHTS), 0);
         assert_eq!(collected, Collected { refusal: 0, threads: subject.taken as i32 });
     }
 }

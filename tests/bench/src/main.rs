@@ -9,6 +9,7 @@ mod collecting;
 mod files;
 mod loading;
 mod profiling;
+mod refusing;
 mod report;
 mod running;
 mod standing;
@@ -30,5 +31,6 @@ fn main() {
     profiling::report();
     running::report();
     stepping::report();
+    refusing::report();
     collecting::report();
 }

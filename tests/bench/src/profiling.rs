@@ -5,7 +5,7 @@ use std::hint::black_box;
 
 use generate::rental::{doublings, full_ladders, tamed};
 use generate::{table_of, File, Random, MOST_LINES};
-use interface::{Profiled, Ran, NOBODY, STATE_BYTES};
+use interface::{Profiled, Ran, FULL_RIGHTS, NOBODY, STATE_BYTES};
 
 use crate::files::files;
 use crate::report::{heading, heading_of, line, Unit};
@@ -77,7 +77,8 @@ fn sample(profile: fn(&[u8]) -> Profiled, subject: &Subject) {
 
 fn run(subject: &Subject, state: &mut [u8]) {
     for _ in 0..CALLS {
-        let ran = (archive::ENGINE.run)(black_box(&subject.table), black_box(state), 0);
+        let rights = black_box(&FULL_RIGHTS);
+        let ran = (archive::ENGINE.run)(black_box(&subject.table), black_box(state), rights, 0, 0);
         assert_eq!(ran, Ran { refusal: 0, steps: 0, reason: 0, thread: NOBODY });
     }
 }

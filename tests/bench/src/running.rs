@@ -4,7 +4,7 @@ use std::hint::black_box;
 
 use generate::procedures::{crowd, ping_pong, rally, reckoner, selecting};
 use generate::{table_of, File, Words, WAITING};
-use interface::{Engine, STATE_BYTES};
+use interface::{Engine, FULL_RIGHTS, STATE_BYTES};
 
 use crate::report::{heading, line, Unit};
 use crate::timing::Times;
@@ -38,7 +38,7 @@ pub fn report_meetings() {
 fn begun(table: &[u8]) -> Vec<u8> {
     let mut state = vec![0; STATE_BYTES];
     assert_eq!(reference::start(table, &mut state).refusal, 0);
-    assert_eq!(reference::run(table, &mut state, BEFORE).steps, i32::from(BEFORE));
+    assert_eq!(reference::run(table, &mut state, &FULL_RIGHTS, 0, BEFORE).steps, i32::from(BEFORE));
     state
 }
 
@@ -48,7 +48,7 @@ fn meetings(file: &File) -> usize {
     let mut state = begun(&table);
     let met = (0..STEPS).filter(|_| {
         let before = Words::new(&state).threads(WAITING).len();
-        assert_eq!(reference::run(&table, &mut state, 1).steps, 1);
+        assert_eq!(reference::run(&table, &mut state, &FULL_RIGHTS, 0, 1).steps, 1);
         Words::new(&state).threads(WAITING).len() < before
     });
     met.count()
@@ -69,6 +69,6 @@ fn times(file: &File, pieces: usize) -> Times {
 }
 
 fn run(engine: &Engine, table: &[u8], state: &mut [u8]) {
-    let ran = (engine.run)(black_box(table), black_box(state), STEPS);
+    let ran = (engine.run)(black_box(table), black_box(state), black_box(&FULL_RIGHTS), 0, STEPS);
     assert_eq!(ran.steps, i32::from(STEPS));
 }

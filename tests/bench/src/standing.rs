@@ -3,7 +3,7 @@
 use generate::procedures::reckoner;
 use generate::standstills::{chain, clique, Foot};
 use generate::{profiled, table_of, File, Random, Words, FREE, LIVELY, MOST_LINES, READY};
-use interface::{NONE_READY, STATE_BYTES, THREADS};
+use interface::{FULL_RIGHTS, NONE_READY, STATE_BYTES, THREADS};
 
 /// A table and a state.
 pub struct Standing {
@@ -17,14 +17,14 @@ impl Standing {
         let table = table_of(&file.rows);
         let mut state = vec![0; STATE_BYTES];
         assert_eq!(reference::start(&table, &mut state).refusal, 0);
-        assert_eq!(reference::run(&table, &mut state, steps).refusal, 0);
+        assert_eq!(reference::run(&table, &mut state, &FULL_RIGHTS, 0, steps).refusal, 0);
         Standing { table, state }
     }
 
     /// The state in which all 64 threads of a file have come to wait, so many steps before the last.
     pub fn before_end(file: &File, steps: u16) -> Standing {
         let mut whole = Standing::after(file, 0);
-        let ran = reference::run(&whole.table, &mut whole.state, u16::MAX);
+        let ran = reference::run(&whole.table, &mut whole.state, &FULL_RIGHTS, 0, u16::MAX);
         assert_eq!(ran.reason, NONE_READY);
         assert_eq!(Words::new(&whole.state).threads(generate::WAITING).len(), THREADS);
         Standing::after(file, ran.steps as u16 - steps)
@@ -32,8 +32,9 @@ impl Standing {
 
     /// A thread that can be stepped, if there is one.
     pub fn steppable(&self) -> Option<u32> {
-        let can_step =
-            |thread: &u32| reference::step(&self.table, &mut self.state.clone(), *thread).refusal == 0;
+        let can_step = |thread: &u32| {
+            reference::step(&self.table, &mut self.state.clone(), &FULL_RIGHTS, 0, *thread).refusal == 0
+        };
         Words::new(&self.state).threads(READY).iter().map(|thread| *thread as u32).find(can_step)
     }
 }

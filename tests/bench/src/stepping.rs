@@ -3,7 +3,7 @@
 use std::hint::black_box;
 
 use generate::standstills::Foot;
-use interface::{Engine, STATE_BYTES};
+use interface::{Engine, FULL_RIGHTS, STATE_BYTES};
 
 use crate::report::{heading, line, Unit};
 use crate::standing::{alone, chained, largest, mutual, Standing};
@@ -37,7 +37,8 @@ pub fn report() {
 fn sample(engine: &Engine, standing: &Standing, thread: u32, state: &mut [u8]) {
     for _ in 0..CALLS {
         state.copy_from_slice(&standing.state);
-        let stepped = (engine.step)(black_box(&standing.table), black_box(state), thread);
+        let stepped =
+            (engine.step)(black_box(&standing.table), black_box(state), black_box(&FULL_RIGHTS), 0, thread);
         assert_eq!(stepped.refusal, 0);
     }
 }

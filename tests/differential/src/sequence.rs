@@ -1,10 +1,10 @@
 //! Many calls on the state of one file, right and wrong ones.
 
 use generate::{
-    any_call, changed_state, damaged_table, table_of, woken_state, File, Layout, Random, Words, READY,
-    TABLE_BYTES,
+    any_call, any_caller, changed_state, damaged_table, table_of, woken_state, Caller, File, Layout, Random,
+    Words, READY, TABLE_BYTES,
 };
-use interface::{Answer, Call, STATE, STATE_BYTES};
+use interface::{Answer, Call, Seated, BUFFER_LENGTH, RIGHTS, SEAT, STATE, STATE_BYTES};
 
 use crate::collections::Freed;
 use crate::{Calls, Traffic};
@@ -44,8 +44,8 @@ impl<'a> Sequence<'a> {
             self.wake(random);
             match random.below(100) {
                 0..76 => {
-                    let call = self.any_call(random);
-                    self.call(call);
+                    let (call, caller) = self.any_call(random);
+                    self.call(caller.makes(call));
                 }
                 76..93 => self.changed_state(random),
                 93..96 => self.changed_table(random),
@@ -62,14 +62,17 @@ impl<'a> Sequence<'a> {
         }
     }
 
-    fn any_call(&self, random: &mut Random) -> Call {
-        any_call(random, &self.state, self.layout.ports())
+    fn any_call(&self, random: &mut Random) -> (Call, Caller) {
+        let call = any_call(random, &self.state, self.layout.ports());
+        (call, any_caller(random, call))
     }
 
     /// A call that counts: the state goes on from it.
-    pub fn call(&mut self, call: Call) -> Answer {
+    pub fn call<'b>(&mut self, call: impl Into<Seated<'b>>) -> Answer {
+        let seated = call.into();
+        let call = seated.call;
         let before = self.state.clone();
-        let answer = self.calls.count(self.traffic, call, &self.table, &before, self.about);
+        let answer = self.calls.count(self.traffic, seated, &self.table, &before, self.about);
         if let (Call::Step { thread }, Answer::Stepped(stepped)) = (call, &answer) {
             if stepped.refusal == 0 {
                 self.traffic.add_step(&self.layout, &Words::new(&before), thread as usize, stepped);
@@ -89,10 +92,13 @@ impl<'a> Sequence<'a> {
 
     /// A call on a state that was changed. If it is still sound, the calls may go on from there.
     fn changed_state(&mut self, random: &mut Random) {
-        let call = self.any_call(random);
+        let (call, caller) = self.any_call(random);
         let state = changed_state(random, &self.layout, &self.state);
-        let answer = self.aside(call, &self.table.clone(), &state);
-        let sound = answer.refusal() != STATE && call != Call::Start;
+        let answer = self.aside(caller.makes(call), &self.table.clone(), &state);
+        if call == Call::Start || [BUFFER_LENGTH, RIGHTS, SEAT].contains(&answer.refusal()) {
+            return; // the state was not looked at
+        }
+        let sound = answer.refusal() != STATE;
         self.traffic.note("changed state is sound", i32::from(sound));
         if sound && random.chance(40) {
             self.go_on(call, &answer, &state);
@@ -100,20 +106,20 @@ impl<'a> Sequence<'a> {
     }
 
     fn changed_table(&mut self, random: &mut Random) {
-        let call = self.any_call(random);
+        let (call, caller) = self.any_call(random);
         let table = damaged_table(random, self.file);
-        self.aside(call, &table, &self.state.clone());
+        self.aside(caller.makes(call), &table, &self.state.clone());
     }
 
     fn changed_both(&mut self, random: &mut Random) {
-        let call = self.any_call(random);
+        let (call, caller) = self.any_call(random);
         let table = damaged_table(random, self.file);
         let state = changed_state(random, &self.layout, &self.state);
-        self.aside(call, &table, &state);
+        self.aside(caller.makes(call), &table, &state);
     }
 
     fn wrong_lengths(&mut self, random: &mut Random) {
-        let call = self.any_call(random);
+        let (call, caller) = self.any_call(random);
         let (mut table, mut state) = (self.table.clone(), self.state.clone());
         if random.chance(60) {
             table.resize(wrong_length(random, TABLE_BYTES), 0);
@@ -121,11 +127,11 @@ impl<'a> Sequence<'a> {
         if random.chance(60) {
             state.resize(wrong_length(random, STATE_BYTES), 0);
         }
-        self.aside(call, &table, &state);
+        self.aside(caller.makes(call), &table, &state);
     }
 
     /// A call that the state does not go on from.
-    fn aside(&mut self, call: Call, table: &[u8], state: &[u8]) -> Answer {
+    fn aside(&mut self, call: Seated, table: &[u8], state: &[u8]) -> Answer {
         let answer = self.calls.count(self.traffic, call, table, state, self.about);
         if answer.refusal() == STATE {
             let fault = reference::fault(table, state).expect("refused for a fault of the state");

@@ -2,8 +2,10 @@
 
 use std::collections::BTreeMap;
 
-use generate::{guard_holds, Layout, Words, WAITING};
-use interface::{Answer, Call, Profiled, Stepped, Written, BRANCH, CALLED, NOBODY, WAITS};
+use generate::{guard_holds, right_to, Layout, Words, WAITING};
+use interface::{
+    Answer, Call, Profiled, Seated, Stepped, Written, BRANCH, CALLED, NOBODY, SEAT, SEATS, WAITS,
+};
 use reference::Fault;
 
 /// Something that was met: what it was, and a number that says more.
@@ -20,8 +22,9 @@ pub struct Traffic {
 
 impl Traffic {
     /// Counts a call with its answer.
-    pub fn add(&mut self, call: Call, answer: &Answer) {
+    pub fn add<'a>(&mut self, call: impl Into<Seated<'a>>, answer: &Answer) {
         self.calls += 1;
+        let Seated { call, seat, .. } = call.into();
         let name = match call {
             Call::Start => "start",
             Call::Step { .. } => "step",
@@ -31,8 +34,18 @@ impl Traffic {
             Call::Collect => "collect",
         };
         self.note(name, answer.refusal());
-        if answer.refusal() == 0 {
-            self.add_done(call, answer);
+        match answer.refusal() {
+            0 => {
+                self.add_done(call, answer);
+                if call != Call::Start {
+                    self.note("done by seat", seat as i32);
+                }
+            }
+            SEAT => {
+                self.note("19 for a port above 7", i32::from(right_to(call).is_none()));
+                self.note("19 for a seat above 7", i32::from(seat as usize >= SEATS));
+            }
+            _ => {}
         }
     }
 

@@ -7,13 +7,14 @@ use generate::{
     LIVELY, READY, SMALLEST, STILL,
 };
 use interface::{
-    Call, BRANCH, ENDED, LACKED_CHANNEL_ROW, NO_CHANNEL_ROW, NO_THREAD_ROW, STATE, STATE_BYTES, WAITS,
+    Call, BRANCH, ENDED, LACKED_CHANNEL_ROW, NO_CHANNEL_ROW, NO_THREAD_ROW, RIGHTS, SEAT, SEATS, STATE,
+    STATE_BYTES, WAITS,
 };
 use reference::Fault;
 
 /// Files of each profile, and calls on each file.
 const FILES: u64 = 300;
-const CALLS: usize = 150;
+const CALLS: usize = 180;
 
 /// The actions of a branch.
 const EVERY_ACTION: [i32; 8] = [0, 1, 2, 3, 4, 5, 6, 7];
@@ -45,6 +46,7 @@ fn lively_files() {
     let traffic = played(10_000_000, &LIVELY.each_ref().map(Some));
     assert!(traffic.calls() >= 300_000);
     expect_refusals(&traffic);
+    expect_seats(&traffic);
     expect_moves(&traffic);
     expect_faults(&traffic);
     expect_collections(&traffic);
@@ -65,6 +67,17 @@ fn expect_refusals(traffic: &Traffic) {
     traffic.expect("take", [12], 1_000);
     traffic.expect("step", [NO_THREAD_ROW], 1_000);
     traffic.expect("step", [NO_CHANNEL_ROW], 50);
+}
+
+/// Every seat made many calls, and each ground of the lists and seats came to each call.
+fn expect_seats(traffic: &Traffic) {
+    traffic.expect("done by seat", 0..SEATS as i32, 10_000);
+    for name in ["step", "give", "take", "run"] {
+        traffic.expect(name, [RIGHTS, SEAT], 1_000);
+    }
+    traffic.expect("collect", [RIGHTS, SEAT], 200);
+    traffic.expect("19 for a seat above 7", [0, 1], 3_000);
+    traffic.expect("19 for a port above 7", [0, 1], 2_000);
 }
 
 /// Each act, each action and each reason came.
@@ -120,6 +133,7 @@ fn still_files() {
     let traffic = played(15_000_000, &profiles);
     assert!(traffic.calls() >= 300_000);
     traffic.expect("collect", [8, 9, 10], 180);
+    expect_seats(&traffic);
     expect_faults(&traffic);
     expect_collections(&traffic);
 }

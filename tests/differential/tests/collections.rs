@@ -6,7 +6,7 @@ use generate::{
     any_call, changed_state, profiled, table_of, without, woken_state, File, Layout, Profile, Random, Rule,
     View, Words, FREE, LIVELY, STILL,
 };
-use interface::{Call, Collected, FRONT_WORDS, STATE_BYTES, THREADS, THREAD_WORDS};
+use interface::{Call, Collected, FRONT_WORDS, FULL_RIGHTS, STATE_BYTES, THREADS, THREAD_WORDS};
 use pithread::raw;
 
 /// Calls of a walk, after each of which there is a collection.
@@ -78,7 +78,7 @@ impl Bench<'_> {
             1 => changed_state(self.random, &self.layout, &state),
             _ => return state,
         };
-        match raw::run(&self.table, &mut other.clone(), 0).refusal {
+        match raw::run(&self.table, &mut other.clone(), &FULL_RIGHTS, 0, 0).refusal {
             0 => other,
             _ => state,
         }
@@ -87,7 +87,7 @@ impl Bench<'_> {
     /// Collects, looks at what is left, and plays lists from before.
     fn collect(&mut self, state: &[u8], met: &mut Met) {
         let mut after = state.to_vec();
-        let collected = raw::collect(&self.table, &mut after);
+        let collected = raw::collect(&self.table, &mut after, &FULL_RIGHTS, 0);
         let taken = gone(state, &after);
         assert_eq!(collected, Collected { refusal: 0, threads: taken.len() as i32 }, "{}", self.about);
         assert!(after == without(&self.layout, state, &taken), "{}: not all the rest stays", self.about);

@@ -7,7 +7,7 @@ use std::collections::BTreeSet;
 use differential::Calls;
 use generate::standstills::clique;
 use generate::{table_of, Random, Words, FREE, READY, WAITING};
-use interface::{Call, CHANNELS, NONE_READY, STATE, STATE_BYTES, THREADS};
+use interface::{Call, CHANNELS, FULL_RIGHTS, NONE_READY, STATE, STATE_BYTES, THREADS};
 
 /// In a clique every thread has so many slots for channels, and so many channels are in use; channel 0 is a port.
 const SLOTS: usize = 15;
@@ -21,7 +21,7 @@ fn standstill() -> (Vec<u8>, Words) {
     let table = table_of(&clique(0).rows);
     let mut state = vec![0; STATE_BYTES];
     assert_eq!(reference::start(&table, &mut state).refusal, 0);
-    assert_eq!(reference::run(&table, &mut state, u16::MAX).reason, NONE_READY);
+    assert_eq!(reference::run(&table, &mut state, &FULL_RIGHTS, 0, u16::MAX).reason, NONE_READY);
     (table, Words::new(&state))
 }
 

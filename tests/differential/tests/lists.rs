@@ -1,8 +1,10 @@
 //! Whole lists of calls, worked by the proved driver, against the reference.
 
 use differential::{for_seeds, List, Lists, Traffic};
-use generate::{any_call, changed_state, damaged_table, profiled, table_of, Layout, Random, LIVELY, STILL};
-use interface::{Call, STATE_BYTES};
+use generate::{
+    any_call, any_caller, changed_state, damaged_table, profiled, table_of, Layout, Random, LIVELY, STILL,
+};
+use interface::{Call, RIGHTS, SEAT, STATE_BYTES};
 
 /// Files of each profile, and the most calls of a list.
 const FILES: u64 = 60;
@@ -25,13 +27,15 @@ fn started(table: &[u8]) -> Vec<u8> {
     state
 }
 
-/// A list of calls from this state, each of them chosen by the state to which the ones before have led.
+/// A list of calls from this state, each of them chosen by the state to which the ones before have led, and each
+/// by a seat and a list of rights of its own.
 fn any_list(random: &mut Random, ports: usize, table: &[u8], state: &[u8], traffic: &mut Traffic) -> List {
     let mut list = List::new(state);
     for _ in 0..random.below(CALLS) {
         let call = any_listed(random, list.state(), ports);
-        let answer = list.push(random, call, table);
-        traffic.add(call, &answer);
+        let caller = any_caller(random, call);
+        let answer = list.push(random, caller.makes(call), table);
+        traffic.add(caller.makes(call), &answer);
     }
     list
 }
@@ -58,6 +62,9 @@ fn lists_from_a_start() {
     traffic.expect("step", [11, 13], 50);
     traffic.expect("give", [12], 50);
     traffic.expect("take", [12], 50);
+    for name in ["step", "give", "take", "run", "collect"] {
+        traffic.expect(name, [8, RIGHTS, SEAT], 20);
+    }
     traffic.expect("given to somebody", [0, 1], 100);
     traffic.expect("taken from somebody", [0, 1], 100);
 }
@@ -80,11 +87,19 @@ fn buffers_of_any_kind() {
             _ => {}
         }
         let mut list = any_list(random, layout.ports(), &table, &state, &mut traffic);
+        for _ in 0..random.below(4) {
+            let call = any_listed(random, list.state(), layout.ports());
+            let answer = list.push_past_end(random, call, &table);
+            traffic.note("list past the end", answer.refusal());
+        }
         list.push_rest(random);
         let most = list.answer_bytes() + 50;
         lists.compare(&list, &table, &state, random.below(most), about);
     });
+    traffic.print();
     for name in ["step", "run"] {
         traffic.expect(name, [0, 8, 9, 10], 100);
+        traffic.expect(name, [RIGHTS, SEAT], 50);
     }
+    traffic.expect("list past the end", [0, 8], 20);
 }

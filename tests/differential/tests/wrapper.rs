@@ -1,12 +1,13 @@
 //! The safe layer of the crate `pithread` says in types what the archive says in numbers, and does the same.
 
-use differential::for_seeds;
-use generate::{any_call, profiled, table_of, LIVELY, STILL};
+use differential::{for_seeds, Traffic};
+use generate::{any_call, any_caller, profiled, table_of, LIVELY, STILL};
 use interface::{
-    Answer, Call, Collected, Given, Profiled, Ran, Stepped, Taken, ALL_STEPS, BRANCH, CALLED, ENDED,
-    LACKED_CHANNEL_ROW, LACKED_THREAD_ROW, NOBODY, NONE_READY, STATE_BYTES, WAITS,
+    Answer, Call, Collected, Given, Profiled, Ran, Seated, Stepped, Taken, ALL_STEPS, BRANCH, BUFFER_LENGTH,
+    CALLED, ENDED, LACKED_CHANNEL_ROW, LACKED_THREAD_ROW, NOBODY, NONE_READY, RIGHTS, SEAT, STATE_BYTES,
+    WAITS,
 };
-use pithread::{Act, Bench, Reason, Refusal, Table};
+use pithread::{Act, AtSeat, Bench, Reason, Refusal, Rights, Seat, Table};
 
 const CALLS: usize = 150;
 
@@ -46,13 +47,22 @@ fn profiled_numbers(table: &Table) -> Profiled {
     }
 }
 
-/// Makes a call on a bench and writes its answer as numbers.
-fn answer(bench: &mut Bench, call: Call) -> Answer {
-    let answered = match call {
-        Call::Start => Bench::start(bench.table().clone()).map(|started| {
-            *bench = started;
-            Answer::Started(Default::default())
-        }),
+/// Makes a call on a bench and writes its answer as numbers. A list that is wrong, or a seat that is not there, is
+/// refused before the bench can be lent.
+fn answer(bench: &mut Bench, seated: Seated) -> Answer {
+    if seated.call == Call::Start {
+        *bench = Bench::start(bench.table().clone()).expect("never refused");
+        return Answer::Started(Default::default());
+    }
+    let caller = Rights::from_bytes(seated.rights)
+        .and_then(|rights| Seat::new(seated.seat).map(|seat| (rights, seat)));
+    let answered = caller.and_then(|(rights, seat)| answer_at(bench.at(&rights, seat), seated.call));
+    answered.unwrap_or_else(|refusal| refused(seated.call, refusal))
+}
+
+fn answer_at(mut bench: AtSeat, call: Call) -> Result<Answer, Refusal> {
+    match call {
+        Call::Start => panic!("a start names no seat"),
         Call::Step { thread } => bench.step(thread).map(stepped_numbers).map(Answer::Stepped),
         Call::Give { port, number } => {
             let given = bench.give(port, number).map(thread_number);
@@ -64,23 +74,24 @@ fn answer(bench: &mut Bench, call: Call) -> Answer {
             let collected = bench.collect();
             collected.map(|threads| Answer::Collected(Collected { refusal: 0, threads: threads as i32 }))
         }
-    };
-    answered.unwrap_or_else(|refusal| refused(call, refusal))
+    }
 }
 
 fn refused(call: Call, refusal: Refusal) -> Answer {
     let refusal = refusal.number();
     match call {
+        Call::Start => panic!("a start is never refused, and was with {refusal}"),
         Call::Step { .. } => Answer::Stepped(Stepped { refusal, ..Stepped::default() }),
         Call::Give { .. } => Answer::Given(Given { refusal, ..Given::default() }),
         Call::Take { .. } => Answer::Taken(Taken { refusal, ..Taken::default() }),
-        _ => panic!("{call:?} is never refused, and was with {refusal}"),
+        Call::Run { .. } => Answer::Ran(Ran { refusal, ..Ran::default() }),
+        Call::Collect => Answer::Collected(Collected { refusal, ..Collected::default() }),
     }
 }
 
 #[test]
 fn the_safe_layer_does_what_the_archive_does() {
-    let (mut done, mut refusals) = (0, 0);
+    let mut traffic = Traffic::default();
     for (place, profile) in LIVELY.iter().chain(&STILL).enumerate() {
         for_seeds(30_000_000 + 100_000 * place as u64, 10, |random, about| {
             let file = profiled(random, profile);
@@ -92,15 +103,21 @@ fn the_safe_layer_does_what_the_archive_does() {
             archive::ENGINE.answer(Call::Start, &table, &mut state);
             for _ in 0..CALLS {
                 let call = any_call(random, &state, file.size.ports);
-                let expected = archive::ENGINE.answer(call, &table, &mut state);
-                assert_eq!(answer(&mut bench, call), expected, "{about}: {call:?}");
+                let caller = any_caller(random, call);
+                let expected = archive::ENGINE.answer(caller.makes(call), &table, &mut state);
+                assert_eq!(answer(&mut bench, caller.makes(call)), expected, "{about}: {call:?}");
                 assert!(bench.state().as_bytes()[..] == state[..], "{about}: {call:?} left another state");
                 let kept = Bench::resume(bench.table().clone(), &state);
                 assert!(kept == Ok(bench.clone()), "{about}: not to be resumed after {call:?}");
-                done += usize::from(expected.refusal() == 0);
-                refusals += usize::from(expected.refusal() != 0);
+                traffic.add(caller.makes(call), &expected);
+                traffic.note("refused", i32::from(expected.refusal() != 0));
             }
         });
     }
-    assert!(done >= 10_000 && refusals >= 1_000, "{done} calls were done and {refusals} refused");
+    traffic.print();
+    traffic.expect("refused", [0], 10_000);
+    traffic.expect("refused", [1], 1_000);
+    for name in ["step", "give", "take", "run", "collect"] {
+        traffic.expect(name, [BUFFER_LENGTH, RIGHTS, SEAT], 5);
+    }
 }

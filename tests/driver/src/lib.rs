@@ -7,6 +7,8 @@ extern "C" {
         table_len: usize,
         state: *mut u8,
         state_len: usize,
+        lists: *const u8,
+        lists_len: usize,
         calls: *const u8,
         calls_len: usize,
         answers: *mut u8,
@@ -26,14 +28,17 @@ extern "C" {
 // SAFETY, of all calls: each pointer comes with the length of what it points to, no two of the buffers
 // overlap, and no call keeps a pointer.
 
-/// Works the calls of a list in turn on the state, and lays their answers.
-pub fn work_list(table: &[u8], state: &mut [u8], calls: &[u8], answers: &mut [u8]) {
+/// Works the calls of a list in turn on the state, and lays their answers. Each call names a part of the lists as
+/// its list of rights.
+pub fn work_list(table: &[u8], state: &mut [u8], lists: &[u8], calls: &[u8], answers: &mut [u8]) {
     unsafe {
         driver_work_list(
             table.as_ptr(),
             table.len(),
             state.as_mut_ptr(),
             state.len(),
+            lists.as_ptr(),
+            lists.len(),
             calls.as_ptr(),
             calls.len(),
             answers.as_mut_ptr(),

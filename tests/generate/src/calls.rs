@@ -1,6 +1,6 @@
 //! Calls with right and wrong numbers.
 
-use interface::{Call, THREADS};
+use interface::{Call, PORTS, THREADS};
 
 use crate::random::Random;
 use crate::words::{Words, READY};
@@ -36,24 +36,25 @@ pub fn each_call(state: &[u8], ports: usize, numbers: &[i32]) -> Vec<Call> {
 fn any_thread(random: &mut Random, ready: &[usize]) -> u32 {
     let any = random.below(THREADS);
     let ready = random.choose(ready).unwrap_or(any);
-    near_or_far(random, ready, any, THREADS)
+    near_or_far(random, ready, [any, any, 127, 128], THREADS)
 }
 
-/// Mostly a port that there is.
+/// Mostly a port that there is; nearly half of the others are below 8, where seats may have rights.
 fn any_port(random: &mut Random, ports: usize) -> u32 {
     let right = random.below(ports.max(1));
-    near_or_far(random, right, ports, 8)
+    let last = ports.max(PORTS - 1);
+    near_or_far(random, right, [ports, ports, last, last], PORTS)
 }
 
-/// Mostly the right number; else another near it, one beyond the limit, or one that is right in its
-/// lower bits.
-fn near_or_far(random: &mut Random, right: usize, other: usize, limit: usize) -> u32 {
+/// Mostly the right number; else one of the others, one beyond the limit, or one that is right in its lower bits.
+fn near_or_far(random: &mut Random, right: usize, others: [usize; 4], limit: usize) -> u32 {
     if random.chance(85) {
         return right as u32;
     }
-    let [right, other, limit] = [right, other, limit].map(|number| number as u32);
+    let [right, limit] = [right, limit].map(|number| number as u32);
+    let [first, second, third, fourth] = others.map(|number| number as u32);
     let bit = 1 << random.within(6..=31);
-    random.pick(&[other, other, limit, limit + 1, right | bit, right | bit, 127, 128, u32::MAX])
+    random.pick(&[first, second, limit, limit + 1, right | bit, right | bit, third, fourth, u32::MAX])
 }
 
 fn any_count(random: &mut Random) -> u16 {

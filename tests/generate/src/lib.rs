@@ -1,4 +1,4 @@
-//! Makes procedure files, tables and states for the tests: right ones, and ones with faults.
+//! Makes procedure files, tables, states and lists of rights for the tests: right ones, and ones with faults.
 //!
 //! Everything follows from a seed, so that a failing test can be run again.
 
@@ -14,6 +14,7 @@ mod profile;
 mod random;
 pub mod rental;
 mod rules;
+mod seats;
 mod size;
 pub mod standstills;
 mod states;
@@ -27,6 +28,10 @@ pub use file::{padded, text_of, written_back, File, Row, FIELDS, LINE_BYTES, MOS
 pub use profile::{Profile, ANY, LIVELY, STILL};
 pub use random::Random;
 pub use rules::{without, Rule, View};
+pub use seats::{
+    any_caller, entitled_caller, lacking_caller, right_to, rights_bytes, same_rights, wrapped_seat, Caller,
+    Rights, RIGHTS_NUMBERS,
+};
 pub use size::Size;
 pub use states::{changed_state, woken_state};
 pub use tables::{damaged_table, table_of, TABLE_BYTES};

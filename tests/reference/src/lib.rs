@@ -4,7 +4,7 @@
 //! A file goes through these modules in turn, and each refuses on its own grounds:
 //! `text` (1 and 2), `sections` (3), `ranges` (4), `types` (5), `paths` (6 and 7).
 //! A table goes through the same from `sections` on before `text` writes its file or `profile` looks at it.
-//! The calls on a table and a state, with the grounds from 8 on, are in `engine`.
+//! The calls on a table and a state, by seats with rights or without, are in `engine` with the grounds from 8 on.
 
 mod engine;
 mod operands;
@@ -16,7 +16,7 @@ mod sections;
 mod text;
 mod types;
 
-pub use engine::{collect, fault, give, listing, run, start, step, take, Fault, ENGINE};
+pub use engine::{collect, fault, give, listing, run, start, step, take, without_seats, Fault, ENGINE};
 use interface::{Written, BUFFER_LENGTH, SHORT_BUFFER, TABLE};
 pub use profile::profile;
 

@@ -8,7 +8,7 @@ use generate::compose::{call, compose, definition, go, new, one, receive, spawn,
 use generate::procedures::hoarders;
 use generate::standstills::{all_closed, lone_receiver, port_waiter, ring_beside_port};
 use generate::{profiled, text_of, File, Random, Words, LIVELY, READY, STILL};
-use interface::{CHANNELS, STATE_BYTES};
+use interface::{CHANNELS, FULL_RIGHTS, STATE_BYTES};
 use reference::{collect, listing, run, start, step, TABLE_BYTES};
 
 const HEADING: &str = "  STEPTHREAD  NODE   ACTBRANCH  WITH\n";
@@ -188,13 +188,13 @@ fn replay(file: &[u8], rows: &[Vec<i32>], about: &str) {
         let thread = next_ready(&mut words);
         words.front()[2] = (thread as i32 + 1) % 64;
         state = words.to_bytes();
-        let did = step(&table, &mut state, thread as u32);
+        let did = step(&table, &mut state, &FULL_RIGHTS, 0, thread as u32);
         assert_eq!(did.refusal, 0, "{about}");
         assert_eq!(row, &[number, thread as i32, did.node, did.act, did.branch, did.partner], "{about}");
     }
-    let ran = run(&table, &mut whole, 1_000);
+    let ran = run(&table, &mut whole, &FULL_RIGHTS, 0, 1_000);
     let before = Words::new(&whole);
-    let collected = collect(&table, &mut whole);
+    let collected = collect(&table, &mut whole, &FULL_RIGHTS, 0);
     let after = Words::new(&whole);
     let in_use = (CHANNELS - after.channels(0).len()) as i32;
     assert_eq!(rows[closing], [ran.steps, ran.reason, ran.thread, collected.threads, in_use], "{about}");

@@ -1,21 +1,24 @@
-use Rattle.engine.specs.Admitted.{admitted-length, admitted-indexed, admitted-settled}
+use Rattle.engine.specs.Admitted.{admitted-judged, admitted-indexed, admitted-marked, seat-grants}
+use Rattle.collector.specs.Collect.{seatedCollect}
+use Rattle.collector.proofs.Ends.{seated-refused}
 use borrow.Author.Needs.{needs}
-use Rattle.collector.proofs.Ends.{collect-refused, collect-admitted}
 use Rattle.collector.proofs.collect.Statement.{statement}
 use Rattle.collector.proofs.collect.Tie as tie
 
 pub collect-spec : {M : Type 1} → statement M
+unfolding seatedCollect
 collect-spec =
     tie.close
     (tie.spec
+    (λ c. search needs)
     (λ c. search needs)
     (λ c κs. search needs)
     (λ c. search needs)
     (λ c. search needs)
     (λ c. search needs)
-    (λ c κs. (search admitted-indexed, search admitted-settled))
-    (λ c κs. search admitted-length)
     (λ c. search needs)
-    (λ c. search collect-refused)
+    (λ c κs. (search admitted-judged, (search admitted-indexed, search admitted-marked)))
     (λ c. search needs)
-    (λ c. search collect-admitted))
+    (λ c. search seated-refused)
+    (λ c. search needs)
+    (λ c. search seat-grants))

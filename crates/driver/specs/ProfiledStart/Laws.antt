@@ -14,6 +14,7 @@ use Rattle.interface.specs.Interface.{StateResult, result, startResult, profile
 use Rattle.interface.specs.declared.ProfileAnswer.{ProfileAnswer}
 use Rattle.interface.specs.declared.StartAnswer.{StartAnswer}
 use Rattle.guarantee.specs.Claim.{Any}
+use Rattle.guarantee.specs.SeatedClaim.{AtSeat}
 use Rattle.guarantee.specs.InNumbers.{isZero}
 use Rattle.profile_laws.specs.InNumbers.{PledgeInNumbers, passed-pledge}
 use Rattle.driver.specs.Restore.Laws.{zero-is}
@@ -38,7 +39,7 @@ module _ (t b : List ℕ) (a : ProfileAnswer) (e : a ≡ profileResult t) (f : S
 
 -- where 0 is answered the state is that of a start, and the profile's pledge holds of every list of calls from there
 pub pledged : (table : List ℕ) → ((i : ℕ) → getD table i 0 < 256) → (state : List ℕ) → begun table state .refusal ≡ pos 0
-    → (begun table state .state ≡ startResult table state .state) × ((ks : List Any) → PledgeInNumbers table state ks)
+    → (begun table state .state ≡ startResult table state .state) × ((ks : List (AtSeat Any)) → PledgeInNumbers table state ks)
 unfolding begun isZero
 pledged table fit state e = caseB (isZero (profileResult table .refusal))
     (λ y. let s : startResult table state .answer .refusal ≡ pos 0 = rw y at e in

@@ -1,28 +1,24 @@
-use Rattle.engine.specs.Admitted.{admitted-length, admitted-granted, admitted-indexed, admitted-sound}
-use Rattle.engine.proofs.Laws.{give-refused, give-kept, give-nobody, give-met}
+use Rattle.rules.specs.Seats.{seatedGive}
+use Rattle.engine.specs.Admitted.{admitted-judged, admitted-indexed, admitted-marked, seat-grants}
+use Rattle.engine.proofs.Laws.{seated-give-refused}
 use borrow.Author.Needs.{needs}
 use Rattle.engine.proofs.give.Statement.{statement}
 use Rattle.engine.proofs.give.Tie as tie
 
 pub give-spec : {M : Type 1} → statement M
+unfolding seatedGive
 give-spec =
     tie.close
     (tie.spec
+    (λ c. search needs)
     (λ c. search needs)
     (λ c κs. search needs)
     (λ c. search needs)
     (λ c. search needs)
     (λ c. search needs)
-    (λ c κs. (search admitted-indexed, (search admitted-granted, search admitted-sound)))
     (λ c. search needs)
+    (λ c κs. (search admitted-judged, (search admitted-indexed, search admitted-marked)))
     (λ c. search needs)
+    (λ c. search seated-give-refused)
     (λ c. search needs)
-    (λ c κs. search admitted-length)
-    (λ c. search needs)
-    (λ c. search give-refused)
-    (λ c. search needs)
-    (λ c. search give-kept)
-    (λ c. search needs)
-    (λ c. search give-nobody)
-    (λ c. search needs)
-    (λ c. search give-met))
+    (λ c. search seat-grants))

@@ -1,6 +1,6 @@
 use borrow.Author.Needs.{needs}
 use Rattle.engine.specs.Admitted.{admitted-indexed}
-use Rattle.engine.proofs.Laws.{start-refused, start-done, start-length}
+use Rattle.engine.proofs.Laws.{started-length, start-refused, start-done}
 use Rattle.engine.proofs.start.Statement.{statement}
 use Rattle.engine.proofs.start.Tie as tie
 
@@ -15,7 +15,7 @@ start-spec =
     (λ c. search needs)
     (λ c. search needs)
     (λ c κs. search admitted-indexed)
-    (λ c κs. search start-length)
+    (λ c κs. search started-length)
     (λ c. search needs)
     (λ c. search start-refused)
     (λ c. search needs)

@@ -1,28 +1,24 @@
-use Rattle.engine.specs.Admitted.{admitted-length, admitted-granted, admitted-indexed, admitted-sound}
-use Rattle.engine.proofs.Laws.{take-refused, take-kept, take-nobody, take-met}
+use Rattle.rules.specs.Seats.{seatedTake}
+use Rattle.engine.specs.Admitted.{admitted-judged, admitted-indexed, admitted-marked, seat-grants}
+use Rattle.engine.proofs.Laws.{seated-take-refused}
 use borrow.Author.Needs.{needs}
 use Rattle.engine.proofs.take.Statement.{statement}
 use Rattle.engine.proofs.take.Tie as tie
 
 pub take-spec : {M : Type 1} → statement M
+unfolding seatedTake
 take-spec =
     tie.close
     (tie.spec
+    (λ c. search needs)
     (λ c. search needs)
     (λ c κs. search needs)
     (λ c. search needs)
     (λ c. search needs)
     (λ c. search needs)
-    (λ c κs. (search admitted-indexed, (search admitted-granted, search admitted-sound)))
     (λ c. search needs)
+    (λ c κs. (search admitted-judged, (search admitted-indexed, search admitted-marked)))
     (λ c. search needs)
+    (λ c. search seated-take-refused)
     (λ c. search needs)
-    (λ c κs. search admitted-length)
-    (λ c. search needs)
-    (λ c. search take-refused)
-    (λ c. search needs)
-    (λ c. search take-kept)
-    (λ c. search needs)
-    (λ c. search take-nobody)
-    (λ c. search needs)
-    (λ c. search take-met))
+    (λ c. search seat-grants))

@@ -4,11 +4,11 @@ use native.Mathlib.Omega.{arith}
 use mathlib.Core.Path.{_≡_, refl, ap, _∙_}
 use mathlib.Core.Bool.{Bool, true, false}
 use mathlib.Core.List.{List, [], _∷_, map}
-use mathlib.Core.Logic.{_↔_}
+use mathlib.Core.Logic.{_⊎_, inl, inr, ⊎-elim, _↔_}
 use lib.ListN.{length, getD}
 use lib.IntN.{pos}
 use mir.Syntax.{w32}
-use mir.Val.{toZ, ofZ}
+use mir.Val.{toZ}
 use mir.Facts.{toZ-pos}
 use borrow.Author.Tests.{ne-eqb}
 use Rattle.numbers.specs.Count.{bit}
@@ -21,8 +21,13 @@ use Rattle.loader.specs.Load.{accepted}
 use Rattle.loader_laws.specs.Yields.{loaded-small, loaded-accepted}
 use Rattle.state.specs.State.{State, maxThreads, stateLength, view, thread, inUse, isWaiting}
 use Rattle.rules.specs.Moves.{move}
-use Rattle.rules.specs.Calls.{Outcome, outcome, After, startAdmission, onBuffers, startOn, startCall, stepAnswer, canStep, stepOn, stepCall, bench, giveOn, giveCall, takeOn, takeCall, runOn, runCall}
-use Rattle.rules.specs.Calls.Laws.{start-admits, step-answered, by-refused, by-answer, call-refused, call-answer}
+use Rattle.rules.specs.Calls.{startAdmission, startOn, startCall, stepAnswer, canStep, stepOn, stepCall, bench, giveOn, giveCall, takeOn, takeCall}
+use Rattle.rules.specs.Calls.Laws.{start-admits, step-answered, by-refused, by-answer, call-answer}
+use Rattle.rules.specs.Seats.{seatAdmission, seatedStep, seatedGive, seatedTake, seatedRun}
+use Rattle.rules.specs.Seats.Laws.{seat-refused, seat-granted, seat-answer}
+use Rattle.rules.specs.declared.Right.the-variants as Right
+use Rattle.rules.specs.declared.Admission.{Admission}
+use Rattle.rules.specs.declared.Admission.the-variants as Admission
 use Rattle.rules.specs.declared.Refusal.{Refusal}
 use Rattle.rules.specs.declared.Refusal.the-variants as Ground
 use Rattle.rules.specs.declared.Direction.the-variants.{Out, In}
@@ -41,24 +46,27 @@ use Rattle.rules.specs.declared.Ran.the-variants as Ran
 use Rattle.engine.specs.Numbers.{refusalNumber, partnerNumber}
 use Rattle.engine.specs.Numbers.Laws.{ground-range}
 use Rattle.rules_laws.specs.Reading.Laws.{waiting-used}
-use Rattle.engine_laws.specs.Entry.{RightLengths, length-iff, start-length-iff}
+use Rattle.engine_laws.specs.Entry.{RightLengths, start-length-iff}
+use Rattle.engine_laws.specs.Seats.{seat-length-iff}
 use Rattle.engine_laws.specs.Bench.{give-met, take-met}
 use Rattle.rules_laws.specs.Chosen.{Chosen, chosen, partner-answers}
 use Rattle.rules_laws.specs.Frames.{elem, movers}
 use Rattle.engine_laws.specs.Movers.{ranMovers}
 use Rattle.engine_laws.specs.Buffers.{SoundBuffer}
 use Rattle.engine_laws.specs.SoundCalls.{start-done, call-made}
-use Rattle.engine_laws.specs.Lists.{Call, step, give, take, run, after, afterAll, after-sound}
-use Rattle.collector.specs.Collect.{taken, takenCount, collectOn, collectCall}
+use Rattle.engine_laws.specs.Lists.{Call, step, give, take, run}
+use Rattle.collector.specs.Collect.{taken, takenCount, collectCall, seatedCollect}
 use Rattle.collector.specs.Collect.Laws.{count-says}
 use Rattle.collector.specs.declared.Collected.{Collected}
 use Rattle.collector.specs.declared.Collected.the-variants as Collected
 use Rattle.interface.specs.Interface.{loadResult, inNumbers, startFields, startNumbers, startResult, stepFields, stepNumbers, stepResult, giveFields, giveNumbers, giveResult, takeFields, takeNumbers, takeResult, runFields, runNumbers, runResult, collectFields, collectNumbers, collectResult}
-use Rattle.guarantee.specs.Claim.{Any, on, collect, afterAny, afterList, reachedBy, unlessRefused, metByGive, metByTake, inTurns, moving, movingAll, takenBy, Untouched, Linked, NeverTen}
-use Rattle.guarantee.specs.Exported.{ground-signed, left, refusal, given-so, started-so, left-so, refused-so, load-so, table-so}
-use Rattle.guarantee.specs.InNumbers.{leftAll, leftFrom, isZero, ifDone, named, waitingIn, moved, movedAll, takes, NoTen, InNumbers}
+use Rattle.guarantee.specs.Claim.{Any, unlessRefused, metByGive, metByTake, inTurns, Linked}
 use Rattle.guarantee.specs.ClaimKept.{collect-done, collect-view}
-use Rattle.guarantee.specs.Proof.{accepted-guarantee, reached-sound, collection-made}
+use Rattle.guarantee.specs.SeatedClaim.{AtSeat, asked, afterSeat, afterSeats, reachedAt, placed, movingBy, movingSeats, takenAt, UntouchedAt, NeverTenAt}
+use Rattle.guarantee.specs.Through.{kept-left, refused-iff}
+use Rattle.guarantee.specs.SeatedProof.{collected-plainly, seat-sound, seats-sound, accepted-seated, collection-refused}
+use Rattle.guarantee.specs.Exported.{ground-signed, left, refusal, given-so, started-so, left-so, refused-shows, refused-so, load-so, table-so}
+use Rattle.guarantee.specs.InNumbers.{leftAll, leftFrom, isZero, ifDone, named, waitingIn, moved, movedAll, takes, NoTen, InNumbers}
 
 -- ---- the numbers of an answer
 
@@ -74,19 +82,14 @@ named-row u l = rw (toZ-pos w32 {n = u} (omega arith))
 
 -- ---- the bytes
 
-pub all-so : (table state : List ℕ) (ks : List Any) → leftAll table state ks ≡ afterList table state ks
-unfolding leftAll afterList
+pub all-so : (table state : List ℕ) (ks : List (AtSeat Any)) → leftAll table state ks ≡ afterSeats table state ks
+unfolding leftAll afterSeats
 all-so table state [] = refl
-all-so table state (k ∷ ks) = all-so table (left table state k) ks ∙ ap (λ b. afterList table b ks) (left-so table state k)
+all-so table state (k ∷ ks) = all-so table (left table state k) ks ∙ ap (λ b. afterSeats table b ks) (left-so table state k)
 
 -- from a start
-pub from-so : (table state : List ℕ) (ks : List Any) → leftFrom table state ks ≡ reachedBy table state ks
+pub from-so : (table state : List ℕ) (ks : List (AtSeat Any)) → leftFrom table state ks ≡ reachedAt table state ks
 from-so table state ks = rw (started-so table state) (all-so table (startCall table state .state) ks)
-
-later-so : (table state : List ℕ) (ks : List Call) → leftAll table state (map on ks) ≡ afterAll table state ks
-unfolding leftAll afterAll afterAny
-later-so table state [] = refl
-later-so table state (k ∷ ks) = later-so table (left table state (on k)) ks ∙ ap (λ b. afterAll table b ks) (left-so table state (on k))
 
 -- ---- who moves
 
@@ -138,59 +141,74 @@ run-moves (Ran.Done n r) who = refl
 run-moves (Ran.Refused r) who = rw (not-zero r)
 
 -- the thread that a give or a take meets has a row
-module _ (table state : List ℕ) (p : ℕ) where
-  give-in : (v u : ℕ) → giveCall table state p v .answer ≡ Given.Met u → u < maxThreads
-  unfolding giveCall
+module _ (table state rights : List ℕ) (seat p : ℕ) where
+  give-in : (v u : ℕ) → seatedGive table state rights seat p v .answer ≡ Given.Met u → u < maxThreads
+  unfolding seatedGive giveCall
   give-in v u e =
       let tb = tableOf table in
       let s = view state in
-      let f = call-answer Given.Refused table state (giveOn tb s p v) (Given.Met u) (λ r h i. clash cc) .0 e .1 in
+      let a = seat-answer table state rights seat (Right.Give p) Given.Refused (giveCall table state p v) (Given.Met u) (λ r h. clash cc) e in
+      let g : giveCall table state p v .answer ≡ Given.Met u = rw (seat-granted table state rights seat (Right.Give p) Given.Refused (giveCall table state p v) a) at e in
+      let f = call-answer Given.Refused table state (giveOn tb s p v) (Given.Met u) (λ r h i. clash cc) .0 g .1 in
       let (l, j, h, i) = give-met tb s p v u f in
       partner-answers tb s bench In p u j h .thread-in
 
-  take-in : (u v : ℕ) → takeCall table state p .answer ≡ Taken.Met u v → u < maxThreads
-  unfolding takeCall
+  take-in : (u v : ℕ) → seatedTake table state rights seat p .answer ≡ Taken.Met u v → u < maxThreads
+  unfolding seatedTake takeCall
   take-in u v e =
       let tb = tableOf table in
       let s = view state in
-      let f = call-answer Taken.Refused table state (takeOn tb s p) (Taken.Met u v) (λ r h i. clash cc) .0 e .1 in
+      let a = seat-answer table state rights seat (Right.Take p) Taken.Refused (takeCall table state p) (Taken.Met u v) (λ r h. clash cc) e in
+      let g : takeCall table state p .answer ≡ Taken.Met u v = rw (seat-granted table state rights seat (Right.Take p) Taken.Refused (takeCall table state p) a) at e in
+      let f = call-answer Taken.Refused table state (takeOn tb s p) (Taken.Met u v) (λ r h i. clash cc) .0 g .1 in
       let (l, j, h, i, k) = take-met tb s p u v f in
       partner-answers tb s bench Out p u j h .thread-in
 
 module _ (table : List ℕ) (ok : accepted table ≡ true) where
   module _ (state : List ℕ) (b : SoundBuffer table state) where
-    step-so : (t : ℕ) → moved table state (step t) ≡ moving table state (step t)
-    unfolding moved moving stepResult inNumbers stepCall unlessRefused
-    step-so t =
+    -- without seats
+    plain-step : (t : ℕ)
+        → ifDone (stepNumbers (stepCall table state t .answer) .refusal) (t ∷ waitingIn (view state) (named (stepNumbers (stepCall table state t .answer) .partner)))
+        ≡ unlessRefused (stepCall table state t .answer) (movers t (move (tableOf table) (view state) t))
+    unfolding stepCall unlessRefused
+    plain-step t =
         let s = view state in
         let tb = tableOf table in
         rw (call-made table ok Stepped.Refused state b (stepOn tb s t), step-answered tb s t)
         (caseB (canStep s t) (λ y. rw y (step-moves tb s t _ (move tb s t) (chosen tb s t))) (λ y. rw y (step-none Ground.Thread _)))
 
-    -- by the numbers as by the definitions
-    pub moved-so : (k : Call) → moved table state k ≡ moving table state k
-    unfolding moved moving giveResult takeResult runResult inNumbers
-    moved-so (step t) = step-so t
-    moved-so (give p v h) =
-        ap (λ x. ifDone (giveNumbers (giveCall table state p x .answer) .refusal) (named (giveNumbers (giveCall table state p x .answer) .thread))) (given-so v h)
-        ∙ give-moves (giveCall table state p v .answer) (λ u e. give-in table state p v u e)
-    moved-so (take p) = take-moves (takeCall table state p .answer) (λ u v e. take-in table state p u v e)
-    moved-so (run n) = run-moves (runCall table state n .answer) (ranMovers (tableOf table) n (view state))
+    module _ (rights : List ℕ) (seat : ℕ) where
+      step-so : (t : ℕ) (a : Admission) → seatAdmission table state rights seat Right.StepAndRun ≡ a
+          → moved table state rights seat (step t) ≡ movingBy table state rights seat (step t)
+      unfolding moved movingBy stepResult inNumbers seatedStep unlessRefused
+      step-so t (Admission.Refused r) e =
+          rw (seat-refused table state rights seat Right.StepAndRun Stepped.Refused (stepCall table state t) r e) (step-none r _)
+      step-so t Admission.Admitted e = rw (seat-granted table state rights seat Right.StepAndRun Stepped.Refused (stepCall table state t) e) (plain-step t)
+
+      -- by the numbers as by the definitions
+      pub moved-so : (k : Call) → moved table state rights seat k ≡ movingBy table state rights seat k
+      unfolding moved movingBy giveResult takeResult runResult inNumbers
+      moved-so (step t) = step-so t (seatAdmission table state rights seat Right.StepAndRun) refl
+      moved-so (give p v h) =
+          ap (λ x. ifDone (giveNumbers (seatedGive table state rights seat p x .answer) .refusal) (named (giveNumbers (seatedGive table state rights seat p x .answer) .thread))) (given-so v h)
+          ∙ give-moves (seatedGive table state rights seat p v .answer) (λ u e. give-in table state rights seat p v u e)
+      moved-so (take p) = take-moves (seatedTake table state rights seat p .answer) (λ u v e. take-in table state rights seat p u v e)
+      moved-so (run n) = run-moves (seatedRun table state rights seat n .answer) (ranMovers (tableOf table) n (view state))
 
   module _ (fit : (i : ℕ) → getD table i 0 < 256) where
-    all-moved-so : (state : List ℕ) → SoundBuffer table state → (ks : List Call) → movedAll table state ks ≡ movingAll table state ks
-    unfolding movedAll movingAll afterAny
+    all-moved-so : (state : List ℕ) → SoundBuffer table state → (ks : List (AtSeat Call)) → movedAll table state ks ≡ movingSeats table state ks
+    unfolding movedAll movingSeats
     all-moved-so state b [] = refl
     all-moved-so state b (k ∷ ks) =
-        rw (left-so table state (on k), moved-so state b k, all-moved-so (after table state k) (after-sound table ok fit state b k) ks)
+        rw (left-so table state (placed k), moved-so state b (k .rights) (k .seat) (k .call), all-moved-so (afterSeat table state (placed k)) (seat-sound table ok fit state b (placed k)) ks)
 
 -- ---- refusal 10
 
-no-ten : (table state : List ℕ) (ks : List Any) → NeverTen table state ks → NoTen table state ks
-unfolding NoTen NeverTen
+no-ten : (table state : List ℕ) (ks : List (AtSeat Any)) → NeverTenAt table state ks → NoTen table state ks
+unfolding NoTen NeverTenAt
 no-ten table state [] h = tt
 no-ten table state (k ∷ ks) h =
-    ((λ e. h .0 (refused-so table state k e)), rw (left-so table state k) (no-ten table (afterAny table state k) ks (h .1)))
+    ((λ e. h .0 (refused-so table state k e)), rw (left-so table state k) (no-ten table (afterSeat table state k) ks (h .1)))
 
 -- ---- a collection of a sound buffer
 
@@ -202,25 +220,35 @@ few-taken : (tb : Table) (s : State) → takenCount tb s < 2147483648
 unfolding takenCount
 few-taken tb s = omega (arith, bits-few (taken tb s) maxThreads)
 
-module _ (table : List ℕ) (ok : accepted table ≡ true) (fit : (i : ℕ) → getD table i 0 < 256) (state : List ℕ) (b : SoundBuffer table state) where
-  zero-so : collectResult table state .answer .refusal ≡ pos 0
-  unfolding collectResult inNumbers collectNumbers collectFields
-  zero-so = rw (collect-done table ok state b)
+-- a collection that C sees done is one that the claim has done
+collect-zero : (a : Collected) → collectNumbers a .refusal ≡ pos 0 → (n : ℕ) × (a ≡ Collected.Done n)
+unfolding collectNumbers collectFields isZero
+collect-zero (Collected.Done n) e = (n, refl)
+collect-zero (Collected.Refused r) e = contra (ap isZero e) (not-zero r)
 
-  took-so : collectResult table state .answer .threads ≡ pos (sumTo (λ t. bit (takes table state t)) maxThreads)
+module _ (table : List ℕ) (ok : accepted table ≡ true) (fit : (i : ℕ) → getD table i 0 < 256) (state : List ℕ) (b : SoundBuffer table state)
+    (rights : List ℕ) (seat : ℕ) (e : collectResult table state rights seat .answer .refusal ≡ pos 0) where
+  done-so : (n : ℕ) × (seatedCollect table state rights seat .answer ≡ Collected.Done n)
+  unfolding collectResult inNumbers
+  done-so = collect-zero (seatedCollect table state rights seat .answer) e
+
+  plainly : seatedCollect table state rights seat ≡ collectCall table state
+  plainly = collected-plainly table state rights seat (done-so .0) (done-so .1)
+
+  took-so : collectResult table state rights seat .answer .threads ≡ pos (sumTo (λ t. bit (takes table state rights seat t)) maxThreads)
   unfolding collectResult inNumbers collectNumbers collectFields takes
   took-so =
-      rw (collect-done table ok state b, collect-view table ok fit state b)
+      rw (plainly, collect-done table ok state b, collect-view table ok fit state b)
       (toZ-pos w32 {n = takenCount (tableOf table) (view state)} (few-taken (tableOf table) (view state)) ∙ ap pos (count-says (tableOf table) (view state)))
 
-  untouched-so : (later : List Call) → Untouched table state later → (t : ℕ) → takes table state t ≡ true
-      → (elem t (movedAll table state later) ≡ false) × (thread (view (leftAll table state (map on later))) t ≡ thread (view state) t)
-  unfolding takes takenBy collectResult inNumbers
-  untouched-so later h t e = rw (all-moved-so table ok fit state b later, later-so table state later) (h t e)
+  untouched-so : (later : List (AtSeat Call)) → UntouchedAt table state rights seat later → (t : ℕ) → takes table state rights seat t ≡ true
+      → (elem t (movedAll table state later) ≡ false) × (thread (view (leftAll table state (map placed later))) t ≡ thread (view state) t)
+  unfolding takes takenAt collectResult inNumbers
+  untouched-so later h t k = rw (all-moved-so table ok fit state b later, all-so table state (map placed later)) (h t k)
 
-  linked-so : Linked table (collectCall table state .state) → Linked table (collectResult table state .state)
-  unfolding collectResult inNumbers
-  linked-so h = h
+linked-so : (table state rights : List ℕ) (seat : ℕ) → Linked table (seatedCollect table state rights seat .state) → Linked table (collectResult table state rights seat .state)
+unfolding collectResult inNumbers
+linked-so table state rights seat h = h
 
 -- ---- a start that C sees done
 
@@ -242,34 +270,49 @@ module _ (table : List ℕ) (ok : accepted table ≡ true) (state : List ℕ) wh
 -- ---- of a table that is accepted, in a buffer in which it is started
 
 module _ (table : List ℕ) (ok : accepted table ≡ true) (fit : (i : ℕ) → getD table i 0 < 256) (state : List ℕ)
-    (begun : startResult table state .answer .refusal ≡ pos 0) (ks : List Any) where
+    (begun : startResult table state .answer .refusal ≡ pos 0) (ks : List (AtSeat Any)) where
   long : length state ≡ stateLength
   long = started-iff table ok state .0 begun
 
   from-sound : SoundBuffer table (leftFrom table state ks)
-  from-sound = rw (from-so table state ks) (reached-sound table ok fit state long ks)
+  from-sound = rw (from-so table state ks) (seats-sound table ok fit state long ks)
 
-  -- a collection after the list is never refused
-  pub collection-zero : collectResult table (leftFrom table state ks) .answer .refusal ≡ pos 0
-  collection-zero = zero-so table ok fit (leftFrom table state ks) from-sound
+  -- a collection after the list is answered with 0, or with 8, 18 or 19
+  answers-by : (rights : List ℕ) (seat : ℕ) (a : Collected) → seatedCollect table (reachedAt table state ks) rights seat .answer ≡ a
+      → (collectNumbers a .refusal ≡ pos 0) ⊎ ((collectNumbers a .refusal ≡ pos 8) ⊎ ((collectNumbers a .refusal ≡ pos 18) ⊎ (collectNumbers a .refusal ≡ pos 19)))
+  unfolding collectNumbers collectFields refusalNumber
+  answers-by rights seat (Collected.Done n) e = inl refl
+  answers-by rights seat (Collected.Refused r) e =
+      inr (⊎-elim (λ q. inl (rw q)) (λ o. ⊎-elim (λ q. inr (inl (rw q))) (λ q. inr (inr (rw q))) o) (collection-refused table ok fit state long ks rights seat r e))
+
+  pub collection-answers : (rights : List ℕ) (seat : ℕ)
+      → (collectResult table (leftFrom table state ks) rights seat .answer .refusal ≡ pos 0)
+      ⊎ ((collectResult table (leftFrom table state ks) rights seat .answer .refusal ≡ pos 8)
+      ⊎ ((collectResult table (leftFrom table state ks) rights seat .answer .refusal ≡ pos 18)
+      ⊎ (collectResult table (leftFrom table state ks) rights seat .answer .refusal ≡ pos 19)))
+  unfolding collectResult inNumbers
+  collection-answers rights seat = rw (from-so table state ks) (answers-by rights seat (seatedCollect table (reachedAt table state ks) rights seat .answer) refl)
 
   pub accepted-in-numbers : InNumbers table state ks
   accepted-in-numbers =
-      let g = accepted-guarantee table ok fit state long ks in
-      let n = takenCount (tableOf table) (view (reachedBy table state ks)) in
-      let made = collection-made table ok fit state long ks in
+      let g = accepted-seated table ok fit state long ks in
+      let s = leftFrom table state ks in
+      let same = from-so table state ks in
       record {
-        counted = rw (from-so table state ks) (g .counted);
-        untouched = λ e later. untouched-so table ok fit (leftFrom table state ks) from-sound later (rw (from-so table state ks) (g .untouched n made later));
-        took = λ e. took-so table ok fit (leftFrom table state ks) from-sound;
-        linked = λ e. linked-so table ok fit (leftFrom table state ks) from-sound (rw (from-so table state ks) (g .linked n made));
+        counted = rw same (g .counted);
+        untouched = λ rights seat e later. let d = done-so table ok fit s from-sound rights seat e in
+            untouched-so table ok fit s from-sound rights seat e later (rw same (g .untouched rights seat (d .0) (rw (← same) (d .1)) later));
+        took = λ rights seat e. took-so table ok fit s from-sound rights seat e;
+        linked = λ rights seat e. let d = done-so table ok fit s from-sound rights seat e in
+            linked-so table s rights seat (rw same (g .linked rights seat (d .0) (rw (← same) (d .1))));
         never-ten = rw (started-so table state) (no-ten table (startCall table state .state) ks (g .never-ten));
-        never-ten-later = λ later. rw (from-so table state ks) (no-ten table (reachedBy table state ks) (map on later) (g .never-ten-later later));
+        never-ten-later = λ later. rw same (no-ten table (reachedAt table state ks) (map placed later) (g .never-ten-later later));
       }
 
 -- ---- the theorem: for every file and every two buffers, where load is answered with refusal 0 and so is start, and for every list of calls
 pub in-numbers : (file t : List ℕ) → loadResult file t .answer .refusal ≡ pos 0
-    → (state : List ℕ) → startResult (loadResult file t .table) state .answer .refusal ≡ pos 0 → (ks : List Any) → InNumbers (loadResult file t .table) state ks
+    → (state : List ℕ) → startResult (loadResult file t .table) state .answer .refusal ≡ pos 0 → (ks : List (AtSeat Any))
+    → InNumbers (loadResult file t .table) state ks
 in-numbers file t e =
     accepted-in-numbers (loadResult file t .table)
     (rw (table-so file t) (loaded-accepted file t (load-so file t e)))
@@ -284,28 +327,15 @@ module _ (table state : List ℕ) (wrong : ¬ RightLengths table state) where
       let e = by-refused Started.Refused state (startOn (tableOf table)) (startAdmission table state) Ground.Length (start-length-iff table state .1 wrong) in
       (rw e, rw e)
 
-  wrong-on : {A : Type 0} (refused : Refusal → A) (k : After A) → onBuffers refused table state k ≡ outcome (refused Ground.Length) state
-  wrong-on refused k = call-refused refused table state k Ground.Length (length-iff table state .1 wrong)
+  pub wrong-call : (k : AtSeat Any) → (refusal table state k ≡ pos 8) × (left table state k ≡ state)
+  unfolding refusalNumber
+  wrong-call k =
+      let e = seat-length-iff table state (k .rights) (k .seat) (asked (k .call)) .1 (λ l. wrong (l .0)) in (
+        refused-shows table state (k .rights) (k .seat) (k .call) Ground.Length (refused-iff table state (k .rights) (k .seat) (k .call) Ground.Length .1 (inl e)),
+        left-so table state k ∙ kept-left table state (k .rights) (k .seat) (k .call) Ground.Length e,
+      )
 
-  pub wrong-call : (k : Any) → (refusal table state k ≡ pos 8) × (left table state k ≡ state)
-  unfolding refusal left stepResult giveResult takeResult runResult collectResult inNumbers stepNumbers stepFields giveNumbers giveFields takeNumbers takeFields runNumbers runFields collectNumbers collectFields refusalNumber stepCall giveCall takeCall runCall collectCall
-  wrong-call (on (step t)) =
-      let e = wrong-on Stepped.Refused (stepOn (tableOf table) (view state) t) in
-      (ap (λ (o : Outcome Stepped). stepNumbers (o .answer) .refusal) e, ap (λ (o : Outcome Stepped). o .state) e)
-  wrong-call (on (give p v h)) =
-      let e = wrong-on Given.Refused (giveOn (tableOf table) (view state) p (ofZ w32 (toZ w32 v))) in
-      (ap (λ (o : Outcome Given). giveNumbers (o .answer) .refusal) e, ap (λ (o : Outcome Given). o .state) e)
-  wrong-call (on (take p)) =
-      let e = wrong-on Taken.Refused (takeOn (tableOf table) (view state) p) in
-      (ap (λ (o : Outcome Taken). takeNumbers (o .answer) .refusal) e, ap (λ (o : Outcome Taken). o .state) e)
-  wrong-call (on (run n)) =
-      let e = wrong-on Ran.Refused (runOn (tableOf table) (view state) n) in
-      (ap (λ (o : Outcome Ran). runNumbers (o .answer) .refusal) e, ap (λ (o : Outcome Ran). o .state) e)
-  wrong-call collect =
-      let e = wrong-on Collected.Refused (collectOn (tableOf table) (view state)) in
-      (ap (λ (o : Outcome Collected). collectNumbers (o .answer) .refusal) e, ap (λ (o : Outcome Collected). o .state) e)
-
-  pub wrong-list : (ks : List Any) → leftAll table state ks ≡ state
+  pub wrong-list : (ks : List (AtSeat Any)) → leftAll table state ks ≡ state
   unfolding leftAll
   wrong-list [] = refl
   wrong-list (k ∷ ks) = rw (wrong-call k .1) (wrong-list ks)

@@ -1,6 +1,7 @@
 //! What a picture has to show, by the words of the state and the rows of the file alone.
 
 use generate::{table_of, File, Layout, Offer, Words, FREE, READY};
+use pithread::Rights;
 
 pub struct Thread {
     pub number: usize,
@@ -23,7 +24,8 @@ impl Expected {
         let layout = Layout::new(file);
         let words = Words::new(state);
         let mut after = state.to_vec();
-        assert_eq!(reference::collect(&table_of(&file.rows), &mut after).refusal, 0);
+        let collected = reference::collect(&table_of(&file.rows), &mut after, &Rights::FULL.to_bytes(), 0);
+        assert_eq!(collected.refusal, 0);
         let after = Words::new(&after);
         let threads = (0..64).filter(|number| words.thread(*number)[0] != FREE).map(|number| Thread {
             number,

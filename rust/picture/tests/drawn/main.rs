@@ -10,7 +10,7 @@ use expected::{Expected, Thread};
 use generate::standstills::{self, any_group};
 use generate::{any_call, procedures, profiled, table_of, File, Random, LIVELY, STILL};
 use picture::Picture;
-use pithread::{Bench, Ran, Reason, Table};
+use pithread::{Bench, Ran, Reason, Rights, Table};
 use read::{Cover, Drawn, Group};
 use reference::ENGINE;
 
@@ -231,7 +231,7 @@ fn walk(came: &mut Came, random: &mut Random, file: &File, about: &str) {
     let mut state = vec![0; 6_156];
     assert_eq!(reference::start(&table, &mut state).refusal, 0);
     let most = random.pick(&[80, 4_000]);
-    reference::run(&table, &mut state, random.below(most) as u16);
+    reference::run(&table, &mut state, &Rights::FULL.to_bytes(), 0, random.below(most) as u16);
     for _ in 0..6 {
         for _ in 0..8 {
             let call = any_call(random, &state, file.size.ports);
@@ -293,7 +293,7 @@ fn files_written_by_hand() {
         for steps in [0, 1, 5, 20, 100, 5_000] {
             let mut state = vec![0; 6_156];
             reference::start(&table, &mut state);
-            reference::run(&table, &mut state, steps);
+            reference::run(&table, &mut state, &Rights::FULL.to_bytes(), 0, steps);
             came.add(&compare(&file, &state, &format!("{name} after {steps} steps")));
         }
     }

@@ -1,21 +1,23 @@
 //! The calls on a table and a state, with the grounds from 8 on.
 //!
 //! Each call reads both buffers into structures of fixed size, works on these, and writes the state
-//! once at its end: `code` is the table, `state` the state, `sound` reads it with ground 10, `moves`
-//! and `meeting` are a step, `collect` is a collection. `listing` is what the listing program prints.
+//! once at its end: `code` is the table, `state` the state, `seats` says with grounds 18 and 19 who may do what,
+//! `sound` reads the state with ground 10, `moves` and `meeting` are a step, `collect` is a collection.
+//! `listing` is what the listing program prints.
 
 mod code;
 mod collect;
 mod listing;
 mod meeting;
 mod moves;
+mod seats;
 mod sound;
 mod state;
 
 use interface::{
-    Collected, Engine, Given, Ran, Started, Stepped, Taken, ALL_STEPS, BUFFER_LENGTH, LACKED_CHANNEL_ROW,
-    LACKED_THREAD_ROW, NOBODY, NONE_READY, NO_CHANNEL_ROW, NO_THREAD_ROW, PORT, STATE, STATE_BYTES, TABLE,
-    THREAD, THREADS,
+    Answer, Call, Collected, Engine, Given, Ran, Started, Stepped, Taken, ALL_STEPS, BUFFER_LENGTH,
+    LACKED_CHANNEL_ROW, LACKED_THREAD_ROW, NOBODY, NONE_READY, NO_CHANNEL_ROW, NO_THREAD_ROW, PORT, STATE,
+    STATE_BYTES, TABLE, THREAD, THREADS,
 };
 
 use crate::TABLE_BYTES;
@@ -23,6 +25,7 @@ use code::{Code, Direction};
 pub use listing::listing;
 use meeting::Offer;
 use moves::Lack;
+use seats::{Deed, Request};
 pub use sound::Fault;
 use state::State;
 
@@ -40,8 +43,43 @@ pub fn start(table: &[u8], state: &mut [u8]) -> Started {
     Started { refusal: started.err().unwrap_or(0) }
 }
 
-pub fn step(table: &[u8], state: &mut [u8], thread: u32) -> Stepped {
-    let stepped = with_both(table, state, |code, read, state| {
+pub fn step(table: &[u8], state: &mut [u8], rights: &[u8], seat: u32, thread: u32) -> Stepped {
+    make_step(table, state, Some(Request { rights, seat, deed: Deed::Step }), thread)
+}
+
+/// Gives a number to a thread that waits for one on a port.
+pub fn give(table: &[u8], state: &mut [u8], rights: &[u8], seat: u32, port: u32, number: i32) -> Given {
+    make_give(table, state, Some(Request { rights, seat, deed: Deed::Give { port } }), port, number)
+}
+
+/// Takes a number from a thread that waits to send one on a port.
+pub fn take(table: &[u8], state: &mut [u8], rights: &[u8], seat: u32, port: u32) -> Taken {
+    make_take(table, state, Some(Request { rights, seat, deed: Deed::Take { port } }), port)
+}
+
+pub fn run(table: &[u8], state: &mut [u8], rights: &[u8], seat: u32, n: u16) -> Ran {
+    make_run(table, state, Some(Request { rights, seat, deed: Deed::Step }), n)
+}
+
+/// Frees the threads that nobody can wake, and the channels that only they held.
+pub fn collect(table: &[u8], state: &mut [u8], rights: &[u8], seat: u32) -> Collected {
+    make_collection(table, state, Some(Request { rights, seat, deed: Deed::Collect }))
+}
+
+/// The call without a look at seats.
+pub fn without_seats(call: Call, table: &[u8], state: &mut [u8]) -> Answer {
+    match call {
+        Call::Start => Answer::Started(start(table, state)),
+        Call::Step { thread } => Answer::Stepped(make_step(table, state, None, thread)),
+        Call::Give { port, number } => Answer::Given(make_give(table, state, None, port, number)),
+        Call::Take { port } => Answer::Taken(make_take(table, state, None, port)),
+        Call::Run { n } => Answer::Ran(make_run(table, state, None, n)),
+        Call::Collect => Answer::Collected(make_collection(table, state, None)),
+    }
+}
+
+fn make_step(table: &[u8], state: &mut [u8], by: Option<Request>, thread: u32) -> Stepped {
+    let stepped = with_both(table, state, by, |code, read, state| {
         let number = thread as usize;
         if number >= THREADS || read.ready >> number & 1 == 0 {
             return Err(THREAD);
@@ -56,25 +94,23 @@ pub fn step(table: &[u8], state: &mut [u8], thread: u32) -> Stepped {
     stepped.unwrap_or_else(|refusal| Stepped { refusal, ..Stepped::default() })
 }
 
-/// Gives a number to a thread that waits for one on a port.
-pub fn give(table: &[u8], state: &mut [u8], port: u32, number: i32) -> Given {
-    match meet_bench(table, state, port, Direction::Receive, |slot| *slot = number) {
+fn make_give(table: &[u8], state: &mut [u8], by: Option<Request>, port: u32, number: i32) -> Given {
+    match meet_bench(table, state, by, (port, Direction::Receive), |slot| *slot = number) {
         Ok(met) => Given { refusal: 0, thread: thread_of(&met) },
         Err(refusal) => Given { refusal, ..Given::default() },
     }
 }
 
-/// Takes a number from a thread that waits to send one on a port.
-pub fn take(table: &[u8], state: &mut [u8], port: u32) -> Taken {
+fn make_take(table: &[u8], state: &mut [u8], by: Option<Request>, port: u32) -> Taken {
     let mut number = 0;
-    match meet_bench(table, state, port, Direction::Send, |slot| number = *slot) {
+    match meet_bench(table, state, by, (port, Direction::Send), |slot| number = *slot) {
         Ok(met) => Taken { refusal: 0, thread: thread_of(&met), number },
         Err(refusal) => Taken { refusal, ..Taken::default() },
     }
 }
 
-pub fn run(table: &[u8], state: &mut [u8], n: u16) -> Ran {
-    let ran = with_both(table, state, |code, read, state| {
+fn make_run(table: &[u8], state: &mut [u8], by: Option<Request>, n: u16) -> Ran {
+    let ran = with_both(table, state, by, |code, read, state| {
         let ran = run_steps(code, read, n, |_, _| {});
         read.write(state);
         Ok(ran)
@@ -82,9 +118,8 @@ pub fn run(table: &[u8], state: &mut [u8], n: u16) -> Ran {
     ran.unwrap_or_else(|refusal| Ran { refusal, ..Ran::default() })
 }
 
-/// Frees the threads that nobody can wake, and the channels that only they held.
-pub fn collect(table: &[u8], state: &mut [u8]) -> Collected {
-    let collected = with_both(table, state, |code, read, state| {
+fn make_collection(table: &[u8], state: &mut [u8], by: Option<Request>) -> Collected {
+    let collected = with_both(table, state, by, |code, read, state| {
         let threads = read.collect(code);
         read.write(state);
         Ok(Collected { refusal: 0, threads: threads as i32 })
@@ -112,29 +147,35 @@ fn with_table<T>(
     work(&code)
 }
 
-/// Does the work on a table and a state that pass grounds 8 to 10.
+/// Does the work on a table and a state that pass grounds 8 to 10, where the seat that asks for it, if one does,
+/// has the right; whether it has comes before the state.
 fn with_both<T>(
     table: &[u8],
     state: &mut [u8],
+    by: Option<Request>,
     work: impl FnOnce(&Code, &mut State, &mut [u8]) -> Result<T, Ground>,
 ) -> Result<T, Ground> {
+    if by.is_some_and(|request| !request.has_right_length()) {
+        return Err(BUFFER_LENGTH);
+    }
     with_table(table, state.len(), |code| {
+        by.map_or(Ok(()), |request| request.judge())?;
         let mut read = State::new(code);
         read.read(code, state).map_err(|_| STATE)?;
         work(code, &mut read, state)
     })
 }
 
-/// The bench meets the first thread with an offer in this direction on a port; the exchange is made
+/// The bench meets the first thread with an offer on a port in this direction; the exchange is made
 /// on the thread's slot.
 fn meet_bench(
     table: &[u8],
     state: &mut [u8],
-    port: u32,
-    direction: Direction,
+    by: Option<Request>,
+    (port, direction): (u32, Direction),
     exchange: impl FnOnce(&mut i32),
 ) -> Result<Option<Offer>, Ground> {
-    with_both(table, state, |code, read, state| {
+    with_both(table, state, by, |code, read, state| {
         let port = port as usize;
         if port >= code.ports {
             return Err(PORT);

@@ -1,8 +1,11 @@
 //! A file's table and the state that the calls lead to.
 
 use generate::{File, Words, FREE};
-use interface::{Collected, Given, Ran, Stepped, Taken, STATE_BYTES};
+use interface::{Collected, Given, Ran, Stepped, Taken, FULL_RIGHTS, STATE_BYTES};
 use reference::TABLE_BYTES;
+
+/// All calls are made from this seat, which may do everything.
+const SEAT: u32 = 3;
 
 pub struct Bench {
     pub table: Vec<u8>,
@@ -20,7 +23,7 @@ impl Bench {
     }
 
     pub fn step(&mut self, thread: u32) -> Stepped {
-        reference::step(&self.table, &mut self.state, thread)
+        reference::step(&self.table, &mut self.state, &FULL_RIGHTS, SEAT, thread)
     }
 
     /// Steps a thread and answers act, branch and partner.
@@ -38,19 +41,19 @@ impl Bench {
     }
 
     pub fn run(&mut self, n: u16) -> Ran {
-        reference::run(&self.table, &mut self.state, n)
+        reference::run(&self.table, &mut self.state, &FULL_RIGHTS, SEAT, n)
     }
 
     pub fn give(&mut self, port: u32, number: i32) -> Given {
-        reference::give(&self.table, &mut self.state, port, number)
+        reference::give(&self.table, &mut self.state, &FULL_RIGHTS, SEAT, port, number)
     }
 
     pub fn take(&mut self, port: u32) -> Taken {
-        reference::take(&self.table, &mut self.state, port)
+        reference::take(&self.table, &mut self.state, &FULL_RIGHTS, SEAT, port)
     }
 
     pub fn collect(&mut self) -> Collected {
-        reference::collect(&self.table, &mut self.state)
+        reference::collect(&self.table, &mut self.state, &FULL_RIGHTS, SEAT)
     }
 
     /// Collects, and answers the threads that are gone.

@@ -9,5 +9,6 @@ mod moves;
 mod ports;
 mod refusals;
 mod runs;
+mod seats;
 mod sound;
 mod threads;

@@ -1,7 +1,7 @@
 //! The order of the grounds, and that a refused call changes nothing.
 
 use generate::procedures::ports;
-use interface::{Answer, Call, Collected, Given, Ran, Started, Stepped, Taken, STATE_BYTES};
+use interface::{Answer, Call, Collected, Given, Ran, Seated, Started, Stepped, Taken, STATE_BYTES};
 use reference::{ENGINE, TABLE_BYTES};
 
 use crate::bench::Bench;
@@ -10,7 +10,7 @@ const CALLS: [Call; 6] = [
     Call::Start,
     Call::Step { thread: 64 },
     Call::Give { port: 2, number: 3 },
-    Call::Take { port: u32::MAX },
+    Call::Take { port: 7 },
     Call::Run { n: 5 },
     Call::Collect,
 ];
@@ -27,9 +27,10 @@ fn refused(call: Call, refusal: i32) -> Answer {
     }
 }
 
-fn check(call: Call, table: &[u8], state: &[u8], ground: i32) {
-    let mut after = state.to_vec();
-    assert_eq!(ENGINE.answer(call, table, &mut after), refused(call, ground), "{call:?}");
+pub fn check<'a>(call: impl Into<Seated<'a>>, table: &[u8], state: &[u8], ground: i32) {
+    let (seated, mut after) = (call.into(), state.to_vec());
+    let call = seated.call;
+    assert_eq!(ENGINE.answer(seated, table, &mut after), refused(call, ground), "{call:?}");
     assert!(after == state, "{call:?}: the state has changed");
 }
 
@@ -88,8 +89,13 @@ fn threads_that_are_not_ready() {
 fn ports_that_there_are_not() {
     let mut bench = Bench::new(&ports());
     bench.run(100);
-    for port in [2, 3, 8, 128, 256, 1 << 16, 1 << 31, u32::MAX] {
+    for port in 2..8 {
         check(Call::Give { port, number: 1 }, &bench.table, &bench.state, 12);
         check(Call::Take { port }, &bench.table, &bench.state, 12);
+    }
+    // Where no file has a port, no seat has a right.
+    for port in [8, 9, 128, 256, 1 << 16, 1 << 31, u32::MAX] {
+        check(Call::Give { port, number: 1 }, &bench.table, &bench.state, 19);
+        check(Call::Take { port }, &bench.table, &bench.state, 19);
     }
 }

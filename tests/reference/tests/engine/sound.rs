@@ -47,7 +47,7 @@ fn check(name: &str, change: Change, fault: Option<Fault>) {
     assert_eq!(bench.unchanged(|bench| bench.run(0)).refusal, ground, "{name}");
     if fault.is_some() {
         assert_eq!(bench.unchanged(|bench| bench.step(64)).refusal, 10, "{name}");
-        assert_eq!(bench.unchanged(|bench| bench.give(9, 0)).refusal, 10, "{name}");
+        assert_eq!(bench.unchanged(|bench| bench.give(7, 0)).refusal, 10, "{name}");
         assert_eq!(bench.unchanged(|bench| bench.take(0)).refusal, 10, "{name}");
         assert_eq!(bench.unchanged(|bench| bench.collect()).refusal, 10, "{name}");
     }

@@ -7,7 +7,7 @@ mod walks;
 use futures::{search, Outcome};
 use generate::standstills::{self, any_group, chain, port_waiter, through_a_waiter, Foot};
 use generate::{profiled, table_of, without, File, Layout, Random, Rule, View, LIVELY, STILL};
-use interface::Collected;
+use interface::{Collected, FULL_RIGHTS};
 use shapes::{Shapes, EVERY_SHAPE};
 use walks::{long_walk, walk};
 
@@ -135,7 +135,7 @@ fn compare(file: &File, state: &[u8], about: &str) -> usize {
     let layout = Layout::new(file);
     let taken = View::new(&layout, state).taken(Rule::Right);
     let (table, mut after) = (table_of(&file.rows), state.to_vec());
-    let collected = reference::collect(&table, &mut after);
+    let collected = reference::collect(&table, &mut after, &FULL_RIGHTS, 0);
     assert_eq!(collected, Collected { refusal: 0, threads: taken.len() as i32 }, "{about}");
     assert!(after == without(&layout, state, &taken), "{about}: another state");
     assert_eq!(reference::fault(&table, &after), None, "{about}");
