@@ -23,8 +23,9 @@
  * Every call answers a struct whose first number is 0 if the call was done, or else the number of
  * the ground on which it was refused. A refused call changes no buffer, and the other numbers of
  * its answer are 0, except that a load names a line. If several grounds apply, the answer is the
- * lowest of them, except that 18 and 19 come ahead of 10: what is wrong with the rights or the seat
- * is answered before anything is told of the state.
+ * first of them in this order: 1 to 7, 8, 9, 18, 19, 10, and then the others by their numbers. What
+ * is wrong with the rights or the seat is answered before anything is told of the state or of what
+ * was asked for: a step of thread 99 at a seat without the right is refused on ground 19, not on 11.
  */
 #ifndef PITHREAD_H
 #define PITHREAD_H
@@ -340,9 +341,11 @@ pithread_started pithread_start(const uint8_t *table, size_t table_len, uint8_t 
  *
  * At a choice the first branch that can go ahead is taken. A send or receive can if another thread
  * waits with the opposite offer on the same channel; of several such threads the one with the
- * lowest number is met, through its first such branch, and both go on as ready. Where no branch
- * can go ahead, the thread waits. A branch that starts a thread or makes a channel can go ahead,
- * but without a free row the step is refused (ground 13 or 14); no later branch is tried.
+ * lowest number is met, through its first such branch, and both go on as ready. A sum or difference
+ * that does not fit 32 signed bits makes its branch count as one whose guard is false, so that what
+ * is stored is always the exact number. Where no branch can go ahead, the thread waits. A branch that
+ * starts a thread or makes a channel can go ahead, but without a free row the step is refused (ground
+ * 13 or 14); no later branch is tried.
  */
 pithread_stepped pithread_step(const uint8_t *table, size_t table_len, uint8_t *state, size_t state_len,
                                const uint8_t *rights, size_t rights_len, uint32_t seat, uint32_t thread);

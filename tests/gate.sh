@@ -1,6 +1,6 @@
 #!/usr/bin/env bash
 # Shows, on a repository with one small crate, that a file which belongs to no listed crate is found: a whole crate that
-# crates.txt leaves out, and single files.
+# crates.txt leaves out, and single files. And that no function of ours is left without a caller.
 set -euo pipefail
 root=$(cd "$(dirname "$0")/.." && pwd)
 source "$root/tests/counted.sh"
@@ -47,4 +47,33 @@ for file in loose.rt crates/loose.rt crates/one/loose.rt loose.antt crates/loose
 done
 
 check "the crate is proved again" proved
+
+# uncalled FOLDER: no function of its crates is left that neither an exported function nor a program comes to call; those
+# that are left are named.
+uncalled() {
+    (cd "$1" && awk -f "$root/tests/uncalled.awk" crates/*/src/*.rt) >"$log"
+    local status=$?
+    cat "$log"
+    return "$status"
+}
+
+# The small crate's function has no caller, and has to be named; by way of another one that is exported it has.
+named() {
+    ! uncalled "$scratch" && grep -qx "$1" "$log"
+}
+
+check "a function without a caller is named" named one::seven
+cat >>"$scratch/crates/one/src/lib.rt" <<'SOURCE'
+
+fn handed_on() -> u32 {
+    seven()
+}
+
+#[no_mangle]
+pub extern "C" fn exported() -> u32 {
+    handed_on()
+}
+SOURCE
+check "it has a caller behind an exported function" uncalled "$scratch"
+check "each function of the engine is called" uncalled "$root"
 close_checks

@@ -1,7 +1,7 @@
 #!/usr/bin/env bash
-# Shows that the exported calls are held to the claim by their contracts. In a copy the contract of each call on a state,
-# that of the write and that of the check for the profile is changed, and its body with it, so that the crate pithread is
-# still proved: four contracts say less, three say something else. The driver has nothing but these contracts, and has to be refused at each of its calls.
+# Shows that the exported calls are held to the claim by their contracts. In a copy the contract of each exported call is
+# changed, and its body with it, so that the crate pithread is still proved: four contracts say less, five say something
+# else. The driver has nothing but these contracts, and has to be refused at each of its calls.
 set -euo pipefail
 root=$(cd "$(dirname "$0")/.." && pwd)
 source "$root/tests/counted.sh"
@@ -42,13 +42,14 @@ refused() {
     ! (cd "$scratch" && rt check driver) >"$log" 2>&1 && grep -q '^rt: driver NOT PROVED' "$log"
 }
 
-# What that check said: that this crate is proved, that the proof of this function of the driver is refused, and that another is proved.
+# What that check said: that this crate is proved, that this function of the driver is refused, and not only for one that it
+# calls, and that another is proved.
 proved_there() {
     grep -q "^rt: $1 proved" "$log"
 }
 
 refused_at() {
-    grep -q "crates/driver/proofs/$1/Proof.antt:.*error" "$log"
+    grep -qE "^fn driver::$1: (not proved|no proof: .* does not close \`returns\`)$" "$log"
 }
 
 still_proved() {
@@ -56,6 +57,116 @@ still_proved() {
 }
 
 all='(now (table .entry)) (now (state .entry)) (now (rights .entry)) seat'
+
+# A load that names line 1 for every fault of ground 3, also where it is the kind of a later line; and a start after which
+# the first turn is thread 5's.
+mkdir "$scratch/crates/pithread/specs"
+echo 'pub mod Strayed' >"$scratch/crates/pithread/specs/Lib.antt"
+cat >"$scratch/crates/pithread/specs/Strayed.antt" <<'SPEC'
+use Prim.Native.Nat.{ℕ}
+use mathlib.Core.Bool.{cond}
+use mathlib.Core.List.{List}
+use lib.Dec.{eqb}
+use lib.IntN.{pos}
+use Rattle.loader.specs.Load.{loaded, refusalNumber, lineNumber}
+use Rattle.interface.specs.Interface.{LoadResult, loadedTo}
+
+unfoldable pub strayedLoad : List ℕ → List ℕ → LoadResult
+strayedLoad file t =
+    let answer = loaded file t .answer in
+    loadedTo (record { refusal = pos (refusalNumber answer); line = pos (cond (eqb (refusalNumber answer) 3) 1 (lineNumber answer)) }) (loaded file t .table)
+SPEC
+change 'ghost use mathlib.Core.Path.{_≡_};' 'ghost use mathlib.Core.Path.{_≡_};
+ghost use lib.ListN.{set};
+ghost use Rattle.numbers.specs.Bytes.{words};
+ghost use Rattle.pithread.specs.Strayed.{strayedLoad};'
+change '≡ loadResult (now (file .entry)) (now (table .entry))' '≡ strayedLoad (now (file .entry)) (now (table .entry))'
+change '    LoadAnswer {
+' '    if refusal == 3 {
+        return LoadAnswer { refusal: 3, line: 1 };
+    }
+    LoadAnswer {
+'
+cat >"$proofs/pithread_load/Proof.antt" <<'PROOF'
+use Prim.Native.Nat.{ℕ, _≤_}
+use mathlib.Core.Path.{_≡_, sym, _∙_}
+use mathlib.Core.List.{List}
+use lib.IntN.{pos}
+use mir.Syntax.{w32}
+use mir.Val.{toZ}
+use borrow.Author.Tests.{ne-eqb}
+use Rattle.loader.specs.Load.{outcome, loaded, refusalNumber, lineNumber}
+use Rattle.loader.specs.declared.Loaded.{Loaded}
+use Rattle.interface.specs.Interface.{loadedTo, numbered, loadResult}
+use Rattle.pithread.specs.Strayed.{strayedLoad}
+use Rattle.pithread.proofs.Answered.{line-fits, load-answered}
+use borrow.Author.Needs.{needs}
+use Rattle.pithread.proofs.pithread_load.Statement.{statement}
+use Rattle.pithread.proofs.pithread_load.Tie as tie
+
+module _ (file t t′ : List ℕ) (a : Loaded) (e : outcome a t′ ≡ loaded file t) (r : ℕ) (f : r ≡ refusalNumber a) where
+  strayed : r ≡ 3 → loadedTo (record { refusal = pos 3; line = pos 1 }) t′ ≡ strayedLoad file t
+  unfolding strayedLoad
+  strayed q = rw (← e, ← f, q)
+
+  as-before : (l : ℕ) → l ≡ lineNumber a → r ≤ 8 → (r ≡ 3 → ⊥) → loadedTo (record { refusal = toZ w32 r; line = toZ w32 l }) t′ ≡ strayedLoad file t
+  unfolding strayedLoad loadResult numbered
+  as-before l g h n = load-answered file t t′ a e l g r f h ∙ rw (← e, ← f, ne-eqb r 3 n)
+
+pub pithread-load-spec : {M : Type 1} → statement M
+pithread-load-spec =
+    tie.close
+    (tie.spec
+    (λ c κs. search needs)
+    (λ c κs. search needs)
+    (λ c κs. search needs)
+    (λ c. search needs)
+    (λ c. search strayed)
+    (λ c. search needs)
+    (λ c. search line-fits)
+    (λ c. search needs)
+    (λ c. search as-before))
+PROOF
+change 'result r (now (state .exit)) ≡ startResult (now (table .entry)) (now (state .entry)) ⌝ }' \
+    'r ≡ startResult (now (table .entry)) (now (state .entry)) .answer ⌝ }
+    ensures { λ _. ⌜ words (now (state .exit)) ≡ set (words (startResult (now (table .entry)) (now (state .entry)) .state)) 2 5 ⌝ }'
+change '    interface::start_numbers(engine::start(table, state))' \
+    '    let answer = interface::start_numbers(engine::start(table, state));
+    numbers::put_word(state, 2, 5);
+    answer'
+cat >"$proofs/pithread_start/Proof.antt" <<'PROOF'
+use Prim.Native.Nat.{ℕ}
+use mathlib.Core.Path.{_≡_, ap, _∙_}
+use mathlib.Core.List.{List}
+use lib.ListN.{set}
+use Rattle.numbers.specs.Bytes.{words}
+use Rattle.rules.specs.Calls.{Outcome, outcome, startCall}
+use Rattle.rules.specs.declared.Started.{Started}
+use Rattle.interface.specs.Interface.{startNumbers, startResult, inNumbers}
+use Rattle.interface.specs.declared.StartAnswer.{StartAnswer}
+use borrow.Author.Needs.{needs}
+use Rattle.pithread.proofs.pithread_start.Statement.{statement}
+use Rattle.pithread.proofs.pithread_start.Tie as tie
+
+module _ (table b b₁ : List ℕ) (a : Started) (e : outcome a b₁ ≡ startCall table b) where
+  told : (r : StartAnswer) → r ≡ startNumbers a → r ≡ startResult table b .answer
+  unfolding startResult inNumbers
+  told r f = f ∙ ap (λ (x : Outcome Started). startNumbers (x .answer)) e
+
+  turned : (b₂ : List ℕ) → words b₂ ≡ set (words b₁) 2 5 → words b₂ ≡ set (words (startResult table b .state)) 2 5
+  unfolding startResult inNumbers
+  turned b₂ f = f ∙ ap (λ (x : Outcome Started). set (words (x .state)) 2 5) e
+
+pub pithread-start-spec : {M : Type 1} → statement M
+pithread-start-spec =
+    tie.close
+    (tie.spec
+    (λ c κs. search needs)
+    (λ c κs. search needs)
+    (λ c κs. search needs)
+    (λ c. search needs)
+    (λ c. (search told, search turned)))
+PROOF
 
 # Other calls than those asked for: a give at another port, a take for another seat, a run of another length.
 change "≡ giveResult $all port number" "≡ giveResult $all 0 number"
@@ -178,7 +289,7 @@ rm -r "$proofs/pithread_profile"
 
 check "the driver is refused with other contracts" refused
 check "the calls themselves are proved with them" proved_there pithread
-for call in step give take run collect driver_restore driver_start_profiled; do
+for call in load start step give take run collect write profile; do
     check "it is refused at the call $call" refused_at "$call"
 done
 check "what lays the answers down is proved as before" still_proved put_answer

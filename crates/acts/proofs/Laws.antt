@@ -17,7 +17,7 @@ use Rattle.rules.specs.declared.Direction.{Direction}
 use Rattle.rules.specs.declared.Act.{Act}
 use Rattle.rules.specs.declared.Act.the-variants.{Tau, Meeting, New, Spawn, Assignment}
 use Rattle.rules.specs.declared.Move.the-variants.{Creates, Spawns}
-use Rattle.program.specs.Assigning.{goneStoring}
+use Rattle.program.specs.HandedOn.{goneStoring}
 use Rattle.thread_rows.specs.WrittenRows.Laws.{stored-after}
 
 -- ---- thread t goes on at node n: s₁ after the head of its row is written, and s₂ with v in slot k besides

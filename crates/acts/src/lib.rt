@@ -10,7 +10,7 @@ ghost use Rattle.state.specs.State.{maxThreads, maxChannels, stateOf};
 ghost use Rattle.rules.specs.Moves.{gone, written};
 ghost use Rattle.rules.specs.declared.Move.the-variants.{Creates, Spawns};
 ghost use Rattle.thread_rows.specs.WrittenRows.{rewritten};
-ghost use Rattle.program.specs.Assigning.{goneStoring};
+ghost use Rattle.program.specs.HandedOn.{goneStoring};
 use rules::Act;
 use table::field;
 

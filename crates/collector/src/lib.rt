@@ -5,7 +5,7 @@ ghost use Rattle.numbers.specs.Count.{bit};
 ghost use Rattle.table.specs.Table.{tableOf};
 ghost use Rattle.table.specs.Index.{Indexed};
 ghost use Rattle.flow.specs.Flow.{flow};
-ghost use Rattle.flow.specs.Marks.{marksOf};
+ghost use Rattle.flow.specs.Gaps.{gapsOf};
 ghost use Rattle.state.specs.State.{maxThreads, stateOf};
 ghost use Rattle.rules.specs.Holding.{settled};
 ghost use Rattle.rules.specs.Calls.{outcome};
@@ -81,14 +81,14 @@ pub fn collect_in(table: &[u8], index: &[u32], state: &mut [u32; state::WORDS]) 
 }
 
 // Frees the threads that are not enabled, in a collection that its seat may make: grounds 8, 9, 18 and 19 have not refused it.
-fn collect_granted(table: &[u8], index: &[u32], marks: &[u32], state: &mut [u8]) -> Collected
+fn collect_granted(table: &[u8], index: &[u32], gaps: &[u32], state: &mut [u8]) -> Collected
     requires { ⌜ Judged (now table) (now state) ⌝ }
     requires { ⌜ Indexed (tableOf (now table)) (now index) ⌝ }
-    requires { ⌜ marksOf (now marks) ≡ flow (tableOf (now table)) ⌝ }
+    requires { ⌜ gapsOf (now gaps) ≡ flow (tableOf (now table)) ⌝ }
     ensures { λ r. ⌜ outcome r (now (state .exit)) ≡ collectCall (now (table .entry)) (now (state .entry)) ⌝ }
 {
     let mut words = [0u32; state::WORDS];
-    match engine::admit_state(table, index, marks, state, &mut words) {
+    match engine::admit_state(table, index, gaps, state, &mut words) {
         Admission::Refused(ground) => Collected::Refused(ground),
         Admission::Admitted => {
             let count = collect_in(table, index, &mut words);
@@ -103,7 +103,7 @@ pub fn collect(table: &[u8], state: &mut [u8], rights: &[u8], seat: u32) -> Coll
     ensures { λ r. ⌜ outcome r (now (state .exit)) ≡ seatedCollect (now (table .entry)) (now (state .entry)) (now (rights .entry)) seat ⌝ }
 {
     let mut index = [0u32; table::INDEX];
-    let mut marks = [0u32; engine::MARKED];
+    let mut gaps = [0u32; engine::GAPS];
     match engine::admit_seat(
         table,
         state,
@@ -111,9 +111,9 @@ pub fn collect(table: &[u8], state: &mut [u8], rights: &[u8], seat: u32) -> Coll
         seat,
         Right::Collect,
         &mut index,
-        &mut marks,
+        &mut gaps,
     ) {
         Admission::Refused(ground) => Collected::Refused(ground),
-        Admission::Admitted => collect_granted(table, &index, &marks, state),
+        Admission::Admitted => collect_granted(table, &index, &gaps, state),
     }
 }

@@ -31,7 +31,7 @@ use Rattle.rules.specs.declared.Partner.{Partner}
 use Rattle.rules.specs.declared.Partner.the-variants.{Nobody, At}
 use Rattle.rules.specs.declared.Move.{Move}
 use Rattle.rules.specs.declared.Move.the-variants.{Ends, Calls, Waits, Goes, Creates, Spawns, Meets, LacksThread, LacksChannel}
-use Rattle.program.specs.Assigning.{Carries}
+use Rattle.program.specs.HandedOn.{Carries}
 
 -- ---- a meeting, a new channel, a new thread
 

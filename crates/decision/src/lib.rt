@@ -17,7 +17,7 @@ ghost use Rattle.rules.specs.declared.Move.the-variants.{Waits, Goes};
 ghost use Rattle.rules.specs.Moves.{freeThread, freeChannel, meeting, creation, spawning, goesAhead, branchMove, choice, move};
 ghost use Rattle.next_rows.specs.UsedBelow.{UsedBelow};
 ghost use Rattle.offers.specs.Apart.{Apart};
-ghost use Rattle.program.specs.Assigning.{Carries};
+ghost use Rattle.program.specs.HandedOn.{Carries};
 use numbers::Checked;
 use rules::Act;
 use rules::Direction;

@@ -1,6 +1,6 @@
-// Works a whole list of calls, which lies in a buffer, by the functions that C calls, and lays their answers into another buffer; writes a table and loads
-// it again; and starts a table that keeps to the rental-shop profile. What this ensures follows from the contracts of those functions alone: a contract
-// that says less, or something else, leaves it unproved.
+// Works a whole list of calls, which lies in a buffer, by the functions that C calls, and lays their answers into another buffer, from a state or from a
+// procedure file that it loads and starts; writes a table and loads it again; and starts a table that keeps to the rental-shop profile. What this ensures
+// follows from the contracts of those functions alone: a contract that says less, or something else, leaves it unproved.
 ghost use mathlib.Core.Path.{_≡_};
 ghost use mathlib.Core.Bool.{cond};
 ghost use lib.Dec.{ltb};
@@ -12,9 +12,13 @@ ghost use Rattle.numbers.specs.Bytes.{words};
 ghost use Rattle.engine_laws.specs.Lists.{step as Step, give as Give, take as Take, run as Run};
 ghost use Rattle.guarantee.specs.Claim.{on, collect as Collect};
 ghost use Rattle.guarantee.specs.SeatedClaim.{afterBy, afterSeat, afterSeats};
+ghost use Rattle.interface.specs.Interface.{loadResult, startResult, writtenTo, writeResult, profileResult};
+ghost use Rattle.driver.specs.WorkedFile.{loadOpening, startOpening, workedTo, workedFile};
 ghost use Rattle.driver.specs.Restore.{restoredTo, restored};
 ghost use Rattle.driver.specs.ProfiledStart.{begunTo, begun};
 ghost use Rattle.driver.specs.Encoding.{pattern, pattern-small, callBy, partOf, recordAt, callsOf, answerTo, answerAt, answersTo, wordsOf, writtenFrom};
+use interface::ProfileAnswer;
+use interface::WriteAnswer;
 
 // The numbers of an answer in their order: the refusal, then those that the call has, then 0.
 pub struct Answer {
@@ -23,6 +27,48 @@ pub struct Answer {
     pub third: i32,
     pub fourth: i32,
     pub fifth: i32,
+}
+
+// How a file or a table began: the refusal, and the line at fault or 0.
+#[repr(C)]
+pub struct Opening {
+    pub refusal: i32,
+    pub line: i32,
+}
+
+// The functions `load`, `start`, `write` and `profile` each make one call by the exported function: a contract that strays is refused there.
+fn load(file: &[u8], table: &mut [u8]) -> Opening
+    ensures { λ _. ⌜ now (table .exit) ≡ loadResult (now (file .entry)) (now (table .entry)) .table ⌝ }
+    ensures { λ r. ⌜ r ≡ loadOpening (loadResult (now (file .entry)) (now (table .entry)) .answer) ⌝ }
+{
+    let answer = pithread::pithread_load(file, table);
+    Opening {
+        refusal: answer.refusal,
+        line: answer.line,
+    }
+}
+
+fn start(table: &[u8], state: &mut [u8]) -> Opening
+    ensures { λ _. ⌜ now (state .exit) ≡ startResult (now (table .entry)) (now (state .entry)) .state ⌝ }
+    ensures { λ r. ⌜ r ≡ startOpening (startResult (now (table .entry)) (now (state .entry)) .answer) ⌝ }
+{
+    let answer = pithread::pithread_start(table, state);
+    Opening {
+        refusal: answer.refusal,
+        line: 0,
+    }
+}
+
+fn write(table: &[u8], file: &mut [u8]) -> WriteAnswer
+    ensures { λ r. ⌜ writtenTo r (now (file .exit)) ≡ writeResult (now (table .entry)) (now (file .entry)) ⌝ }
+{
+    pithread::pithread_write(table, file)
+}
+
+fn profile(table: &[u8]) -> ProfileAnswer
+    ensures { λ r. ⌜ r ≡ profileResult (now (table .entry)) ⌝ }
+{
+    pithread::pithread_profile(table)
 }
 
 // The functions `step`, `give`, `take`, `run` and `collect` each make one call at a seat by the exported function, and put its numbers in their order.
@@ -193,17 +239,41 @@ pub extern "C" fn driver_work_list(
     }
 }
 
+// Loads a file, starts it and works the calls in `calls`, as `driver_work_list` does. Answers the refusal and the line of the load or else those of the start.
+#[no_mangle]
+pub extern "C" fn driver_work_file(
+    file: &[u8],
+    table: &mut [u8],
+    state: &mut [u8],
+    lists: &[u8],
+    calls: &[u8],
+    answers: &mut [u8],
+) -> Opening
+    ensures { λ r. ⌜ workedTo r (now (table .exit)) (now (state .exit)) (words (now (answers .exit)))
+        ≡ workedFile (now (file .entry)) (now (table .entry)) (now (state .entry)) (now (lists .entry)) (now (calls .entry)) (words (now (answers .entry))) ⌝ }
+{
+    let loaded = load(file, table);
+    if loaded.refusal != 0 {
+        return loaded;
+    }
+    let started = start(table, state);
+    if started.refusal == 0 {
+        driver_work_list(table, state, lists, calls, answers);
+    }
+    started
+}
+
 // Writes the file of a table, and loads what was written as the other table. Answers the refusal of the write or else that of the load.
 #[no_mangle]
 pub extern "C" fn driver_restore(table: &[u8], file: &mut [u8], other: &mut [u8]) -> i32
     ensures { λ r. ⌜ restoredTo r (now (file .exit)) (now (other .exit)) ≡ restored (now (table .entry)) (now (file .entry)) (now (other .entry)) ⌝ }
 {
-    let written = pithread::pithread_write(table, file);
+    let written = write(table, file);
     if written.refusal != 0 {
         return written.refusal;
     }
     let bytes = numbers::pattern(written.bytes) as usize;
-    let loaded = pithread::pithread_load(&file[0..bytes], other);
+    let loaded = load(&file[0..bytes], other);
     loaded.refusal
 }
 
@@ -212,10 +282,10 @@ pub extern "C" fn driver_restore(table: &[u8], file: &mut [u8], other: &mut [u8]
 pub extern "C" fn driver_start_profiled(table: &[u8], state: &mut [u8]) -> i32
     ensures { λ r. ⌜ begunTo r (now (state .exit)) ≡ begun (now (table .entry)) (now (state .entry)) ⌝ }
 {
-    let profiled = pithread::pithread_profile(table);
+    let profiled = profile(table);
     if profiled.refusal != 0 {
         return profiled.refusal;
     }
-    let started = pithread::pithread_start(table, state);
+    let started = start(table, state);
     started.refusal
 }

@@ -15,7 +15,7 @@ use Rattle.numbers.specs.Tests.{clash}
 use Rattle.table.specs.Table.{tableOf}
 use Rattle.table.specs.Index.{Indexed}
 use Rattle.flow.specs.Flow.{flow}
-use Rattle.flow.specs.Marks.{marksOf}
+use Rattle.flow.specs.Gaps.{gapsOf}
 use Rattle.loader.specs.Load.{tableLength, accepted}
 use Rattle.state.specs.State.{State, stateLength, view, stateOf, stateBytes}
 use Rattle.rules.specs.Start.{started}
@@ -60,19 +60,19 @@ module _ (table state : List ℕ) where
 
   -- x: whether the lengths are right
   module _ (x : Bool) (e : x ≡ lengthsRight table state) where
-    pub lengths-wrong : not x ≡ true → Refused Ground.Length ≡ startAdmission table state
+    pub lengths-wrong : x ≡ false → Refused Ground.Length ≡ startAdmission table state
     unfolding startAdmission
-    lengths-wrong f = rw (← e, not-true x f)
+    lengths-wrong f = rw (← e, f)
 
     -- y: whether the table is accepted
-    module _ (f : not x ≡ false) (y : Bool) (g : y ≡ accepted table) where
+    module _ (f : x ≡ true) (y : Bool) (g : y ≡ accepted table) where
       pub table-accepted : y ≡ true → Admitted ≡ startAdmission table state
       unfolding startAdmission
-      table-accepted h = rw (← e, not-false x f, ← g, h)
+      table-accepted h = rw (← e, f, ← g, h)
 
       pub table-refused : y ≡ false → Refused Ground.Table ≡ startAdmission table state
       unfolding startAdmission
-      table-refused h = rw (← e, not-false x f, ← g, h)
+      table-refused h = rw (← e, f, ← g, h)
 
 -- ---- grounds 8, 9, 18 and 19, of a call that asks its seat for a right
 
@@ -131,12 +131,12 @@ module _ (table b : List ℕ) (e : Judged table b) where
         let z : sound (tableOf table) (stateOf w) ≡ true = sym h ∙ j in
         rw i (sound-elim (tableOf table) (view b) (view-shaped b judged-length (bytes-fit b fit)) (rw i at z))
 
--- the index of a table that was accepted, and the marks of its flow
+-- the index of a table that was accepted, and the gaps of its flow
 pub accepted-indexed : (table l : List ℕ) (y : Bool) → (y ≡ true → Indexed (tableOf table) l) → y ≡ true → Indexed (tableOf table) l
 accepted-indexed table l y f g = f g
 
-pub accepted-marked : (table l : List ℕ) (y : Bool) → (y ≡ true → marksOf l ≡ flow (tableOf table)) → y ≡ true → marksOf l ≡ flow (tableOf table)
-accepted-marked table l y f g = f g
+pub accepted-gaps : (table l : List ℕ) (y : Bool) → (y ≡ true → gapsOf l ≡ flow (tableOf table)) → y ≡ true → gapsOf l ≡ flow (tableOf table)
+accepted-gaps table l y f g = f g
 
 -- ---- start
 

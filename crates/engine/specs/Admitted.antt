@@ -7,7 +7,7 @@ use lib.ListN.{length}
 use Rattle.table.specs.Table.{Table}
 use Rattle.table.specs.Index.{Indexed}
 use Rattle.flow.specs.Flow.{flow}
-use Rattle.flow.specs.Marks.{marksOf}
+use Rattle.flow.specs.Gaps.{gapsOf}
 use Rattle.state.specs.State.{State, stateLength}
 use Rattle.rules.specs.Holding.{settled}
 use Rattle.rules.specs.Calls.{Outcome, outcome, startAdmission}
@@ -39,8 +39,8 @@ module _ (a : Admission) where
     pub admitted-indexed : (l : List ℕ) → (a ≡ Admitted → Indexed tb l) → a ≡ Admitted → Indexed tb l
     admitted-indexed l h e = h e
 
-    pub admitted-marked : (l : List ℕ) → (a ≡ Admitted → marksOf l ≡ flow tb) → a ≡ Admitted → marksOf l ≡ flow tb
-    admitted-marked l h e = h e
+    pub admitted-gaps : (l : List ℕ) → (a ≡ Admitted → gapsOf l ≡ flow tb) → a ≡ Admitted → gapsOf l ≡ flow tb
+    admitted-gaps l h e = h e
 
     pub admitted-sound : (s : State) → (a ≡ Admitted → Sound tb s) → a ≡ Admitted → Sound tb s
     admitted-sound s h e = h e

@@ -7,7 +7,7 @@ ghost use Rattle.numbers.specs.Bytes.{words as wordsOf};
 ghost use Rattle.table.specs.Table.{tableOf, maxNodes};
 ghost use Rattle.table.specs.Index.{Indexed, indexLength};
 ghost use Rattle.flow.specs.Flow.{flow};
-ghost use Rattle.flow.specs.Marks.{marksOf};
+ghost use Rattle.flow.specs.Gaps.{gapsOf};
 ghost use Rattle.state.specs.State.{stateLength, stateOf};
 ghost use Rattle.rules.specs.Calls.{outcome, lengthsRight, startAdmission, admission, startCall, stepCall, giveCall, takeCall, runCall};
 ghost use Rattle.rules.specs.Seats.{seatAdmission, seatedStep, seatedGive, seatedTake, seatedRun};
@@ -15,7 +15,7 @@ ghost use Rattle.rules.specs.declared.Admission.the-variants.{Admitted};
 ghost use Rattle.rules_laws.specs.Granted.{Granted};
 ghost use Rattle.rules_laws.specs.Soundness.{Sound};
 ghost use Rattle.engine.specs.Admitted.{Judged};
-pub use loader::MARKED;
+pub use loader::GAPS;
 use rules::Admission;
 use rules::Given;
 use rules::Ran;
@@ -42,25 +42,25 @@ fn lengths_right(table: &[u8], state: &[u8]) -> bool
     state.len() == state::BYTES
 }
 
-// Grounds 8 and 9. The index of an admitted table is left in `index` and the marks of its flow in `marks`, which come as zeros.
-fn admit_start(table: &[u8], state: &[u8], index: &mut [u32], marks: &mut [u32]) -> Admission
+// Grounds 8 and 9. The index of an admitted table is left in `index` and the gaps of its flow in `gaps`, which come as zeros.
+fn admit_start(table: &[u8], state: &[u8], index: &mut [u32], gaps: &mut [u32]) -> Admission
     requires { ⌜ now index ≡ replicate indexLength 0 ⌝ }
-    requires { ⌜ now marks ≡ replicate maxNodes 0 ⌝ }
+    requires { ⌜ now gaps ≡ replicate maxNodes 0 ⌝ }
     ensures { λ r. ⌜ r ≡ startAdmission (now (table .entry)) (now (state .entry)) ⌝ }
     ensures { λ r. ⌜ (r ≡ Admitted → Indexed (tableOf (now (table .entry))) (now (index .exit))) ⌝ }
-    ensures { λ r. ⌜ (r ≡ Admitted → marksOf (now (marks .exit)) ≡ flow (tableOf (now (table .entry)))) ⌝ }
+    ensures { λ r. ⌜ (r ≡ Admitted → gapsOf (now (gaps .exit)) ≡ flow (tableOf (now (table .entry)))) ⌝ }
 {
-    if !lengths_right(table, state) {
-        return Admission::Refused(Refusal::Length);
+    if lengths_right(table, state) {
+        if loader::accept(table, index, gaps) {
+            return Admission::Admitted;
+        }
+        return Admission::Refused(Refusal::Table);
     }
-    if loader::accept(table, index, marks) {
-        return Admission::Admitted;
-    }
-    Admission::Refused(Refusal::Table)
+    Admission::Refused(Refusal::Length)
 }
 
 // Grounds 8, 9, 18 and 19, of a call that asks its seat for a right. Of the state its length is looked at and nothing else. The index of an admitted
-// table is left in `index` and the marks of its flow in `marks`, which come as zeros.
+// table is left in `index` and the gaps of its flow in `gaps`, which come as zeros.
 pub fn admit_seat(
     table: &[u8],
     state: &[u8],
@@ -68,19 +68,19 @@ pub fn admit_seat(
     seat: u32,
     right: Right,
     index: &mut [u32],
-    marks: &mut [u32],
+    gaps: &mut [u32],
 ) -> Admission
     requires { ⌜ now index ≡ replicate indexLength 0 ⌝ }
-    requires { ⌜ now marks ≡ replicate maxNodes 0 ⌝ }
+    requires { ⌜ now gaps ≡ replicate maxNodes 0 ⌝ }
     ensures { λ r. ⌜ r ≡ seatAdmission (now (table .entry)) (now (state .entry)) (now (rights .entry)) seat right ⌝ }
     ensures { λ r. ⌜ (r ≡ Admitted → Judged (now (table .entry)) (now (state .entry))) ⌝ }
     ensures { λ r. ⌜ (r ≡ Admitted → Indexed (tableOf (now (table .entry))) (now (index .exit))) ⌝ }
-    ensures { λ r. ⌜ (r ≡ Admitted → marksOf (now (marks .exit)) ≡ flow (tableOf (now (table .entry)))) ⌝ }
+    ensures { λ r. ⌜ (r ≡ Admitted → gapsOf (now (gaps .exit)) ≡ flow (tableOf (now (table .entry)))) ⌝ }
 {
     if rights.len() != seats::BYTES {
         return Admission::Refused(Refusal::Length);
     }
-    match admit_start(table, state, index, marks) {
+    match admit_start(table, state, index, gaps) {
         Admission::Refused(ground) => Admission::Refused(ground),
         Admission::Admitted => seats::admit(rights, seat, right),
     }
@@ -90,13 +90,13 @@ pub fn admit_seat(
 pub fn admit_state(
     table: &[u8],
     index: &[u32],
-    marks: &[u32],
+    gaps: &[u32],
     state: &[u8],
     words: &mut [u32; state::WORDS],
 ) -> Admission
     requires { ⌜ Judged (now table) (now state) ⌝ }
     requires { ⌜ Indexed (tableOf (now table)) (now index) ⌝ }
-    requires { ⌜ marksOf (now marks) ≡ flow (tableOf (now table)) ⌝ }
+    requires { ⌜ gapsOf (now gaps) ≡ flow (tableOf (now table)) ⌝ }
     ensures { λ r. ⌜ r ≡ admission (now (table .entry)) (now (state .entry)) ⌝ }
     ensures { λ r. ⌜ (r ≡ Admitted → length (now (state .entry)) ≡ stateLength) ⌝ }
     ensures { λ r. ⌜ (r ≡ Admitted → Granted (tableOf (now (table .entry)))) ⌝ }
@@ -108,7 +108,7 @@ pub fn admit_state(
         return Admission::Refused(Refusal::Length);
     }
     state::read(state, words);
-    if sound::is_sound(table, index, marks, words) {
+    if sound::is_sound(table, index, gaps, words) {
         return Admission::Admitted;
     }
     Admission::Refused(Refusal::State)
@@ -119,8 +119,8 @@ pub fn start(table: &[u8], state: &mut [u8]) -> Started
     ensures { λ r. ⌜ outcome r (now (state .exit)) ≡ startCall (now (table .entry)) (now (state .entry)) ⌝ }
 {
     let mut index = [0u32; table::INDEX];
-    let mut marks = [0u32; MARKED];
-    match admit_start(table, state, &mut index, &mut marks) {
+    let mut gaps = [0u32; GAPS];
+    match admit_start(table, state, &mut index, &mut gaps) {
         Admission::Refused(ground) => Started::Refused(ground),
         Admission::Admitted => {
             let mut words = [0u32; state::WORDS];
@@ -134,14 +134,14 @@ pub fn start(table: &[u8], state: &mut [u8]) -> Started
 // The functions `step_granted` to `run_granted` make the call that its seat may make: grounds 8, 9, 18 and 19 have not refused it.
 
 // Steps thread t.
-fn step_granted(table: &[u8], index: &[u32], marks: &[u32], state: &mut [u8], t: u32) -> Stepped
+fn step_granted(table: &[u8], index: &[u32], gaps: &[u32], state: &mut [u8], t: u32) -> Stepped
     requires { ⌜ Judged (now table) (now state) ⌝ }
     requires { ⌜ Indexed (tableOf (now table)) (now index) ⌝ }
-    requires { ⌜ marksOf (now marks) ≡ flow (tableOf (now table)) ⌝ }
+    requires { ⌜ gapsOf (now gaps) ≡ flow (tableOf (now table)) ⌝ }
     ensures { λ r. ⌜ outcome r (now (state .exit)) ≡ stepCall (now (table .entry)) (now (state .entry)) t ⌝ }
 {
     let mut words = [0u32; state::WORDS];
-    match admit_state(table, index, marks, state, &mut words) {
+    match admit_state(table, index, gaps, state, &mut words) {
         Admission::Refused(ground) => Stepped::Refused(ground),
         Admission::Admitted => {
             match calls::step(table, index, &mut words, t) {
@@ -159,18 +159,18 @@ fn step_granted(table: &[u8], index: &[u32], marks: &[u32], state: &mut [u8], t:
 fn give_granted(
     table: &[u8],
     index: &[u32],
-    marks: &[u32],
+    gaps: &[u32],
     state: &mut [u8],
     p: u32,
     v: u32,
 ) -> Given
     requires { ⌜ Judged (now table) (now state) ⌝ }
     requires { ⌜ Indexed (tableOf (now table)) (now index) ⌝ }
-    requires { ⌜ marksOf (now marks) ≡ flow (tableOf (now table)) ⌝ }
+    requires { ⌜ gapsOf (now gaps) ≡ flow (tableOf (now table)) ⌝ }
     ensures { λ r. ⌜ outcome r (now (state .exit)) ≡ giveCall (now (table .entry)) (now (state .entry)) p v ⌝ }
 {
     let mut words = [0u32; state::WORDS];
-    match admit_state(table, index, marks, state, &mut words) {
+    match admit_state(table, index, gaps, state, &mut words) {
         Admission::Refused(ground) => Given::Refused(ground),
         Admission::Admitted => {
             match calls::give(table, index, &mut words, p, v) {
@@ -186,14 +186,14 @@ fn give_granted(
 }
 
 // Takes a number from port p.
-fn take_granted(table: &[u8], index: &[u32], marks: &[u32], state: &mut [u8], p: u32) -> Taken
+fn take_granted(table: &[u8], index: &[u32], gaps: &[u32], state: &mut [u8], p: u32) -> Taken
     requires { ⌜ Judged (now table) (now state) ⌝ }
     requires { ⌜ Indexed (tableOf (now table)) (now index) ⌝ }
-    requires { ⌜ marksOf (now marks) ≡ flow (tableOf (now table)) ⌝ }
+    requires { ⌜ gapsOf (now gaps) ≡ flow (tableOf (now table)) ⌝ }
     ensures { λ r. ⌜ outcome r (now (state .exit)) ≡ takeCall (now (table .entry)) (now (state .entry)) p ⌝ }
 {
     let mut words = [0u32; state::WORDS];
-    match admit_state(table, index, marks, state, &mut words) {
+    match admit_state(table, index, gaps, state, &mut words) {
         Admission::Refused(ground) => Taken::Refused(ground),
         Admission::Admitted => {
             match calls::take(table, index, &mut words, p) {
@@ -209,14 +209,14 @@ fn take_granted(table: &[u8], index: &[u32], marks: &[u32], state: &mut [u8], p:
 }
 
 // Runs at most n steps.
-fn run_granted(table: &[u8], index: &[u32], marks: &[u32], state: &mut [u8], n: u16) -> Ran
+fn run_granted(table: &[u8], index: &[u32], gaps: &[u32], state: &mut [u8], n: u16) -> Ran
     requires { ⌜ Judged (now table) (now state) ⌝ }
     requires { ⌜ Indexed (tableOf (now table)) (now index) ⌝ }
-    requires { ⌜ marksOf (now marks) ≡ flow (tableOf (now table)) ⌝ }
+    requires { ⌜ gapsOf (now gaps) ≡ flow (tableOf (now table)) ⌝ }
     ensures { λ r. ⌜ outcome r (now (state .exit)) ≡ runCall (now (table .entry)) (now (state .entry)) n ⌝ }
 {
     let mut words = [0u32; state::WORDS];
-    match admit_state(table, index, marks, state, &mut words) {
+    match admit_state(table, index, gaps, state, &mut words) {
         Admission::Refused(ground) => Ran::Refused(ground),
         Admission::Admitted => {
             let answer = calls::run(table, index, &mut words, n);
@@ -231,7 +231,7 @@ pub fn step(table: &[u8], state: &mut [u8], rights: &[u8], seat: u32, t: u32) ->
     ensures { λ r. ⌜ outcome r (now (state .exit)) ≡ seatedStep (now (table .entry)) (now (state .entry)) (now (rights .entry)) seat t ⌝ }
 {
     let mut index = [0u32; table::INDEX];
-    let mut marks = [0u32; MARKED];
+    let mut gaps = [0u32; GAPS];
     match admit_seat(
         table,
         state,
@@ -239,10 +239,10 @@ pub fn step(table: &[u8], state: &mut [u8], rights: &[u8], seat: u32, t: u32) ->
         seat,
         Right::StepAndRun,
         &mut index,
-        &mut marks,
+        &mut gaps,
     ) {
         Admission::Refused(ground) => Stepped::Refused(ground),
-        Admission::Admitted => step_granted(table, &index, &marks, state, t),
+        Admission::Admitted => step_granted(table, &index, &gaps, state, t),
     }
 }
 
@@ -251,7 +251,7 @@ pub fn give(table: &[u8], state: &mut [u8], rights: &[u8], seat: u32, p: u32, v:
     ensures { λ r. ⌜ outcome r (now (state .exit)) ≡ seatedGive (now (table .entry)) (now (state .entry)) (now (rights .entry)) seat p v ⌝ }
 {
     let mut index = [0u32; table::INDEX];
-    let mut marks = [0u32; MARKED];
+    let mut gaps = [0u32; GAPS];
     match admit_seat(
         table,
         state,
@@ -259,10 +259,10 @@ pub fn give(table: &[u8], state: &mut [u8], rights: &[u8], seat: u32, p: u32, v:
         seat,
         Right::Give(p),
         &mut index,
-        &mut marks,
+        &mut gaps,
     ) {
         Admission::Refused(ground) => Given::Refused(ground),
-        Admission::Admitted => give_granted(table, &index, &marks, state, p, v),
+        Admission::Admitted => give_granted(table, &index, &gaps, state, p, v),
     }
 }
 
@@ -271,7 +271,7 @@ pub fn take(table: &[u8], state: &mut [u8], rights: &[u8], seat: u32, p: u32) ->
     ensures { λ r. ⌜ outcome r (now (state .exit)) ≡ seatedTake (now (table .entry)) (now (state .entry)) (now (rights .entry)) seat p ⌝ }
 {
     let mut index = [0u32; table::INDEX];
-    let mut marks = [0u32; MARKED];
+    let mut gaps = [0u32; GAPS];
     match admit_seat(
         table,
         state,
@@ -279,10 +279,10 @@ pub fn take(table: &[u8], state: &mut [u8], rights: &[u8], seat: u32, p: u32) ->
         seat,
         Right::Take(p),
         &mut index,
-        &mut marks,
+        &mut gaps,
     ) {
         Admission::Refused(ground) => Taken::Refused(ground),
-        Admission::Admitted => take_granted(table, &index, &marks, state, p),
+        Admission::Admitted => take_granted(table, &index, &gaps, state, p),
     }
 }
 
@@ -291,7 +291,7 @@ pub fn run(table: &[u8], state: &mut [u8], rights: &[u8], seat: u32, n: u16) -> 
     ensures { λ r. ⌜ outcome r (now (state .exit)) ≡ seatedRun (now (table .entry)) (now (state .entry)) (now (rights .entry)) seat n ⌝ }
 {
     let mut index = [0u32; table::INDEX];
-    let mut marks = [0u32; MARKED];
+    let mut gaps = [0u32; GAPS];
     match admit_seat(
         table,
         state,
@@ -299,9 +299,9 @@ pub fn run(table: &[u8], state: &mut [u8], rights: &[u8], seat: u32, n: u16) -> 
         seat,
         Right::StepAndRun,
         &mut index,
-        &mut marks,
+        &mut gaps,
     ) {
         Admission::Refused(ground) => Ran::Refused(ground),
-        Admission::Admitted => run_granted(table, &index, &marks, state, n),
+        Admission::Admitted => run_granted(table, &index, &gaps, state, n),
     }
 }

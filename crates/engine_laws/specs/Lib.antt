@@ -12,3 +12,4 @@ pub mod Buffers
 pub mod SoundCalls
 pub mod Reasons
 pub mod Lists
+pub mod RunMovers

@@ -1,4 +1,5 @@
--- What holds after every list of calls, from the state that start writes for an accepted table. Assumes nothing.
+-- What holds after every list of calls, from the state that start writes for an accepted table. The calls are those of `rules/specs/Calls.antt`, without seats: what a
+-- call at a seat comes to where the seat has the right. `guarantee/specs/SeatedClaim.antt` has lists of the calls as C makes them. Assumes nothing.
 use Prim.Native.Nat.{ℕ, _<_}
 use mathlib.Core.Path.{_≡_, refl}
 use mathlib.Core.Bool.{true, false}
@@ -37,7 +38,7 @@ pub data Call : Type 0 where
   take : (p : ℕ) → Call
   run : (n : ℕ) → Call
 
--- the bytes of the state's buffer after a call, as its contract has them, and after a list of calls, the first of it first
+-- the bytes of the state's buffer after a call without seats, and after a list of such calls, the first of it first
 unfoldable pub after : List ℕ → List ℕ → Call → List ℕ
 after table state (step t) = stepCall table state t .state
 after table state (give p v h) = giveCall table state p v .state
@@ -98,7 +99,8 @@ module _ (table : List ℕ) (ok : accepted table ≡ true) (fit : (i : ℕ) → 
   unfolding atEntry refusalNumber
   never-ten k = none-at-entry table ok (reached table state ks) always-sound k Ground.State refl
 
-  -- no call of a list is refused with 8 or 9: the buffers keep their lengths, and the table is accepted throughout
+  -- no call of a list is refused with 8 or 9: the two buffers keep their lengths, and the table is accepted throughout (a list of rights, which these calls
+  -- have not, may still have another length)
   pub never-eight : (k : Call) → ¬ RefusedWith table (reached table state ks) k Ground.Length
   unfolding atEntry refusalNumber
   never-eight k = none-at-entry table ok (reached table state ks) always-sound k Ground.Length refl

@@ -1,6 +1,6 @@
 -- A run, said by the step call. A turn is a step of the first ready thread from the turn on, as the step call makes it, with the turn then one past
 -- that thread; a run of k steps is k such turns; and it ends for each of its reasons exactly when that reason is due. Of buffers of bytes, whatever
--- their length. Assumes nothing.
+-- their length, and of the calls without seats; `guarantee/specs/ReasonsInLists.antt` says it of those that C makes. Assumes nothing.
 use Prim.Native.Nat.{ℕ, zero, suc, _<_, _≤_}
 use native.Mathlib.Omega.{arith}
 use mathlib.Core.Path.{_≡_, refl, sym, _∙_, ap}
@@ -199,7 +199,7 @@ module _ (table : List ℕ) (ok : accepted table ≡ true) (fit : (i : ℕ) → 
   held = view-sound table state b
 
   -- the four ways in which a turn goes: a step is made, no thread is ready, a thread row is lacked, a channel row is lacked
-  data Turns : Type 0 where
+  pub data Turns : Type 0 where
     went : (a : ℕ) (d : Deed) → dueAnswer table state ≡ Done a d → takeTurn tb s ≡ turned Went (view (afterTurn table state)) → SoundBuffer table (afterTurn table state) → Turns
     idle : Idle state → dueAnswer table state ≡ Refused Ground.Thread → takeTurn tb s ≡ turned (Stopped NoneReady) s → Turns
     no-thread-row : t < maxThreads → dueAnswer table state ≡ Refused Ground.ThreadRow → takeTurn tb s ≡ turned (Stopped (LackedThread t)) (pastTurn s t) → Turns
@@ -277,7 +277,7 @@ module _ (table : List ℕ) (ok : accepted table ≡ true) (fit : (i : ℕ) → 
         (λ k. let g : answer ≡ Refused Ground.ChannelRow = f ∙ rw (k .0) in let (h, w) = refused-turn Ground.ChannelRow g in no-channel-row below h w)
         (move-refused (standsAt (thread s t)) m q f)
 
-  turns : Turns
+  pub turns : Turns
   turns = caseB (ltb t maxThreads) (λ e. ready-turn e (answer e) refl) idle-turn
 
   -- ---- a turn is a step

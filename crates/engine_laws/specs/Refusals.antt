@@ -1,5 +1,5 @@
--- What each refusal of the engine's calls means, and that a call that is refused changes nothing. Of all buffers of bytes, of any length. Assumes
--- nothing.
+-- What each refusal of the engine's calls means, as they are without seats, and that a call that is refused changes nothing. Of all buffers of bytes, of any
+-- length. `guarantee/specs/RefusalsInNumbers.antt` says it of the calls that C makes. Assumes nothing.
 use Prim.Native.Nat.{ℕ, _<_, _≤_}
 use mathlib.Core.Path.{_≡_, refl, ap}
 use mathlib.Core.Logic.{_⊎_, inl, inr, _≢_, _↔_}

@@ -2,7 +2,7 @@
 -- without the right is told the same of every state. Of all buffers, of any length. Assumes nothing.
 use Prim.Native.Nat.{ℕ, _<_, _≤_}
 use native.Mathlib.Omega.{arith}
-use mathlib.Core.Path.{_≡_, refl, sym, ap, _∙_}
+use mathlib.Core.Path.{_≡_, refl, ap, _∙_}
 use mathlib.Core.Logic.{_⊎_, inl, inr, ⊎-elim, _↔_}
 use mathlib.Core.Bool.{Bool, true, false, _||_}
 use mathlib.Core.List.{List}
@@ -10,8 +10,8 @@ use lib.Dec.{eqb, leb}
 use lib.IntN.{pos}
 use lib.ListN.{length, getD}
 use mir.Syntax.{w32}
-use mir.Val.{toZ, ofZ}
-use mir.Facts.{toZ-pos, ofZ-toZ}
+use mir.Val.{toZ}
+use mir.Facts.{toZ-pos}
 use borrow.Author.Tests.{eqb-true, eq-eqb, leb-true, le-leb}
 use Rattle.numbers.specs.Bytes.{words}
 use Rattle.numbers.specs.Bytes.Laws.{numbers-fit}
@@ -21,6 +21,7 @@ use Rattle.loader.specs.Load.{accepted}
 use Rattle.rules.specs.Calls.{Outcome, outcome, andThen, lengthsRight, startAdmission}
 use Rattle.rules.specs.Seats.{rightsNumbers, rightsLength, rightInRange, rightsInRange, hasRight, rightsAdmission, seatAdmission, bySeat, atSeat}
 use Rattle.rules.specs.Seats.Laws.{state-unread, seat-refused}
+use Rattle.rules.specs.Seats.Entitled.{number-is}
 use Rattle.rules.specs.declared.Right.{Right}
 use Rattle.rules.specs.declared.Refusal.{Refusal}
 use Rattle.rules.specs.declared.Refusal.the-variants as Ground
@@ -58,10 +59,7 @@ ZeroToThree v = (n : ℕ) × (n ≤ 3) × (toZ w32 v ≡ pos n)
 few-is : (v : ℕ) → v < 4294967296 → (leb v 3 ≡ true) ↔ ZeroToThree v
 few-is v l = (
   λ e. (v, leb-true v 3 e, toZ-pos w32 {n = v} (omega (arith, leb-true v 3 e))),
-  λ (n, h, e).
-      let q : v ≡ n = sym (ofZ-toZ {w = w32} {n = v} (record { fits = l })) ∙ ap (ofZ w32) (e ∙ sym (toZ-pos w32 {n = n} (omega arith)))
-      ∙ ofZ-toZ {w = w32} {n = n} (record { fits = omega arith }) in
-      le-leb v 3 (omega arith),
+  λ (n, h, e). le-leb v 3 (omega (arith, number-is v n l (omega arith) e)),
 )
 
 module _ (rights : List ℕ) (fit : (i : ℕ) → getD rights i 0 < 256) where

@@ -28,7 +28,7 @@ use Rattle.rules_laws.specs.Soundness.{Sound}
 use Rattle.rules_laws.specs.Started.{started-sound}
 use Rattle.rules_laws.specs.Lasting.{course-kept}
 use Rattle.examples.specs.Computing.{judging}
-use Rattle.examples.specs.Tables.{listing, spawner, maker, parting, teaching, portReceiver, endOnly, doublings, doublingsAndOne, callsUp, callsDown, callsItself, counter}
+use Rattle.examples.specs.Tables.{listing, spawner, maker, parting, teaching, portReceiver, endOnly, doublings, doublingsAndOne, callsUp, callsDown, callsItself, repeats, counter}
 
 -- ---- rows and their file
 
@@ -150,6 +150,10 @@ calls-down-in-order = refl
 pub calls-itself-in-order : inOrder callsItself ≡ true
 unfolding judging prints inOrder
 calls-itself-in-order = refl
+
+pub repeats-in-order : inOrder repeats ≡ true
+unfolding judging prints inOrder
+repeats-in-order = refl
 
 pub counter-in-order : inOrder counter ≡ true
 unfolding judging prints inOrder

@@ -53,28 +53,28 @@ listing-malformed = refl
 abbrev withCounts : List ℕ → List ℕ → Table
 withCounts counts defined = listingWith counts defined (Row.set 1 7 3)
 
-abbrev seventeen : Table
+abbrev pub seventeen : Table
 seventeen = withCounts (header 17 1 2 6 5 0) (definition 0 2 6)
 
 pub listing-header : verdict (fileText seventeen) ≡ Fault Header 1
 unfolding judging prints
 listing-header = rows-judged seventeen refl
 
-abbrev branchShort : Table
+abbrev pub branchShort : Table
 branchShort = withCounts (header 1 1 2 6 4 0) (definition 0 2 6)
 
 pub listing-total : verdict (fileText branchShort) ≡ Fault Total 1
 unfolding judging prints
 listing-total = rows-judged branchShort refl
 
-abbrev slotForNode : Table
+abbrev pub slotForNode : Table
 slotForNode = withCounts (header 1 1 3 5 5 0) (definition 0 2 6)
 
 pub listing-kind : verdict (fileText slotForNode) ≡ Fault Kind 6
 unfolding judging prints
 listing-kind = rows-judged slotForNode refl
 
-abbrev slotShort : Table
+abbrev pub slotShort : Table
 slotShort = withCounts (header 1 1 2 6 5 0) (definition 0 1 6)
 
 pub listing-sums : verdict (fileText slotShort) ≡ Fault Sums 1
@@ -86,28 +86,28 @@ listing-sums = rows-judged slotShort refl
 abbrev withBranch : List ℕ → Table
 withBranch second = listingWith (header 1 1 2 6 5 0) (definition 0 2 6) second
 
-abbrev outside : Table
+abbrev pub outside : Table
 outside = withBranch (Row.set 2 7 3)
 
 pub listing-range : verdict (fileText outside) ≡ Fault Range 14
 unfolding judging prints
 listing-range = rows-judged outside refl
 
-abbrev mistyped : Table
+abbrev pub mistyped : Table
 mistyped = withBranch (Row.set 0 7 3)
 
 pub listing-types : verdict (fileText mistyped) ≡ Fault Types 14
 unfolding judging prints
 listing-types = rows-judged mistyped refl
 
-abbrev unset : Table
+abbrev pub unset : Table
 unset = withBranch (pass 3)
 
 pub listing-unwritten : verdict (fileText unset) ≡ Fault Unwritten 15
 unfolding judging prints
 listing-unwritten = rows-judged unset refl
 
-abbrev passing : Table
+abbrev pub passing : Table
 passing = withBranch (Row.set 1 7 5)
 
 pub listing-unreachable : verdict (fileText passing) ≡ Fault Unreachable 9

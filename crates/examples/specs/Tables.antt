@@ -149,6 +149,11 @@ callsDown = header 0 2 0 2 0 0 ∷ definition 0 0 1 ∷ definition 0 0 1 ∷ end
 abbrev pub callsItself : Table
 callsItself = header 0 1 0 3 1 0 ∷ definition 0 0 3 ∷ choice 1 ∷ call 0 0 0 ∷ ending ∷ spawn 2 1 ∷ []
 
+-- two definitions without slots. The first: 0 spawn, of which the child ends, 1 a call of the second, 2 end; the second, which has no spawn: 0 go on, 1 a call of
+-- itself
+abbrev pub repeats : Table
+repeats = header 0 2 0 5 2 0 ∷ definition 0 0 3 ∷ definition 0 0 2 ∷ choice 1 ∷ call 1 0 0 ∷ ending ∷ choice 1 ∷ call 1 0 0 ∷ spawn 2 1 ∷ pass 1 ∷ []
+
 -- not in order: one port, and no parameter for it
 abbrev pub portless : Table
 portless = header 1 1 0 1 0 1 ∷ ofNumbers ∷ definition 0 0 1 ∷ ending ∷ []

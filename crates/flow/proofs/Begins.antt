@@ -1,4 +1,4 @@
--- The marks that the nodes begin with, laid one by one. Assumes nothing.
+-- The gaps that the nodes begin with, laid one by one. Assumes nothing.
 use Prim.Native.Nat.{ℕ, zero, suc, _+_, _≤_, _<_}
 use native.Mathlib.Omega.{arith}
 use native.Mathlib.Numerals.{add-one}
@@ -18,9 +18,9 @@ use Rattle.numbers.specs.Laid.{laid}
 use Rattle.numbers.specs.Laid.Laws.{laid-none, laid-put, laid-skip, laid-all}
 use Rattle.table.specs.declared.Part.{Part}
 use Rattle.table.specs.declared.Part.the-variants.{Nodes}
-use Rattle.flow.specs.Flow.{markCount, begins, beginning}
-use Rattle.flow.specs.Marks.{bit, bits, marksOf, marksFrom, seed}
-use Rattle.flow.specs.Marks.Laws.{bit-none, bits-from}
+use Rattle.flow.specs.Flow.{gapCount, begins, beginning}
+use Rattle.flow.specs.Gaps.{bit, bits, gapsOf, gapsFrom, seed}
+use Rattle.flow.specs.Gaps.Laws.{bit-none, bits-from}
 
 map-tabulate {ℓ} : {A B : Type ℓ} (f : A → B) (n : ℕ) (g : ℕ → A) → map f (tabulate n g) ≡ tabulate n (λ k. f (g k))
 map-tabulate f zero g = rw (tabulate-none g, tabulate-none (λ k. f (g k)))
@@ -33,7 +33,7 @@ module _ (tb : Table) where
   start-zero p = rw (le-leb 0 (blocks tb p) (omega arith)) (sum-none (size tb p))
 
   module _ (n d s : ℕ) (e : d ≡ definitionOf tb n) (f : s ≡ start tb Nodes d) where
-    pub seed-first : (p r : ℕ) → n ≡ s → p ≡ parameters tb d → r ≡ marksFrom p → r ≡ seed tb n
+    pub seed-first : (p r : ℕ) → n ≡ s → p ≡ parameters tb d → r ≡ gapsFrom p → r ≡ seed tb n
     unfolding seed
     seed-first p r g i j = rw (← e, ← f, eq-eqb n s g, j, i)
 
@@ -46,11 +46,11 @@ module _ (tb : Table) where
   unfolding seed lines
   seed-past n h k = rw (owner-past tb Nodes n k, start-zero Nodes, ne-eqb n 0 (λ e. omega arith))
 
-  bits-seed : (n : ℕ) → bits (seed tb n) ≡ tabulate markCount (begins tb n)
+  bits-seed : (n : ℕ) → bits (seed tb n) ≡ tabulate gapCount (begins tb n)
   unfolding seed begins bits
   bits-seed n = caseB (eqb n (start tb Nodes (definitionOf tb n)))
-      (λ t. rw t (bits-from (parameters tb (definitionOf tb n)) ∙ tabulate-cong markCount (leb (parameters tb (definitionOf tb n))) (begins tb n) (λ k l. rw t)))
-      (λ f. rw f (tabulate-cong markCount (bit 0) (begins tb n) (λ k l. bit-none k ∙ rw f)))
+      (λ t. rw t (bits-from (parameters tb (definitionOf tb n)) ∙ tabulate-cong gapCount (leb (parameters tb (definitionOf tb n))) (begins tb n) (λ k l. rw t)))
+      (λ f. rw f (tabulate-cong gapCount (bit 0) (begins tb n) (λ k l. bit-none k ∙ rw f)))
 
   pub begin-none : (l : List ℕ) → l ≡ replicate maxNodes 0 → l ≡ laid (seed tb) 0 maxNodes
   begin-none l e = e ∙ sym (laid-none (seed tb) maxNodes)
@@ -63,10 +63,10 @@ module _ (tb : Table) where
     pub count-few : (c : ℕ) → c ≡ nodes tb → c ≤ maxNodes
     count-few c q = let o = header-counts tb (g .counts) in omega arith
 
-    pub begin-all : (l : List ℕ) (n c : ℕ) → l ≡ laid (seed tb) n maxNodes → c ≡ nodes tb → n ≤ c → c ≤ n → marksOf l ≡ beginning tb
-    unfolding marksOf beginning
+    pub begin-all : (l : List ℕ) (n c : ℕ) → l ≡ laid (seed tb) n maxNodes → c ≡ nodes tb → n ≤ c → c ≤ n → gapsOf l ≡ beginning tb
+    unfolding gapsOf beginning
     begin-all l n c e q h k =
         let o = header-counts tb (g .counts) in
         let s : laid (seed tb) n maxNodes ≡ laid (seed tb) maxNodes maxNodes = laid-skip (seed tb) maxNodes n maxNodes (omega arith) (omega arith) (λ i j m. seed-past i (omega arith) (omega arith)) in
         rw (e, s, laid-all (seed tb) maxNodes, map-tabulate bits maxNodes (seed tb))
-        (tabulate-cong maxNodes (λ i. bits (seed tb i)) (λ i. tabulate markCount (begins tb i)) (λ i j. bits-seed i))
+        (tabulate-cong maxNodes (λ i. bits (seed tb i)) (λ i. tabulate gapCount (begins tb i)) (λ i j. bits-seed i))

@@ -15,73 +15,73 @@ use Rattle.table.specs.Roles.{operandCount, operand, operandRole, reads, writes
 use Rattle.table.specs.declared.Part.the-variants.{Nodes, Branches}
 
 -- for each node and each number k below 17, whether some path to the node leaves slot k unwritten. A definition has at most 16 slots: no slot
--- has the number 16 and no path writes it, so that mark 16 says whether there is a path at all
-abbrev pub Marks : Type 0
-Marks = List (List Bool)
+-- has the number 16 and no path writes it, so that gap 16 says whether there is a path at all
+abbrev pub Gaps : Type 0
+Gaps = List (List Bool)
 
-abbrev pub markCount : ℕ
-markCount = 17
+abbrev pub gapCount : ℕ
+gapCount = 17
 
-abbrev pub pathMark : ℕ
-pathMark = 16
+abbrev pub pathGap : ℕ
+pathGap = 16
 
--- the slot that the branch in row r writes; 17, which is no slot and no mark, where it writes none
+-- the slot that the branch in row r writes; 17, which is no slot and no gap, where it writes none
 unfoldable pub slotWritten : Table → ℕ → ℕ
 slotWritten tb r =
     cond (writes (operandRole tb r 2)) (operand tb r 2)
-    (cond (writes (operandRole tb r 3)) (operand tb r 3) markCount)
+    (cond (writes (operandRole tb r 3)) (operand tb r 3) gapCount)
 
--- what goes on past a write of slot w, and two sets of marks in one
+-- what goes on past a write of slot w, and two sets of gaps in one
 unfoldable pub pastWrite : ℕ → List Bool → List Bool
-pastWrite w m = tabulate markCount (λ k. getD m k false && not (eqb k w))
+pastWrite w m = tabulate gapCount (λ k. getD m k false && not (eqb k w))
 
 unfoldable pub either : List Bool → List Bool → List Bool
-either m o = tabulate markCount (λ k. getD m k false || getD o k false)
+either m o = tabulate gapCount (λ k. getD m k false || getD o k false)
 
--- node t is also reached with the marks m
-unfoldable pub arrive : Marks → ℕ → List Bool → Marks
+-- node t is also reached with the gaps m
+unfoldable pub arrive : Gaps → ℕ → List Bool → Gaps
 arrive ms t m = set ms t (either (getD ms t []) m)
 
--- node n has mark k
-unfoldable pub marked : Marks → ℕ → ℕ → Bool
-marked ms n k = getD (getD ms n []) k false
+-- node n has gap k
+unfoldable pub hasGap : Gaps → ℕ → ℕ → Bool
+hasGap ms n k = getD (getD ms n []) k false
 
 module _ (tb : Table) where
   -- a path begins at its definition's first node, with the parameters written
   unfoldable pub begins : ℕ → ℕ → Bool
   begins n k = eqb n (start tb Nodes (definitionOf tb n)) && leb (parameters tb (definitionOf tb n)) k
 
-  unfoldable pub beginning : Marks
-  beginning = tabulate maxNodes (λ n. tabulate markCount (begins n))
+  unfoldable pub beginning : Gaps
+  beginning = tabulate maxNodes (λ n. tabulate gapCount (begins n))
 
-  -- the branch in row r, of a node whose definition starts at node f and which has the marks m: to its next node, and a spawn to its child too
-  unfoldable pub branchFollowed : ℕ → List Bool → ℕ → Marks → Marks
+  -- the branch in row r, of a node whose definition starts at node f and which has the gaps m: to its next node, and a spawn to its child too
+  unfoldable pub branchFollowed : ℕ → List Bool → ℕ → Gaps → Gaps
   branchFollowed f m r ms =
       cond (eqb (at tb r Field.action) 4)
       (arrive (arrive ms (f + at tb r Field.next) (pastWrite (slotWritten tb r) m)) (f + at tb r Field.child) (pastWrite (slotWritten tb r) m))
       (arrive ms (f + at tb r Field.next) (pastWrite (slotWritten tb r) m))
 
-  -- the first i branches of node n, which has the marks m
-  unfoldable pub branchesFollowed : ℕ → List Bool → Marks → ℕ → Marks
+  -- the first i branches of node n, which has the gaps m
+  unfoldable pub branchesFollowed : ℕ → List Bool → Gaps → ℕ → Gaps
   branchesFollowed n m ms zero = ms
   branchesFollowed n m ms (suc i) =
       branchFollowed (start tb Nodes (definitionOf tb n)) m (branchRow tb + (start tb Branches n + i)) (branchesFollowed n m ms i)
 
-  -- all branches of node n, which has the marks m
-  abbrev pub nodeFollowed : ℕ → List Bool → Marks → Marks
+  -- all branches of node n, which has the gaps m
+  abbrev pub nodeFollowed : ℕ → List Bool → Gaps → Gaps
   nodeFollowed n m ms = branchesFollowed n m ms (branchCount tb n)
 
   -- the nodes below n
-  unfoldable pub flowTo : ℕ → Marks
+  unfoldable pub flowTo : ℕ → Gaps
   flowTo zero = beginning
   flowTo (suc n) = nodeFollowed n (getD (flowTo n) n []) (flowTo n)
 
-  unfoldable pub flow : Marks
+  unfoldable pub flow : Gaps
   flow = flowTo (nodes tb)
 
   -- some path to node n leaves slot k unwritten
   unfoldable pub mayLack : ℕ → ℕ → Bool
-  mayLack n k = marked flow n k
+  mayLack n k = hasGap flow n k
 
   module _ (r : ℕ) where
     -- ground 6, of a call at node n and of a branch of node n: what is read is surely written
@@ -104,4 +104,4 @@ module _ (tb : Table) where
 
     -- ground 7: no path leads to the node
     unfoldable pub unreachable : Bool
-    unreachable = eqb (at tb r Field.kind) 5 && not (mayLack (r - nodeRow tb) pathMark)
+    unreachable = eqb (at tb r Field.kind) 5 && not (mayLack (r - nodeRow tb) pathGap)

@@ -1,2 +1,2 @@
 pub mod Flow
-pub mod Marks
+pub mod Gaps

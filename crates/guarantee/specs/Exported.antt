@@ -31,6 +31,8 @@ use Rattle.rules.specs.Calls.{startCall}
 use Rattle.rules.specs.Seats.{seatedStep, seatedGive, seatedTake, seatedRun}
 use Rattle.rules.specs.declared.Refusal.{Refusal}
 use Rattle.rules.specs.declared.Refusal.the-variants as Ground
+use Rattle.rules.specs.declared.Started.{Started}
+use Rattle.rules.specs.declared.Started.the-variants as Started
 use Rattle.rules.specs.declared.Stepped.{Stepped}
 use Rattle.rules.specs.declared.Stepped.the-variants as Stepped
 use Rattle.rules.specs.declared.Given.{Given}
@@ -45,7 +47,7 @@ use Rattle.engine_laws.specs.Lists.{step, give, take, run}
 use Rattle.collector.specs.Collect.{seatedCollect}
 use Rattle.collector.specs.declared.Collected.{Collected}
 use Rattle.collector.specs.declared.Collected.the-variants as Collected
-use Rattle.interface.specs.Interface.{loadedTo, numbered, loadResult, inNumbers, startResult, stepFields, stepNumbers, stepResult, giveFields, giveNumbers, giveResult, takeFields, takeNumbers, takeResult, runFields, runNumbers, runResult, collectFields, collectNumbers, collectResult}
+use Rattle.interface.specs.Interface.{loadedTo, numbered, loadResult, inNumbers, startFields, startNumbers, startResult, stepFields, stepNumbers, stepResult, giveFields, giveNumbers, giveResult, takeFields, takeNumbers, takeResult, runFields, runNumbers, runResult, collectFields, collectNumbers, collectResult}
 use Rattle.interface.specs.declared.StepAnswer.{StepAnswer}
 use Rattle.interface.specs.declared.GiveAnswer.{GiveAnswer}
 use Rattle.interface.specs.declared.TakeAnswer.{TakeAnswer}
@@ -200,6 +202,11 @@ pub not-zero : (r : Refusal) → pos 0 ≢ pos (refusalNumber r)
 not-zero r e = let n : 0 ≡ refusalNumber r = cc in omega (arith, ground-range r .0)
 
 module _ (r : Refusal) where
+  pub start-number : (a : Started) → startNumbers a .refusal ≡ pos (refusalNumber r) → a ≡ Started.Refused r
+  unfolding startNumbers startFields
+  start-number Started.Done e = absurd (not-zero r e)
+  start-number (Started.Refused q) e = ap (λ x. Started.Refused x) (number-is q r e)
+
   pub step-number : (a : Stepped) → stepNumbers a .refusal ≡ pos (refusalNumber r) → a ≡ Stepped.Refused r
   unfolding stepNumbers stepFields
   step-number (Stepped.Done n d) e = absurd (not-zero r e)

@@ -63,7 +63,7 @@ waitingIn s (u ∷ us) = cond (isWaiting (thread s u)) (u ∷ waitingIn s us) (w
 
 -- the threads that step or are met. A step names the thread met or the thread started, and the state before tells them apart: a thread that is met was
 -- waiting, the row of one that is started was free. A give and a take name the thread met. A run answers how many steps it made and not whose: who
--- took part is said by its turns one by one, as in the claim
+-- took part is said by its turns one by one, as in the claim (`MoversInNumbers.antt` has the step call for each turn)
 module _ (table state rights : List ℕ) (seat : ℕ) where
   unfoldable pub moved : Call → List ℕ
   moved (step t) =

@@ -6,8 +6,12 @@ pub mod Through
 pub mod Proof
 pub mod SeatedProof
 pub mod Exported
+pub mod NamedInNumbers
 pub mod InNumbers
-pub mod EmptyInNumbers
+pub mod LoadInNumbers
 pub mod WriteInNumbers
 pub mod ReasonsInLists
+pub mod MoversInNumbers
 pub mod SeatsInNumbers
+pub mod RefusalsInNumbers
+pub mod SumsInNumbers

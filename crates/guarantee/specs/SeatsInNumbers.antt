@@ -10,27 +10,38 @@ use lib.ListN.{length, getD}
 use lib.IntN.{ℤ, pos}
 use mir.Syntax.{w32}
 use mir.Val.{toZ, ofZ}
+use borrow.Author.Tests.{eq-eqb}
 use Rattle.numbers.specs.Bytes.{words}
 use Rattle.numbers.specs.Search.Laws.{contra}
 use Rattle.numbers.specs.Tests.{clash}
+use Rattle.table.specs.Table.{tableOf}
 use Rattle.loader.specs.Load.{accepted}
-use Rattle.rules.specs.Calls.{stepCall, giveCall, takeCall, runCall}
-use Rattle.rules.specs.Seats.{rightsNumbers, rightsInRange, hasRight, seatAdmission, atSeat, seatedStep, seatedGive, seatedTake, seatedRun}
+use Rattle.state.specs.State.{view}
+use Rattle.rules.specs.Calls.{Outcome, andThen, startAdmission, admission, stepOn, stepCall, giveOn, giveCall, takeOn, takeCall, runOn, runCall}
+use Rattle.rules.specs.Calls.Laws.{call-refused}
+use Rattle.rules.specs.Seats.{rightsNumbers, rightsLength, rightsInRange, hasRight, rightsAdmission, seatAdmission, atSeat, seatedStep, seatedGive, seatedTake, seatedRun}
 use Rattle.rules.specs.Seats.Laws.{state-unread}
+use Rattle.rules.specs.Seats.Entitled.{Entitled, has-right-iff, lacks-right-iff}
 use Rattle.rules.specs.declared.Right.the-variants as Right
 use Rattle.rules.specs.declared.Refusal.{Refusal}
 use Rattle.rules.specs.declared.Refusal.the-variants as Ground
+use Rattle.rules.specs.declared.Admission.{Admission}
 use Rattle.rules.specs.declared.Admission.the-variants as Admission
+use Rattle.rules.specs.declared.Stepped.{Stepped}
 use Rattle.rules.specs.declared.Stepped.the-variants as Stepped
+use Rattle.rules.specs.declared.Given.{Given}
 use Rattle.rules.specs.declared.Given.the-variants as Given
+use Rattle.rules.specs.declared.Taken.{Taken}
 use Rattle.rules.specs.declared.Taken.the-variants as Taken
+use Rattle.rules.specs.declared.Ran.{Ran}
 use Rattle.rules.specs.declared.Ran.the-variants as Ran
 use Rattle.engine.specs.Numbers.{refusalNumber}
 use Rattle.engine_laws.specs.Entry.{atEntry, refused-entry}
-use Rattle.engine_laws.specs.Seats.{AllLengths, ZeroToThree, early-number, in-order-iff, outside-iff, rights-iff, right-iff, seat-admitted-iff, seat-refused-entry, lacking-refused}
+use Rattle.engine_laws.specs.Seats.{AllLengths, ZeroToThree, early-number, in-order-iff, outside-iff, rights-iff, right-iff, seat-refused-entry, lacking-refused}
 use Rattle.engine_laws.specs.Refusals.{step-all-grounds, give-grounds, take-grounds, run-refused-iff}
-use Rattle.engine_laws.specs.Lists.{step, give, take, run, RefusedWith}
-use Rattle.collector.specs.Collect.{collectCall, seatedCollect}
+use Rattle.engine_laws.specs.Lists.{step, give, take, run, after, RefusedWith}
+use Rattle.collector.specs.Collect.{collectOn, collectCall, seatedCollect}
+use Rattle.collector.specs.declared.Collected.{Collected}
 use Rattle.collector.specs.declared.Collected.the-variants as Collected
 use Rattle.collector_laws.specs.CollectionRefusals.{collect-refused-iff}
 use Rattle.interface.specs.Interface.{inNumbers, stepNumbers, stepResult, giveNumbers, giveResult, takeNumbers, takeResult, runNumbers, runResult, collectNumbers, collectResult}
@@ -121,25 +132,70 @@ module _ (table state rights : List ℕ) (seat : ℕ) where
         λ (l, a, i). n .1 (w .1 (l, a, o .1 i)),
       )
 
-  -- 19 exactly when all lengths are right, the table is accepted, every number of the list is one of 0 to 3, and the seat has not the right that the call asks
+  -- 19 exactly when all lengths are right, the table is accepted, every number of the list is one of 0 to 3, and the seat is not entitled by them to what the
+  -- call asks
   pub nineteen-iff : ((i : ℕ) → getD rights i 0 < 256) → (k : Any) → (refusalBy table state rights seat k ≡ pos 19)
       ↔ (AllLengths table state rights × (accepted table ≡ true) × ((i : ℕ) → i < rightsNumbers → ZeroToThree (getD (words rights) i 0))
-      × (hasRight rights seat (asked k) ≡ false))
+      × (¬ Entitled rights seat (asked k)))
   unfolding refusalNumber atEntry
   nineteen-iff fit k =
       let n = seat-number Ground.Seat refl (λ e. clash cc) (λ e. clash cc) (λ e. clash cc) (λ e. clash cc) k in
       let w = right-iff table state rights seat (asked k) in
-      let o = in-order-iff rights fit in (
-        λ e. let (l, a, i, h) = w .0 (n .0 e) in (l, a, o .0 i, h),
-        λ (l, a, i, h). n .1 (w .1 (l, a, o .1 i, h)),
+      let o = in-order-iff rights fit in
+      let q = lacks-right-iff rights fit seat (asked k) in (
+        λ e. let (l, a, i, h) = w .0 (n .0 e) in (l, a, o .0 i, q .0 h),
+        λ (l, a, i, h). n .1 (w .1 (l, a, o .1 i, q .1 h)),
       )
 
-  -- with the right granted, numbers and bytes are those of the call without seats
-  pub granted-same : (k : Any) → AllLengths table state rights → accepted table ≡ true → rightsInRange rights ≡ true → hasRight rights seat (asked k) ≡ true
+  -- a take and a give on a port above 7 are refused with 19, whatever the list, if it is in order, the seat and the state
+  pub above-seven : ((i : ℕ) → getD rights i 0 < 256) → AllLengths table state rights → accepted table ≡ true
+      → ((i : ℕ) → i < rightsNumbers → ZeroToThree (getD (words rights) i 0)) → (p : ℕ) → 8 ≤ p
+      → (refusalBy table state rights seat (on (take p)) ≡ pos 19)
+      × ((v : ℕ) (h : v < 4294967296) → refusalBy table state rights seat (on (give p v h)) ≡ pos 19)
+  unfolding asked Entitled
+  above-seven fit l a i p h = (
+    nineteen-iff fit (on (take p)) .1 (l, a, i, λ (m, n, x). omega arith),
+    λ v f. nineteen-iff fit (on (give p v f)) .1 (l, a, i, λ (m, n, x). omega arith),
+  )
+
+  -- ---- with the right granted, numbers and bytes are those of the call without seats, whatever bytes the table and the state have and however long they are
+
+  -- a call without seats whose admission is refused
+  plain-refused : (k : Any) (r : Refusal) → admission table state ≡ Admission.Refused r
+      → (plainAnswer table state k ≡ refusedAnswer r k) × (afterAny table state k ≡ state)
+  unfolding plainAnswer refusedAnswer afterAny after stepCall giveCall takeCall runCall collectCall
+  plain-refused (on (step t)) r e = let q = call-refused Stepped.Refused table state (stepOn (tableOf table) (view state) t) r e in (rw q, ap (λ (o : Outcome Stepped). o .state) q)
+  plain-refused (on (give p v h)) r e = let q = call-refused Given.Refused table state (giveOn (tableOf table) (view state) p v) r e in (rw q, ap (λ (o : Outcome Given). o .state) q)
+  plain-refused (on (take p)) r e = let q = call-refused Taken.Refused table state (takeOn (tableOf table) (view state) p) r e in (rw q, ap (λ (o : Outcome Taken). o .state) q)
+  plain-refused (on (run n)) r e = let q = call-refused Ran.Refused table state (runOn (tableOf table) (view state) n) r e in (rw q, ap (λ (o : Outcome Ran). o .state) q)
+  plain-refused collect r e = let q = call-refused Collected.Refused table state (collectOn (tableOf table) (view state)) r e in (rw q, ap (λ (o : Outcome Collected). o .state) q)
+
+  module _ (k : Any) (long : length rights ≡ rightsLength) (i : rightsInRange rights ≡ true) (h : hasRight rights seat (asked k) ≡ true) where
+    -- the seat is then asked what start is asked
+    as-start : (a : Admission) → startAdmission table state ≡ a → seatAdmission table state rights seat (asked k) ≡ a
+    unfolding seatAdmission rightsAdmission andThen
+    as-start (Admission.Refused r) e = rw (eq-eqb (length rights) rightsLength long, e)
+    as-start Admission.Admitted e = rw (eq-eqb (length rights) rightsLength long, e, i, h)
+
+    also-plain : (r : Refusal) → startAdmission table state ≡ Admission.Refused r → admission table state ≡ Admission.Refused r
+    unfolding admission andThen
+    also-plain r e = rw e
+
+    granted-by : (a : Admission) → startAdmission table state ≡ a
+        → (answerBy table state rights seat k ≡ plainAnswer table state k) × (leftBy table state rights seat k ≡ afterAny table state k)
+    granted-by (Admission.Refused r) e =
+        let told = as-start (Admission.Refused r) e in
+        let (p, q) = plain-refused k r (also-plain r e) in
+        (refused-answer k r told ∙ sym p, left-by table state rights seat k ∙ kept-left table state rights seat k r told ∙ sym q)
+    granted-by Admission.Admitted e =
+        let told = as-start Admission.Admitted e in
+        (granted-answer k told, left-by table state rights seat k ∙ granted-left table state rights seat k told)
+
+  pub granted-same : ((i : ℕ) → getD rights i 0 < 256) → (k : Any) → length rights ≡ rightsLength
+      → ((i : ℕ) → i < rightsNumbers → ZeroToThree (getD (words rights) i 0)) → Entitled rights seat (asked k)
       → (answerBy table state rights seat k ≡ plainAnswer table state k) × (leftBy table state rights seat k ≡ afterAny table state k)
-  granted-same k l a i h =
-      let e = seat-admitted-iff table state rights seat (asked k) .1 (l, a, i, h) in
-      (granted-answer k e, left-by table state rights seat k ∙ granted-left table state rights seat k e)
+  granted-same fit k l i h =
+      granted-by k l (in-order-iff rights fit .1 i) (has-right-iff rights fit seat (asked k) .1 h) (startAdmission table state) refl
 
 none-between : (m n : ℕ) → 10 ≤ m → m ≤ 14 → (n ≡ 8) ⊎ ((n ≡ 9) ⊎ ((n ≡ 18) ⊎ (n ≡ 19))) → pos n ≢ pos m
 none-between m n l h o e =

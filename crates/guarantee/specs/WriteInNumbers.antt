@@ -3,6 +3,7 @@
 use Prim.Native.Nat.{ℕ, _*_, _≤_, _<_}
 use native.Mathlib.Omega.{arith}
 use mathlib.Core.Path.{_≡_, refl, sym, _∙_, ap}
+use mathlib.Core.Bool.{true, false}
 use mathlib.Core.List.{List, [], _++_}
 use mathlib.Core.Logic.{_≢_, _↔_, _⊎_, inl, inr}
 use lib.ListN.{length, take, drop}
@@ -12,13 +13,13 @@ use Rattle.text.specs.Text.Characters.{Characters}
 use Rattle.table.specs.Table.{tableOf, lineTotal}
 use Rattle.file.specs.EmptyFile.{endingText}
 use Rattle.loader.specs.Load as Load
-use Rattle.loader.specs.Load.{tableLength, loaded}
+use Rattle.loader.specs.Load.{tableLength, loaded, accepted}
 use Rattle.loader.specs.declared.Loaded.{Loaded}
 use Rattle.loader.specs.declared.Loaded.the-variants as Loaded
 use Rattle.writer.specs.Write.{writeCall, refusalNumber, bytesNumber}
 use Rattle.writer.specs.declared.Written.{Written}
 use Rattle.writer.specs.declared.Written.the-variants.{Done, WrongLength, WrongTable, ShortBuffer}
-use Rattle.writer_laws.specs.Writing.{FileOf, file-of, table-long, length-iff, table-iff, short-iff, done-iff, refused-keeps, written-loads, rest-kept, lines-written, room-written, most-written, loaded-written, empty-written}
+use Rattle.writer_laws.specs.Writing.{FileOf, file-of, accepted-of, refused-of, table-long, length-iff, table-iff, short-iff, done-iff, refused-keeps, written-loads, rest-kept, lines-written, room-written, most-written, loaded-written, empty-written}
 use Rattle.interface.specs.Interface.{LoadResult, loadedTo, numbered, loadResult, writtenTo, writtenNumbers, writeResult}
 use Rattle.guarantee.specs.Exported.{load-so, table-so}
 
@@ -27,6 +28,10 @@ use Rattle.guarantee.specs.Exported.{load-so, table-so}
 -- C sees this file loaded to the bytes t, into every buffer of a table's length
 abbrev pub LoadsTo : List ℕ → List ℕ → Type 0
 LoadsTo t file = Characters file × ((own : List ℕ) → length own ≡ tableLength → loadResult file own ≡ loadedTo (record { refusal = pos 0; line = pos 0 }) t)
+
+-- C sees some file loaded to the bytes t
+abbrev pub IsLoaded : List ℕ → Type 0
+IsLoaded t = (file : List ℕ) × LoadsTo t file
 
 -- of a table t and a buffer b
 pub record WriteInNumbers (t b : List ℕ) : Type 0 where
@@ -53,7 +58,7 @@ pub record WriteInNumbers (t b : List ℕ) : Type 0 where
 -- ---- that it is so
 
 -- a load that C sees done is one
-loads-so : (t file : List ℕ) → FileOf t file ↔ LoadsTo t file
+pub loads-so : (t file : List ℕ) → FileOf t file ↔ LoadsTo t file
 unfolding loadResult numbered Load.refusalNumber Load.lineNumber
 loads-so t file = (
   λ (c, f). (c, λ own l. rw (f own l)),
@@ -64,6 +69,19 @@ loads-so t file = (
         let q : loaded file own .table ≡ t = sym (table-so file own) ∙ ap (λ (r : LoadResult). r .table) e in
         ap (λ (x : Loaded). Load.outcome x (loaded file own .table)) a ∙ ap (λ (l : List ℕ). Load.outcome Loaded.Done l) q,
   ),
+)
+
+-- ground 9 accepts just the bytes to which C sees some file loaded
+pub accepted-loads : (t : List ℕ) → Characters t → (accepted t ≡ true) ↔ IsLoaded t
+accepted-loads t fit = let f = accepted-of t fit in (
+  λ a. let (file, g) = f .0 a in (file, loads-so t file .0 g),
+  λ (file, g). f .1 (file, loads-so t file .1 g),
+)
+
+pub refused-loads : (t : List ℕ) → Characters t → (accepted t ≡ false) ↔ ((file : List ℕ) → ¬ LoadsTo t file)
+refused-loads t fit = let f = refused-of t fit in (
+  λ n file g. f .0 n file (loads-so t file .1 g),
+  λ none. f .1 (λ file g. none file (loads-so t file .0 g)),
 )
 
 -- a number is that of one answer alone

@@ -10,7 +10,10 @@ pub mod OfWriting
 pub mod OfProfile
 pub mod OfReasons
 pub mod OfGuarantee
+pub mod OfRuns
+pub mod OfWorkedFile
 pub mod OfSeats
+pub mod OfRefusals
 pub mod OfTurns
 pub mod OfRefinement
 pub mod OfSums

@@ -48,17 +48,17 @@ unfolding stateBytes encode bytesOf joined
 blank-bytes = refl
 
 -- rows of zeros
-zero-row : (m k : ℕ) → _≡_ {A = ℕ} (getD (replicate m 0) k 0) 0
+pub zero-row : (m k : ℕ) → _≡_ {A = ℕ} (getD (replicate m 0) k 0) 0
 zero-row zero k = refl
 zero-row (suc m) zero = refl
 zero-row (suc m) (suc k) = zero-row m k
 
-zero-at : (n m t k : ℕ) → at (replicate n (replicate m 0)) t k ≡ 0
+pub zero-at : (n m t k : ℕ) → at (replicate n (replicate m 0)) t k ≡ 0
 zero-at zero m t k = refl
 zero-at (suc n) m zero k = zero-row m k
 zero-at (suc n) m (suc t) k = zero-at n m t k
 
-zero-long : (n m t : ℕ) → t < n → length {A = ℕ} (getD (replicate n (replicate m 0)) t []) ≡ m
+pub zero-long : (n m t : ℕ) → t < n → length {A = ℕ} (getD (replicate n (replicate m 0)) t []) ≡ m
 zero-long zero m t l = absurd (omega arith)
 zero-long (suc n) m zero l = length-replicate {A = ℕ} m 0
 zero-long (suc n) m (suc t) l = zero-long n m t (omega arith)
@@ -151,7 +151,7 @@ abbrev pub begun : ℕ → State
 begun n = courseOf (filledUp portReceiver) n (started (filledUp portReceiver)) .state
 
 module _ (n : ℕ) where
-  begun-admitted : Admitted receives (stateBytes (begun n))
+  pub begun-admitted : Admitted receives (stateBytes (begun n))
   begun-admitted =
       let ok = run-sound portReceiver receiver-in-order n in
       let b = bytes-sound receives (begun n) (rw (table-holds portReceiver receiver-in-order) ok) in
@@ -160,7 +160,7 @@ module _ (n : ℕ) where
   pub begun-lengths : RightLengths receives (stateBytes (begun n))
   begun-lengths = admitted-iff receives (stateBytes (begun n)) .0 begun-admitted .0
 
-  begun-view : view (stateBytes (begun n)) ≡ begun n
+  pub begun-view : view (stateBytes (begun n)) ≡ begun n
   begun-view = view-bytes (begun n) (run-sound portReceiver receiver-in-order n .orderly .shaped)
 
 none-waits : partnerOf (filledUp portReceiver) (begun 0) bench In 0 ≡ Nobody

@@ -49,8 +49,8 @@ use Rattle.guarantee.specs.Claim.{Any, on, unlessRefused, metByGive, moving, mo
 use Rattle.guarantee.specs.ClaimKept.{collect-view, taken-is}
 use Rattle.guarantee.specs.SeatedClaim.{AtSeat, movingBy}
 use Rattle.guarantee.specs.Proof.{collection-made, guarantee}
-use Rattle.guarantee.specs.Exported.{table-so, load-keeps}
-use Rattle.guarantee.specs.EmptyInNumbers.{one-iff}
+use Rattle.guarantee.specs.Exported.{table-so}
+use Rattle.guarantee.specs.LoadInNumbers.{load-in-numbers}
 use Rattle.guarantee.specs.InNumbers.{moved, InNumbers}
 use Rattle.guarantee.specs.InNumbers.Proof.{moved-so, started-iff, in-numbers}
 use Rattle.instances.specs.Seating.{full, full-long, full-in-range, full-steps, full-collects, full-gives}
@@ -72,7 +72,7 @@ parting-loaded = rows-loaded parting parting-in-order blankTable blank-table-lon
 pub parting-loads : loaded (fileText parting) blankTable .answer ≡ Done
 parting-loads = ap (λ (o : Outcome). o .answer) parting-loaded
 
-loaded-table : loaded (fileText parting) blankTable .table ≡ table
+pub loaded-table : loaded (fileText parting) blankTable .table ≡ table
 loaded-table = ap (λ (o : Outcome). o .table) parting-loaded
 
 -- ---- a list of calls, from the start in a buffer of zeros
@@ -126,7 +126,7 @@ parent-offers = refl
 parent-found : partnerOf (tableOf table) (view worked) bench In 0 ≡ At 0 0
 parent-found = rw (held-table, bytes-view 5) parent-offers
 
-parent-met : giveCall table worked 0 7 .answer ≡ Given.Met 0
+pub parent-met : giveCall table worked 0 7 .answer ≡ Given.Met 0
 unfolding giveCall giveOn givenTo
 parent-met = rw (call-made table accepts Given.Refused worked (bytes-sound 5) (giveOn (tableOf table) (view worked) 0 7), port-open, parent-found)
 
@@ -154,16 +154,17 @@ pub parting-in-numbers : (ks : List (AtSeat Any)) → InNumbers (loadResult (fil
 parting-in-numbers = in-numbers (fileText parting) blankTable parting-zero blank parting-begun
 
 -- the first 72 bytes of document 01's listing are refused with 1, and leave the buffer as it was
-abbrev cut : List ℕ
+abbrev pub cut : List ℕ
 cut = take 72 listingFile
 
 pub cut-refused : (loadResult cut blankTable .answer .refusal ≡ pos 1) × (loadResult cut blankTable .table ≡ blankTable)
 cut-refused =
-    let one = one-iff cut blankTable .1 (inl (λ (n, e). absurd (omega (arith, listing-cut-long)))) in
-    (one, load-keeps cut blankTable (λ z. let q : pos 0 ≡ pos 1 = sym z ∙ one in clash cc))
+    let load = load-in-numbers cut blankTable in
+    let one = load .one 0 .1 (refl, inl (λ (n, e). absurd (omega (arith, listing-cut-long)))) .0 in
+    (one, load .kept (λ z. let q : pos 0 ≡ pos 1 = sym z ∙ one in clash cc))
 
 -- the calls below are made at seat 0, by a list with all rights
-may : (n : ℕ) (right : Right) → hasRight full 0 right ≡ true → seatAdmission table (bytesAfter n) full 0 right ≡ Admission.Admitted
+pub may : (n : ℕ) (right : Right) → hasRight full 0 right ≡ true → seatAdmission table (bytesAfter n) full 0 right ≡ Admission.Admitted
 may n right h =
     seat-admitted-iff table (bytesAfter n) full 0 right .1 ((right-lengths table accepts (bytesAfter n) (bytes-sound n .long), full-long), accepts, full-in-range, h)
 

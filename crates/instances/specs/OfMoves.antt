@@ -53,11 +53,11 @@ pub child-learns : (holds tb (thread taught 1) 1 ≡ false) × (holds tb (thread
 unfolding running taught
 child-learns = (refl, refl, refl)
 
-taught-move : move tb taught 0 ≡ Meets 0 1 0
+pub taught-move : move (filledUp teaching) taught 0 ≡ Meets 0 1 0
 unfolding running taught
 taught-move = refl
 
-taught-ready : isReady (thread taught 0) ≡ true
+pub taught-ready : isReady (thread taught 0) ≡ true
 unfolding running taught
 taught-ready = refl
 

@@ -6,12 +6,13 @@ use mathlib.Core.Path.{_≡_, refl, ap, _∙_}
 use mathlib.Core.Bool.{true}
 use mathlib.Core.List.{List, [], _∷_, _++_, map}
 use lib.ListN.{length, getD}
-use lib.IntN.{pos}
+use lib.IntN.{ℤ, pos}
 use borrow.Author.Tests.{eq-eqb}
 use Rattle.numbers.specs.Search.{tabulate}
 use Rattle.table.specs.Table.{Table, tableLength, tableOf}
-use Rattle.loader.specs.Load.{accepted}
+use Rattle.loader.specs.Load.{tableBytes, accepted}
 use Rattle.loader_laws.specs.PrintedFile.{filledUp}
+use Rattle.loader_laws.specs.Yields.{length-bytes, bytes-hold}
 use Rattle.state.specs.State.{State, view}
 use Rattle.rules.specs.Start.{started}
 use Rattle.rules.specs.Calls.{stepEnd, canStep, stepOn, stepCall}
@@ -23,19 +24,24 @@ use Rattle.engine_laws.specs.Buffers.{SoundBuffer, view-sound}
 use Rattle.engine_laws.specs.SoundCalls.{start-view, step-sound, call-made, call-view}
 use Rattle.engine_laws.specs.Lists.{step, after, RefusedWith}
 use Rattle.interface.specs.Interface.{profileFields, profileNumbers, profileResult}
+use Rattle.interface.specs.declared.ProfileAnswer.{ProfileAnswer}
 use Rattle.profile.specs.Profile.{largest, isSpawn, nodeSpawns, spawnsIn, hasSpawn, callAllowed, nodeAllowed, callsAllowed, branchBoundBy, callBoundBy, nodeBoundBy, boundIn, nodeBound, definitionBound, withinRows, profileOf, profileCall, refusalNumber, threadsNumber}
 use Rattle.profile.specs.declared.Profiled.{Profiled}
-use Rattle.profile.specs.declared.Profiled.the-variants.{Passes, WrongLength, ForbiddenCall, ManyThreads}
-use Rattle.examples.specs.Tables.{doublings, doublingsAndOne, callsUp, callsDown, callsItself}
+use Rattle.profile.specs.declared.Profiled.the-variants.{Passes, WrongLength, WrongTable, ForbiddenCall, ManyThreads}
+use Rattle.examples.specs.Tables.{doublings, doublingsAndOne, callsUp, callsDown, callsItself, repeats}
 use Rattle.examples.specs.Computing.{running}
-use Rattle.examples.specs.Files.{inOrder, tableFor, table-holds, table-long, table-small, table-accepted, doublings-in-order, one-more-in-order, calls-up-in-order, calls-down-in-order, calls-itself-in-order}
+use Rattle.examples.specs.Files.{inOrder, tableFor, table-holds, table-long, table-small, table-accepted, doublings-in-order, one-more-in-order, calls-up-in-order, calls-down-in-order, calls-itself-in-order, repeats-in-order}
 use Rattle.guarantee.specs.Claim.{Any, on, afterAny, afterList, reachedBy, RefusedBy}
 use Rattle.guarantee.specs.Proof.{reached-sound}
+use Rattle.guarantee.specs.WriteInNumbers.{LoadsTo, IsLoaded}
 use Rattle.profile_laws.specs.Bounds.{Allowed, allowed}
-use Rattle.profile_laws.specs.Sentences.{Said, bounds-only}
+use Rattle.profile_laws.specs.Sentences.{Said, bounds-only, definitions-only}
 use Rattle.profile_laws.specs.Claim.{threadsIn, Pledge}
 use Rattle.profile_laws.specs.Proof.{accepted-pledge}
+use Rattle.profile_laws.specs.InNumbers.{profile-in-numbers}
 use Rattle.instances.specs.Parting.{blank, blank-long}
+use Rattle.instances.specs.OfBuffers.{zeroTable, zero-shaped, zero-refused}
+use Rattle.instances.specs.OfWriting.{bytes-small}
 
 -- opens what the check computes with
 unfoldable checking : Unit {0}
@@ -73,6 +79,16 @@ pub calls-itself-refused : profileCall (tableFor callsItself) ≡ ForbiddenCall
 unfolding checking
 calls-itself-refused = checked callsItself calls-itself-in-order
 
+-- beside no spawn such a call is permitted, and counts for one thread: the definition that calls itself has the bound 1, and the first one 2
+pub repeats-pass : profileCall (tableFor repeats) ≡ Passes 2
+unfolding checking
+repeats-pass = checked repeats repeats-in-order
+
+-- a table of zeros has a table's length, and is that of no file
+pub zeros-refused : profileCall (tableBytes zeroTable) ≡ WrongTable
+unfolding profileCall accepted
+zeros-refused = rw (eq-eqb (length (tableBytes zeroTable)) tableLength (length-bytes zeroTable zero-shaped), bytes-hold zeroTable zero-shaped, zero-refused)
+
 -- no bytes are no table
 pub nothing-refused : profileCall [] ≡ WrongLength
 unfolding profileCall
@@ -88,6 +104,8 @@ pub answers-in-numbers : (profileResult (tableFor doublings) ≡ record { refusa
     × (profileResult (tableFor doublingsAndOne) ≡ record { refusal = pos 17; threads = pos 0 })
     × (profileResult (tableFor callsDown) ≡ record { refusal = pos 16; threads = pos 0 })
     × (profileResult (tableFor callsItself) ≡ record { refusal = pos 16; threads = pos 0 })
+    × (profileResult (tableFor repeats) ≡ record { refusal = pos 0; threads = pos 2 })
+    × (profileResult (tableBytes zeroTable) ≡ record { refusal = pos 9; threads = pos 0 })
     × (profileResult [] ≡ record { refusal = pos 8; threads = pos 0 })
 unfolding profileFields refusalNumber threadsNumber
 answers-in-numbers = (
@@ -95,8 +113,19 @@ answers-in-numbers = (
   numbers-of (tableFor doublingsAndOne) ManyThreads one-more-refused,
   numbers-of (tableFor callsDown) ForbiddenCall calls-down-refused,
   numbers-of (tableFor callsItself) ForbiddenCall calls-itself-refused,
+  numbers-of (tableFor repeats) (Passes 2) repeats-pass,
+  numbers-of (tableBytes zeroTable) WrongTable zeros-refused,
   numbers-of [] WrongLength nothing-refused,
 )
+
+-- so, by its law, C sees a file loaded to the doublings, and none loaded to zeros
+pub loaded-or-not : IsLoaded (tableFor doublings) × ((file : List ℕ) → ¬ LoadsTo (tableBytes zeroTable) file)
+loaded-or-not =
+    let (passed, a, b, c, d, zeros, e) = answers-in-numbers in
+    let refusal : ProfileAnswer → ℤ = λ r. r .refusal in (
+      profile-in-numbers (tableFor doublings) (table-small doublings doublings-in-order) .zero .0 (ap refusal passed) .0,
+      profile-in-numbers (tableBytes zeroTable) (bytes-small zeroTable) .nine .0 (ap refusal zeros) .1,
+    )
 
 -- ---- document 02's sentences settle the bounds
 
@@ -106,13 +135,35 @@ doublings-allowed =
     let h = table-holds doublings doublings-in-order in
     rw h at (allowed (tableFor doublings) (table-accepted doublings doublings-in-order) (table-small doublings doublings-in-order) (rw h refl))
 
--- whatever bounds fit them, node 0 has 64; so 1 for every node does not fit
-pub doublings-settled : (bound : ℕ → ℕ) (branch : ℕ → ℕ → ℕ) → Said (filledUp doublings) bound branch → bound 0 ≡ 64
+-- whatever bounds fit them, node 0 has 64, and so has its definition; so 1 for every node does not fit
+pub doublings-settled : (definition node : ℕ → ℕ) (branch : ℕ → ℕ → ℕ) → Said (filledUp doublings) definition node branch → (definition 0 ≡ 64) × (node 0 ≡ 64)
 unfolding checking
-doublings-settled bound branch s = bounds-only (filledUp doublings) doublings-allowed bound branch s 0 (omega arith)
+doublings-settled definition node branch s = (
+  definitions-only (filledUp doublings) doublings-allowed definition node branch s 0 (omega arith),
+  bounds-only (filledUp doublings) doublings-allowed definition node branch s 0 (omega arith),
+)
 
-pub not-all-one : (branch : ℕ → ℕ → ℕ) → ¬ Said (filledUp doublings) (λ n. 1) branch
-not-all-one branch s = let e : _≡_ {A = ℕ} 1 64 = doublings-settled (λ n. 1) branch s in omega arith
+pub not-all-one : (definition : ℕ → ℕ) (branch : ℕ → ℕ → ℕ) → ¬ Said (filledUp doublings) definition (λ n. 1) branch
+not-all-one definition branch s = let e : _≡_ {A = ℕ} 1 64 = doublings-settled definition (λ n. 1) branch s .1 in omega arith
+
+-- the bound of a definition is its first node's also where nobody calls it: 65 for it with 64 for the node does not fit
+pub not-another : (node : ℕ → ℕ) (branch : ℕ → ℕ → ℕ) → ¬ Said (filledUp doublings) (λ d. 65) node branch
+not-another node branch s = let e : _≡_ {A = ℕ} 65 64 = doublings-settled (λ d. 65) node branch s .0 in omega arith
+
+-- where a definition calls another, by that one's bound; and where it calls itself, by 1
+repeats-allowed : Allowed (filledUp repeats)
+unfolding checking
+repeats-allowed =
+    let h = table-holds repeats repeats-in-order in
+    rw h at (allowed (tableFor repeats) (table-accepted repeats repeats-in-order) (table-small repeats repeats-in-order) (rw h refl))
+
+pub repeats-settled : (definition node : ℕ → ℕ) (branch : ℕ → ℕ → ℕ) → Said (filledUp repeats) definition node branch
+    → (definition 0 ≡ 2) × (definition 1 ≡ 1) × (node 1 ≡ 1) × (node 4 ≡ 1)
+unfolding checking
+repeats-settled definition node branch s =
+    let d = definitions-only (filledUp repeats) repeats-allowed definition node branch s in
+    let n = bounds-only (filledUp repeats) repeats-allowed definition node branch s in
+    (d 0 (omega arith), d 1 (omega arith), n 1 (omega arith), n 4 (omega arith))
 
 -- ---- lists of steps
 

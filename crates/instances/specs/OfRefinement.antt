@@ -1,9 +1,9 @@
 -- Instances of the theorems that tie states to 002's agents (`crates/published_laws`): threads that are a bench and that are not, an agent that no series of
--- reductions reaches from the start of a file, whatever the bench does, and a turn that ends otherwise than the engine's step. Assumes nothing.
+-- reductions reaches from the start of a file, whatever the bench does, a turn that ends otherwise than the engine's step and one that cannot. Assumes nothing.
 use Prim.Native.Nat.{ℕ, suc}
 use native.Mathlib.Omega.{arith}
-use mathlib.Core.Path.{_≡_, refl, _∙_}
-use mathlib.Core.Logic.{inl}
+use mathlib.Core.Path.{_≡_, refl, sym, _∙_}
+use mathlib.Core.Logic.{inl, inr, ⊎-elim}
 use mathlib.Core.Bool.{true, false}
 use mathlib.Core.List.{List, [], _∷_}
 use mathlib.Core.Option.{Option, none, some}
@@ -13,21 +13,25 @@ use Rattle.loader_laws.specs.PrintedFile.{filledUp}
 use Rattle.state.specs.State.{view, stateBytes, thread, inUse, isReady}
 use Rattle.rules.specs.Start.{started}
 use Rattle.rules.specs.Moves.{move, written}
+use Rattle.rules.specs.declared.Move.the-variants.{Meets}
+use Rattle.rules_laws.specs.Soundness.{Sound}
+use Rattle.rules_laws.specs.Chosen.{channelBy}
 use Rattle.rules_laws.specs.Started.{started-sound}
 use Rattle.engine_laws.specs.Lists.{give}
 use Rattle.collector_laws.specs.Out.{takenThread}
-use Rattle.examples.specs.Tables.{listing, portReceiver, parting}
+use Rattle.examples.specs.Tables.{listing, portReceiver, parting, teaching}
 use Rattle.examples.specs.Computing.{running, collecting}
-use Rattle.examples.specs.Files.{table-holds, rows-granted, listing-in-order, receiver-in-order}
+use Rattle.examples.specs.Files.{table-holds, rows-granted, run-sound, listing-in-order, receiver-in-order, teaching-in-order}
 use Rattle.guarantee.specs.Claim.{on, takenBy}
 use Rattle.guarantee.specs.ClaimKept.{taken-is}
 use Rattle.published.specs.Syntax.{Process, end, choice, nothing, branch, always, output, assign, constant, waiting}
 use Rattle.published.specs.Agents as Agents
-use Rattle.published.specs.Agents.{Value, channel, bind, adding, refers, mentions, knows, Thread, Agent}
+use Rattle.published.specs.Agents.{_∈_, Value, channel, bind, Commitment, adding, refers, mentions, knows, Thread, Agent}
 use Rattle.published.specs.Rules.{swapped, new, Reaches}
 use Rattle.published.specs.ProductLaws.{same-order}
 use Rattle.published.specs.Choices.{commits}
-use Rattle.published.specs.Whole.{acted, WholeTurn, UpTo}
+use Rattle.published.specs.Whole.{acted, WholeTurn, Is, UpTo}
+use Rattle.published.specs.Sole.{Sole}
 use Rattle.published.specs.Enabling.{Disabled}
 use Rattle.published.specs.Polarity.{our-proposition-2}
 use Rattle.published_laws.specs.Standing.{channelsOf, printedGuardOf, guardBy, guardOf, prefixOf, sumBefore, nodeProcess, unrolled, processAt, bodyOf, forNumbers, OurRules, readyThread, committed, commitmentsFrom, waitingThread, threadOf, threadsOf, agentOf}
@@ -35,12 +39,14 @@ use Rattle.published_laws.specs.Places.{rank}
 use Rattle.published_laws.specs.Products.{Bench}
 use Rattle.published_laws.specs.Benches.{portsAnd, bench-is}
 use Rattle.published_laws.specs.Starting.{started-bare}
-use Rattle.published_laws.specs.Stepping.{Allowed}
-use Rattle.published_laws.specs.Conversely.{turn-conversely}
+use Rattle.published_laws.specs.Stepping.{Allowed, Plain}
+use Rattle.published_laws.specs.Conversely.{Settled, turn-conversely, turn-exactly}
+use Rattle.published_laws.specs.Wholly.{turn-whole}
 use Rattle.published_laws.specs.Taking.{taken-iff-disabled}
 use Rattle.published_laws.specs.Computation.{giving, benchCall}
 use Rattle.instances.specs.Parting.{table, accepts, small, held-table, stateAfter, bytesAfter, bytes-sound, bytes-view}
 use Rattle.instances.specs.OfFiles.{rows-readable}
+use Rattle.instances.specs.OfMoves.{taught, taught-move, taught-ready}
 use Rattle.instances.specs.OfCollection.{bothWait}
 use Rattle.instances.specs.OfBuffers.{receives, begun, nobody-there, somebody-there}
 use Rattle.instances.specs.OfTurns as Turns
@@ -125,6 +131,54 @@ pub any-name : UpTo (bodyOf (filledUp listing)) (forNumbers (filledUp listing)) 
 any-name =
     turn-conversely tb (rows-granted listing listing-in-order) (rows-readable listing listing-in-order) (started tb)
     (started-sound tb (rows-granted listing listing-in-order)) 0 (omega arith) first-ready idle idle-bench first-allowed (named 5) named-whole
+
+-- where one commitment alone is on the channel nothing is left open: in the file `teaching` after four steps thread 0 sends to its child, which alone waits on
+-- that channel. There is a whole turn of it, and every one ends as the engine's step does
+
+abbrev lessons : Table
+lessons = filledUp teaching
+
+taught-sound : Sound lessons taught
+unfolding taught
+taught-sound = run-sound teaching teaching-in-order 4
+
+abbrev pub class : Thread
+class = Agents.thread [] (portsAnd (filledUp teaching) none) end
+
+class-bench : Bench lessons class
+unfolding refers waiting
+class-bench = bench-is lessons none (λ c. refl) end refl
+
+-- of three threads one has a commitment, and no more than that
+one-committed : (x y z : Thread) (k : Commitment) (ĉ : ℕ) → x .commitments ≡ [] → y .commitments ≡ [] → z .commitments ≡ k ∷ [] → Sole (x ∷ y ∷ z ∷ []) ĉ
+one-committed x y z k ĉ e f g u u′ j j′ i i′ h h′ p p′ =
+    let (q, r) = it u j i h in
+    let (q′, r′) = it u′ j′ i′ h′ in
+    (q ∙ sym q′, r ∙ sym r′)
+  where
+    it : (u : Thread) (j : Commitment) → u ∈ (x ∷ y ∷ z ∷ []) → j ∈ u .commitments → (u ≡ z) × (j ≡ k)
+    it u j (inl q) h = absurd (let b : j ∈ [] = rw (q, e) at h in b)
+    it u j (inr (inl q)) h = absurd (let b : j ∈ [] = rw (q, f) at h in b)
+    it u j (inr (inr (inl q))) h = (q, ⊎-elim (λ r. r) (λ b. absurd b) (let b : j ∈ (k ∷ []) = rw (q, g) at h in b))
+    it u j (inr (inr (inr b))) h = absurd b
+
+child-alone : Sole (agentOf lessons class taught .threads) (channelBy lessons taught 0 0)
+unfolding running taught agentOf threadsOf threadOf readyThread waitingThread commitmentsFrom committed
+child-alone = one-committed _ _ _ _ _ refl refl refl
+
+pub lesson-whole : WholeTurn (bodyOf (filledUp teaching)) (agentOf (filledUp teaching) class taught) (threadOf (filledUp teaching) (thread taught 0))
+    (agentOf (filledUp teaching) class (written (filledUp teaching) taught 0 (Meets 0 1 0)))
+unfolding Plain
+lesson-whole = rw taught-move at (turn-whole lessons (rows-granted teaching teaching-in-order) (rows-readable teaching teaching-in-order) taught
+    taught-sound 0 (omega arith) taught-ready class class-bench (rw taught-move tt))
+
+pub lesson-exactly : (T : Agent)
+    → WholeTurn (bodyOf (filledUp teaching)) (agentOf (filledUp teaching) class taught) (threadOf (filledUp teaching) (thread taught 0)) T
+    → Is T (agentOf (filledUp teaching) class (written (filledUp teaching) taught 0 (Meets 0 1 0)) .channels)
+    (agentOf (filledUp teaching) class (written (filledUp teaching) taught 0 (Meets 0 1 0)) .threads)
+unfolding Settled
+lesson-exactly T h = rw taught-move at (turn-exactly lessons (rows-granted teaching teaching-in-order) (rows-readable teaching teaching-in-order) taught
+    taught-sound 0 (omega arith) taught-ready class class-bench (rw taught-move child-alone) T h)
 
 -- ---- Definition 1, read off the bytes: of the two threads of the file `parting` after five steps 002 calls the one disabled that a collection takes, and not
 -- the other

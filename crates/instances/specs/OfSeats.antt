@@ -2,47 +2,50 @@
 -- `profile_laws/specs/SeatedPledge.antt`): a trainee who may not feed a
 -- port is told the same of two states, and a leader is told them apart; a list with one number out of range is refused to everybody; and a list of calls
 -- at seats, whose collection the leader may make and the trainee not. Assumes nothing.
-use Prim.Native.Nat.{ℕ}
+use Prim.Native.Nat.{ℕ, _<_, _≤_}
 use native.Mathlib.Omega.{arith}
 use mathlib.Core.Path.{_≡_, refl, sym, ap, _∙_}
-use mathlib.Core.Logic.{inr}
+use mathlib.Core.Logic.{inr, _≢_}
 use mathlib.Core.Bool.{true}
 use mathlib.Core.List.{List, [], _∷_, map}
-use lib.ListN.{length}
+use lib.ListN.{length, getD}
 use lib.IntN.{pos}
 use mir.Syntax.{w32}
 use mir.Facts.{toZ-pos}
 use borrow.Author.Tests.{eq-eqb}
+use Rattle.numbers.specs.Bytes.{words}
+use Rattle.table.specs.Table.{tableOf, ports}
 use Rattle.loader.specs.Load.{accepted}
 use Rattle.state.specs.State.{view, stateBytes}
-use Rattle.rules.specs.Seats.{rightsLength, seatAdmission, seatedGive}
+use Rattle.rules.specs.Seats.{rightsNumbers, rightsLength, seatAdmission, seatedGive}
 use Rattle.rules.specs.Seats.Laws.{seat-granted, seat-refused}
-use Rattle.rules.specs.Calls.{Outcome, giveCall}
+use Rattle.rules.specs.Calls.{Outcome, giveCall, takeCall}
 use Rattle.rules.specs.declared.Right.the-variants as Right
 use Rattle.rules.specs.declared.Refusal.the-variants as Ground
 use Rattle.rules.specs.declared.Admission.the-variants as Admission
 use Rattle.rules.specs.declared.Given.the-variants as Given
+use Rattle.rules.specs.declared.Taken.the-variants as Taken
 use Rattle.engine.specs.Numbers.{refusalNumber}
 use Rattle.engine_laws.specs.Entry.{atEntry, RightLengths}
-use Rattle.engine_laws.specs.Refusals.{give-entry-iff}
-use Rattle.engine_laws.specs.Seats.{ZeroToThree, right-iff, seat-admitted-iff, in-order-iff}
+use Rattle.engine_laws.specs.Refusals.{give-entry-iff, take-port-iff}
+use Rattle.engine_laws.specs.Seats.{AllLengths, ZeroToThree, right-iff, seat-admitted-iff, in-order-iff}
 use Rattle.engine_laws.specs.SoundCalls.{right-lengths}
-use Rattle.engine_laws.specs.Lists.{step, give, run, RefusedWith}
+use Rattle.engine_laws.specs.Lists.{step, give, take, run, RefusedWith}
 use Rattle.collector.specs.Collect.{collectCall, seatedCollect}
 use Rattle.collector.specs.declared.Collected.{Collected}
 use Rattle.collector.specs.declared.Collected.the-variants as Collected
 use Rattle.examples.specs.Tables.{portReceiver, doublings}
-use Rattle.examples.specs.Files.{tableFor, table-accepted, table-small, receiver-in-order, doublings-in-order}
+use Rattle.examples.specs.Files.{tableFor, table-holds, table-accepted, table-small, receiver-in-order, doublings-in-order}
 use Rattle.guarantee.specs.Claim.{Any, on, reachedBy, RefusedBy}
 use Rattle.guarantee.specs.SeatedClaim.{AtSeat, asked, reachedAt, SeatedGuarantee}
 use Rattle.guarantee.specs.Through.{letThrough, through, refused-iff}
 use Rattle.guarantee.specs.SeatedProof.{reached-through, accepted-seated}
 use Rattle.guarantee.specs.Exported.{refusalBy, refused-shows}
-use Rattle.guarantee.specs.SeatsInNumbers.{SameTold, eighteen-iff, nineteen-iff, same-told-numbers}
+use Rattle.guarantee.specs.SeatsInNumbers.{SameTold, eighteen-iff, nineteen-iff, above-seven, same-told-numbers}
 use Rattle.profile_laws.specs.Claim.{threadsIn}
 use Rattle.profile_laws.specs.SeatedPledge.{SeatedPledge, seated-accepted-pledge}
-use Rattle.instances.specs.Seating.{shop, shop-long, shop-small, shop-in-range, leader-may, trainee-may, trainee-may-not, others-may-not, stray, stray-read, stray-long, stray-small}
-use Rattle.instances.specs.OfBuffers.{receives, blank, begun, zeros-refused, somebody-there, zeros-lengths, begun-lengths}
+use Rattle.instances.specs.Seating.{full, full-long, full-small, full-in-range, shop, shop-long, shop-small, shop-in-range, leader-not-entitled, trainee-entitled, trainee-not-entitled, leader-may, trainee-may, trainee-may-not, others-bench, stray, stray-last, stray-long, stray-small}
+use Rattle.instances.specs.OfBuffers.{receives, blank, begun, zeros-refused, somebody-there, zeros-lengths, begun-admitted, begun-lengths}
 use Rattle.instances.specs.Parting as Parting
 use Rattle.instances.specs.OfProfile.{doublings-pass, steps, doubled, doublings-reach}
 use Rattle.instances.specs.OfGuarantee.{worked, one-collected}
@@ -66,10 +69,16 @@ pub trainee-told : SameTold receives waits zeros shop 1 feed
 unfolding asked
 trainee-told = same-told-numbers receives waits zeros shop 1 feed (trainee-may-not .0) (zeros-lengths .1 ∙ sym (begun-lengths 1 .1))
 
+all-right : AllLengths receives waits shop
+all-right = (begun-lengths 1, shop-long)
+
+shop-in-order : (i : ℕ) → i < rightsNumbers → ZeroToThree (getD (words shop) i 0)
+shop-in-order = in-order-iff shop shop-small .0 shop-in-range
+
 pub trainee-nineteen : refusalBy receives waits shop 1 feed ≡ pos 19
 unfolding asked
 trainee-nineteen =
-    nineteen-iff receives waits shop 1 shop-small feed .1 ((begun-lengths 1, shop-long), accepts, in-order-iff shop shop-small .0 shop-in-range, trainee-may-not .0)
+    nineteen-iff receives waits shop 1 shop-small feed .1 (all-right, accepts, shop-in-order, trainee-not-entitled .0)
 
 -- the leader at seat 0 meets the thread in one, and is refused with 10 in the other
 leader-admitted : (state : List ℕ) → RightLengths receives state → seatAdmission receives state shop 0 (Right.Give 0) ≡ Admission.Admitted
@@ -86,27 +95,63 @@ leader-ten =
     (refused-iff receives zeros shop 0 feed Ground.State .1
     (inr (leader-admitted zeros zeros-lengths, give-entry-iff receives zeros 0 7 Ground.State refl .1 zeros-refused)))
 
+-- ---- 19 and 12: each call goes by the number of its own port
+
+no-second-port : takeCall receives waits 1 .answer ≡ Taken.Refused Ground.Port
+no-second-port = take-port-iff receives waits 1 .1 (begun-admitted 1, rw (table-holds portReceiver receiver-in-order) (omega arith))
+
+-- the trainee may take at port 1 alone: there the call comes to its own ground, since the file has one port, and at port 0 it does not
+pub trainee-takes : (refusalBy receives waits shop 1 (on (take 1)) ≡ pos 12) × (refusalBy receives waits shop 1 (on (take 0)) ≡ pos 19)
+unfolding asked RefusedBy RefusedWith refusalNumber
+trainee-takes = (
+  refused-shows receives waits shop 1 (on (take 1)) Ground.Port
+      (refused-iff receives waits shop 1 (on (take 1)) Ground.Port .1
+      (inr (seat-admitted-iff receives waits shop 1 (Right.Take 1) .1 (all-right, accepts, shop-in-range, trainee-may .0), no-second-port))),
+  nineteen-iff receives waits shop 1 shop-small (on (take 0)) .1 (all-right, accepts, shop-in-order, trainee-not-entitled .1),
+)
+
+-- so 19 is not said at port 1, which is what its law says too
+pub trainee-not-nineteen : refusalBy receives waits shop 1 (on (take 1)) ≢ pos 19
+unfolding asked
+trainee-not-nineteen e = nineteen-iff receives waits shop 1 shop-small (on (take 1)) .0 e .3 (trainee-entitled .0)
+
+-- the leader gives at port 0 and takes at port 1, and not the other way round; at port 7 there is nothing to give or take
+pub leader-nineteen : (refusalBy receives waits shop 0 (on (take 0)) ≡ pos 19) × (refusalBy receives waits shop 0 (on (give 1 7 (omega arith))) ≡ pos 19)
+    × (refusalBy receives waits shop 0 (on (give 7 7 (omega arith))) ≡ pos 19)
+unfolding asked
+leader-nineteen = (
+  nineteen-iff receives waits shop 0 shop-small (on (take 0)) .1 (all-right, accepts, shop-in-order, leader-not-entitled .0),
+  nineteen-iff receives waits shop 0 shop-small (on (give 1 7 (omega arith))) .1 (all-right, accepts, shop-in-order, leader-not-entitled .1),
+  nineteen-iff receives waits shop 0 shop-small (on (give 7 7 (omega arith))) .1 (all-right, accepts, shop-in-order, leader-not-entitled .3),
+)
+
+-- port 8 is refused to a seat whose nine numbers are all 3
+pub eight-refused : (refusalBy receives waits full 0 (on (take 8)) ≡ pos 19) × (refusalBy receives waits full 0 (on (give 8 7 (omega arith))) ≡ pos 19)
+eight-refused =
+    let (t, g) = above-seven receives waits full 0 full-small (begun-lengths 1, full-long) accepts (in-order-iff full full-small .0 full-in-range) 8 (omega arith) in
+    (t, g 7 (omega arith))
+
 -- ---- 18: the last number of the list is 4, which is for seat 7, and every call is refused, at seat 0 too
 
-four-outside : ¬ ZeroToThree 4
+pub four-outside : ¬ ZeroToThree 4
 four-outside (n, l, e) = let q : pos 4 ≡ pos n = sym (toZ-pos w32 {n = 4} (omega arith)) ∙ e in let k : 4 ≡ n = cc in omega arith
 
 pub all-refused : (k : Any) → refusalBy receives waits stray 0 k ≡ pos 18
-all-refused k = eighteen-iff receives waits stray 0 stray-small k .1 ((begun-lengths 1, stray-long), accepts, (71, omega arith, rw stray-read four-outside))
+all-refused k = eighteen-iff receives waits stray 0 stray-small k .1 ((begun-lengths 1, stray-long), accepts, (71, omega arith, rw stray-last four-outside))
 
 -- ---- demand 3: the trainee runs five steps, and a collection follows
 
 abbrev work : AtSeat Any
 work = record { rights = shop; seat = 1; call = on (run 5) }
 
--- before that somebody at seat 2 tries, who may do nothing
+-- before that the feeder at seat 2 tries, who may not
 abbrev idle : AtSeat Any
 idle = record { rights = shop; seat = 2; call = on (run 5) }
 
 -- seats leave the first one out
 pub let-through : through (idle ∷ work ∷ []) ≡ on (run 5) ∷ []
 unfolding through letThrough asked
-let-through = rw (eq-eqb (length shop) rightsLength shop-long, shop-in-range, others-may-not, trainee-may .1)
+let-through = rw (eq-eqb (length shop) rightsLength shop-long, shop-in-range, others-bench .0, trainee-may .1)
 
 pub worked-at-seats : reachedAt Parting.table Parting.blank (idle ∷ work ∷ []) ≡ worked
 worked-at-seats =

@@ -1,13 +1,13 @@
 -- Theorems on turns at work (`published_laws/specs/Running.antt`, `Wholly.antt`): the turns of a run of five steps from the start of a file, whose they are and
--- what they end with, and answers that would be wrong. Assumes nothing.
+-- what they end with, answers that would be wrong, and a collection after it. Assumes nothing.
 use Prim.Native.Nat.{ℕ}
 use native.Mathlib.Omega.{arith}
 use mathlib.Core.Path.{_≡_, refl, _∙_}
-use mathlib.Core.Logic.{inl, inr}
+use mathlib.Core.Logic.{inl, inr, ⊎-elim}
 use mathlib.Core.Bool.{true}
-use mathlib.Core.List.{[], _∷_}
+use mathlib.Core.List.{List, [], _∷_}
 use mathlib.Core.Option.{none}
-use Rattle.numbers.specs.Search.{tabulate}
+use Rattle.numbers.specs.Search.{tabulate, computing}
 use Rattle.numbers.specs.Tests.{clash}
 use Rattle.table.specs.Table.{Table, tableOf}
 use Rattle.loader_laws.specs.PrintedFile.{filledUp}
@@ -21,24 +21,31 @@ use Rattle.rules.specs.declared.Reason.the-variants.{AllDone}
 use Rattle.rules.specs.declared.Ran.the-variants as Ran
 use Rattle.rules_laws.specs.Accepted.{granted}
 use Rattle.engine_laws.specs.Buffers.{view-sound}
-use Rattle.collector.specs.Collect.{collectCall}
+use Rattle.collector.specs.Collect.{collected, collectCall, seatedCollect}
+use Rattle.examples.specs.Builders.{waitingAt, channelWith, stateWith}
 use Rattle.examples.specs.Tables.{parting}
-use Rattle.examples.specs.Computing.{running}
+use Rattle.examples.specs.Computing.{running, collecting}
+use Rattle.guarantee.specs.ClaimKept.{collect-view}
+use Rattle.guarantee.specs.SeatedProof.{collected-plainly}
 use Rattle.published.specs.Syntax.{end, waiting}
 use Rattle.published.specs.Agents as Agents
-use Rattle.published.specs.Agents.{refers, Thread}
-use Rattle.published.specs.Rules.{Reaches, Nothing}
+use Rattle.published.specs.Agents.{refers, Thread, Agent}
 use Rattle.published.specs.Fired.{by-new, by-passing, fired, Turns}
 use Rattle.published.specs.Whole.{WholeTurn}
+use Rattle.published.specs.Collections.{Collects, collects-these, collects-many}
 use Rattle.published_laws.specs.Readable.{readable}
-use Rattle.published_laws.specs.Standing.{bodyOf, threadOf, agentOf, OurRules, OurLabels}
+use Rattle.published_laws.specs.Standing.{channelsOf, bodyOf, threadOf, agentOf, OurRules, OurLabels}
 use Rattle.published_laws.specs.Products.{Bench}
 use Rattle.published_laws.specs.Firing.{firedBy, TellsWith, Tells, nextHad}
 use Rattle.published_laws.specs.Benches.{portsAnd, bench-is}
-use Rattle.published_laws.specs.Running.{run-done, run-call-reduced, collect-call-reduced}
+use Rattle.published_laws.specs.Reclaims.{those, freedChannels}
+use Rattle.published_laws.specs.Collecting.{takenThen, takenOf, freedThreads}
+use Rattle.published_laws.specs.Running.{run-done, run-call-reduced, collect-call-reduced, seated-collect-reduced}
 use Rattle.published_laws.specs.Stepping.{Plain}
 use Rattle.published_laws.specs.Wholly.{turn-whole}
-use Rattle.instances.specs.Parting.{tb, table, accepts, small, held-table, stateAfter, begun, begun-sound, begun-view, bytesAfter, bytes-sound}
+use Rattle.instances.specs.Seating.{shop}
+use Rattle.instances.specs.OfSeats.{leader-collects}
+use Rattle.instances.specs.Parting.{tb, table, accepts, small, held-table, stateAfter, begun, begun-sound, begun-view, bytesAfter, bytes-sound, bytes-view}
 
 -- ---- the file `parting`: thread 0 makes a channel, spawns thread 1, which receives on the channel, makes another channel in the place of the first, and
 -- receives on the port; beside it a bench that does nothing
@@ -90,11 +97,69 @@ not-with-partner x s later u (e, inl (f, q)) = clash cc
 not-with-partner x s later u (e, inr (f, (k, inl q))) = clash cc
 not-with-partner x s later u (e, inr (f, (k, inr q))) = clash cc
 
--- ---- a collection after it, by the published rules alone
+-- ---- a collection after it: (stuck) takes thread 1, and then (reclaim) takes channel 1, which thread 1 alone knew
 
-pub run-collected : Reaches (bodyOf (tableOf table)) Nothing (agentOf (tableOf table) idle (view (bytesAfter 5)))
-    (agentOf (tableOf table) idle (view (collectCall table (bytesAfter 5) .state)))
-run-collected = collect-call-reduced table accepts small (bytesAfter 5) (bytes-sound 5) idle idle-bench (bodyOf (tableOf table)) Nothing
+-- the agents before it and after it
+abbrev pub partingAgent : Agent
+partingAgent = agentOf (tableOf table) idle (view (bytesAfter 5))
+
+abbrev pub collectedAgent : Agent
+collectedAgent = agentOf (tableOf table) idle (view (collectCall table (bytesAfter 5) .state))
+
+-- the states that the bytes hold: the bench and both threads know the port; thread 1 alone knows channel 1, on which it waits, and thread 0 channel 2
+abbrev parted : State
+parted =
+    stateWith (2 ∷ 3 ∷ 1 ∷ []) (waitingAt 3 (0 ∷ 2 ∷ 0 ∷ []) ∷ waitingAt 4 (0 ∷ 1 ∷ 0 ∷ []) ∷ [])
+    (channelWith 1 3 2 ∷ channelWith 1 1 1 ∷ channelWith 1 1 1 ∷ [])
+
+abbrev left : State
+left = stateWith (2 ∷ 3 ∷ 1 ∷ []) (waitingAt 3 (0 ∷ 2 ∷ 0 ∷ []) ∷ []) (channelWith 1 2 1 ∷ channelWith 0 0 0 ∷ channelWith 1 1 1 ∷ [])
+
+states-are : (stateAfter 5 ≡ parted) × (collected (filledUp parting) parted ≡ left)
+unfolding collecting stateAfter
+states-are = (refl, refl)
+
+freed : (freedThreads (filledUp parting) parted left ≡ threadOf (filledUp parting) (thread parted 1) ∷ []) × (freedChannels parted left ≡ 1 ∷ [])
+unfolding computing freedThreads takenOf takenThen freedChannels those channelsOf
+freed = (refl, refl)
+
+parted-view : view (bytesAfter 5) ≡ parted
+parted-view = bytes-view 5 ∙ states-are .0
+
+left-view : view (collectCall table (bytesAfter 5) .state) ≡ left
+left-view = collect-view table accepts small (bytesAfter 5) (bytes-sound 5) ∙ rw (held-table, parted-view) (states-are .1)
+
+-- the row and the channel that the call frees, read off the bytes
+pub child-freed : freedThreads (tableOf table) (view (bytesAfter 5)) (view (collectCall table (bytesAfter 5) .state))
+    ≡ threadOf (tableOf table) (thread (view (bytesAfter 5)) 1) ∷ []
+child-freed = rw (left-view, held-table, parted-view) (freed .0)
+
+pub channel-freed : freedChannels (view (bytesAfter 5)) (view (collectCall table (bytesAfter 5) .state)) ≡ 1 ∷ []
+channel-freed = rw (left-view, parted-view) (freed .1)
+
+pub run-collected : Collects (threadOf (tableOf table) (thread (view (bytesAfter 5)) 1) ∷ []) (1 ∷ []) partingAgent collectedAgent
+run-collected = rw (child-freed, channel-freed) at (collect-call-reduced table accepts small (bytesAfter 5) (bytes-sound 5) idle idle-bench)
+
+-- the same of the leader's call at seat 0
+pub leader-collected : Collects (threadOf (tableOf table) (thread (view (bytesAfter 5)) 1) ∷ []) (1 ∷ []) partingAgent
+    (agentOf (tableOf table) idle (view (seatedCollect table (bytesAfter 5) shop 0 .state)))
+leader-collected =
+    let plainly = collected-plainly table (bytesAfter 5) shop 0 1 leader-collects in
+    rw (
+      (let e : freedThreads (tableOf table) (view (bytesAfter 5)) (view (seatedCollect table (bytesAfter 5) shop 0 .state))
+          ≡ threadOf (tableOf table) (thread (view (bytesAfter 5)) 1) ∷ [] = rw plainly child-freed in e),
+      (let e : freedChannels (view (bytesAfter 5)) (view (seatedCollect table (bytesAfter 5) shop 0 .state)) ≡ 1 ∷ [] = rw plainly channel-freed in e),
+    ) at (seated-collect-reduced table accepts small (bytesAfter 5) (bytes-sound 5) idle idle-bench shop 0 1 leader-collects)
+
+-- a collection that reclaimed no channel, or another one, or that took no thread, would not lead from the one to the other
+pub not-none-reclaimed : (G : List Thread) → ¬ Collects G [] partingAgent collectedAgent
+not-none-reclaimed G h = collects-these h 1 .1 (collects-these run-collected 1 .0 (inl refl))
+
+pub not-another : (G : List Thread) → ¬ Collects G (2 ∷ []) partingAgent collectedAgent
+not-another G h = ⊎-elim (λ e. omega arith) (λ z. z) (collects-these run-collected 2 .1 (collects-these h 2 .0 (inl refl)))
+
+pub not-nobody-taken : (cs : List ℕ) → ¬ Collects [] cs partingAgent collectedAgent
+not-nobody-taken cs h = omega (arith, collects-many h, collects-many run-collected)
 
 -- ---- the turn of thread 0 at the start, which makes a channel, is a whole turn: `Conversely.antt` speaks of it, and of those that give the channel another name
 

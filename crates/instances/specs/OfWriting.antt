@@ -78,12 +78,12 @@ unfolding writeCall
 nothing-refused = refl
 
 -- so, by the law, no file loads to zeros
-table-small : (tb : Table) → Characters (tableBytes tb)
+pub bytes-small : (tb : Table) → Characters (tableBytes tb)
 unfolding tableBytes
-table-small tb = encode-below 2 (joined tb)
+bytes-small tb = encode-below 2 (joined tb)
 
 pub zeros-of-none : (file : List ℕ) → ¬ FileOf (tableBytes zeroTable) file
-zeros-of-none file = table-iff (tableBytes zeroTable) [] (table-small zeroTable) .0 (ap (λ (o : Outcome). o .answer) zeros-refused) .1 file
+zeros-of-none file = table-iff (tableBytes zeroTable) [] (bytes-small zeroTable) .0 (ap (λ (o : Outcome). o .answer) zeros-refused) .1 file
 
 -- ---- the same in C's numbers
 

@@ -130,9 +130,9 @@ fn list_table(table: &[u8], out: &mut [u8]) -> usize
     ensures { λ _. ⌜ now (out .exit) ≡ sets (now (out .entry)) 0 (runLines (tableOf (now (table .entry)))) ⌝ }
 {
     let mut index = [0u32; table::INDEX];
-    let mut marks = [0u32; loader::MARKED];
+    let mut gaps = [0u32; loader::GAPS];
     let mut state = [0u32; state::WORDS];
-    loader::accept(table, &mut index, &mut marks);
+    loader::accept(table, &mut index, &mut gaps);
     starts::write_started(table, &index, &mut state);
     listing_lines::put_heading(out);
     let run = list_steps(table, &index, &mut state, out);

@@ -7,12 +7,12 @@ ghost use Rattle.numbers.specs.Search.{every};
 ghost use Rattle.table.specs.Table.{tableOf, maxRows, maxNodes, lineTotal};
 ghost use Rattle.table.specs.Index.{indexLength, Indexed};
 ghost use Rattle.flow.specs.Flow.{flow};
-ghost use Rattle.flow.specs.Marks.{marksOf};
+ghost use Rattle.flow.specs.Gaps.{gapsOf};
 ghost use Rattle.file.specs.File.{fileTable};
 ghost use Rattle.file.specs.EmptyFile.{procedureText};
 ghost use Rattle.loader.specs.Verdict.{judgedFlow, judgedRows, judged, verdict, restZero};
 ghost use Rattle.loader.specs.Load.{Outcome, loaded, accepted, tableLength};
-pub use flow::MARKED;
+pub use flow::GAPS;
 
 // Why a file is refused. Ground 3 has its four tests apart, in their order: header, total, kind, sums.
 pub enum Ground {
@@ -51,31 +51,31 @@ fn copy_table(from: &[u8], to: &mut [u8])
     }
 }
 
-// Grounds 6 and 7, of a table that has passed those before. The marks of its flow are left in `marks`, which comes as zeros.
-fn judge_flow(table: &[u8], index: &[u32], marks: &mut [u32], n: usize) -> Verdict
+// Grounds 6 and 7, of a table that has passed those before. The gaps of its flow are left in `gaps`, which comes as zeros.
+fn judge_flow(table: &[u8], index: &[u32], gaps: &mut [u32], n: usize) -> Verdict
     requires { ⌜ Indexed (tableOf (now table)) (now index) ⌝ }
-    requires { ⌜ now marks ≡ replicate maxNodes 0 ⌝ }
+    requires { ⌜ now gaps ≡ replicate maxNodes 0 ⌝ }
     ensures { λ r. ⌜ r ≡ judgedFlow (tableOf (now (table .entry))) n ⌝ }
-    ensures { λ _. ⌜ marksOf (now (marks .exit)) ≡ flow (tableOf (now (table .entry))) ⌝ }
+    ensures { λ _. ⌜ gapsOf (now (gaps .exit)) ≡ flow (tableOf (now (table .entry))) ⌝ }
 {
-    flow::mark_flow(table, index, marks);
-    let unwritten = paths::first_reads_unwritten(table, index, marks, n);
+    flow::find_gaps(table, index, gaps);
+    let unwritten = paths::first_reads_unwritten(table, index, gaps, n);
     if unwritten < n {
         return Verdict::Fault(Ground::Unwritten, unwritten + 1);
     }
-    let unreachable = paths::first_unreachable(table, marks, n);
+    let unreachable = paths::first_unreachable(table, gaps, n);
     if unreachable < n {
         return Verdict::Fault(Ground::Unreachable, unreachable + 1);
     }
     Verdict::Sound
 }
 
-// Grounds 4 and on, of a table that has passed ground 3. The marks of the flow of a table in which there is no fault are left in `marks`, which comes as zeros.
-fn judge_rows(table: &[u8], index: &[u32], marks: &mut [u32], n: usize) -> Verdict
+// Grounds 4 and on, of a table that has passed ground 3. The gaps of the flow of a table in which there is no fault are left in `gaps`, which comes as zeros.
+fn judge_rows(table: &[u8], index: &[u32], gaps: &mut [u32], n: usize) -> Verdict
     requires { ⌜ Indexed (tableOf (now table)) (now index) ⌝ }
-    requires { ⌜ now marks ≡ replicate maxNodes 0 ⌝ }
+    requires { ⌜ now gaps ≡ replicate maxNodes 0 ⌝ }
     ensures { λ r. ⌜ r ≡ judgedRows (tableOf (now (table .entry))) n ⌝ }
-    ensures { λ r. ⌜ (r ≡ Verdict.Sound → marksOf (now (marks .exit)) ≡ flow (tableOf (now (table .entry)))) ⌝ }
+    ensures { λ r. ⌜ (r ≡ Verdict.Sound → gapsOf (now (gaps .exit)) ≡ flow (tableOf (now (table .entry)))) ⌝ }
 {
     let range = ranges::first_out_of_range(table, index, n);
     if range < n {
@@ -85,18 +85,18 @@ fn judge_rows(table: &[u8], index: &[u32], marks: &mut [u32], n: usize) -> Verdi
     if types < n {
         return Verdict::Fault(Ground::Types, types + 1);
     }
-    judge_flow(table, index, marks, n)
+    judge_flow(table, index, gaps, n)
 }
 
-// Grounds 3 and on, of a table of n lines. The index of a table in which there is no fault is left in `index`, and the marks of its flow in `marks`; both come as
+// Grounds 3 and on, of a table of n lines. The index of a table in which there is no fault is left in `index`, and the gaps of its flow in `gaps`; both come as
 // zeros.
-fn judge(table: &[u8], index: &mut [u32], marks: &mut [u32], n: usize) -> Verdict
+fn judge(table: &[u8], index: &mut [u32], gaps: &mut [u32], n: usize) -> Verdict
     requires { ⌜ length (now table) ≡ tableLength ⌝ }
     requires { ⌜ now index ≡ replicate indexLength 0 ⌝ }
-    requires { ⌜ now marks ≡ replicate maxNodes 0 ⌝ }
+    requires { ⌜ now gaps ≡ replicate maxNodes 0 ⌝ }
     ensures { λ r. ⌜ r ≡ judged (tableOf (now (table .entry))) n ⌝ }
     ensures { λ r. ⌜ (r ≡ Verdict.Sound → Indexed (tableOf (now (table .entry))) (now (index .exit))) ⌝ }
-    ensures { λ r. ⌜ (r ≡ Verdict.Sound → marksOf (now (marks .exit)) ≡ flow (tableOf (now (table .entry)))) ⌝ }
+    ensures { λ r. ⌜ (r ≡ Verdict.Sound → gapsOf (now (gaps .exit)) ≡ flow (tableOf (now (table .entry)))) ⌝ }
 {
     // The length is asked once more for the compiler, which then tests it at no look-up.
     if table.len() != table::BYTES {
@@ -116,7 +116,7 @@ fn judge(table: &[u8], index: &mut [u32], marks: &mut [u32], n: usize) -> Verdic
         return Verdict::Fault(Ground::Sums, 1);
     }
     table::indexing::fill_index(table, index);
-    judge_rows(table, index, marks, n)
+    judge_rows(table, index, gaps, n)
 }
 
 // The verdict on a file; the numbers of a file in which there is no fault are left in `table`, which comes as zeros.
@@ -134,8 +134,8 @@ fn judge_file(file: &[u8], table: &mut [u8]) -> Verdict
         return Verdict::Fault(Ground::Field, malformed + 1);
     }
     let mut index = [0u32; table::INDEX];
-    let mut marks = [0u32; MARKED];
-    judge(table, &mut index, &mut marks, n)
+    let mut gaps = [0u32; GAPS];
+    judge(table, &mut index, &mut gaps, n)
 }
 
 // The verdict on the text that a file stands for: its own, or the lines of the procedure that ends if it has no bytes. The numbers of a text in which
@@ -185,20 +185,20 @@ fn rest_is_zero(table: &[u8], n: usize) -> bool
     all == 0
 }
 
-// Ground 9: whether the table is one that loading yields. The index of such a table is left in `index` and the marks of its flow in `marks`, which come as
+// Ground 9: whether the table is one that loading yields. The index of such a table is left in `index` and the gaps of its flow in `gaps`, which come as
 // zeros; for any other table it is left open what they hold, and nobody may use them.
-pub fn accept(table: &[u8], index: &mut [u32], marks: &mut [u32]) -> bool
+pub fn accept(table: &[u8], index: &mut [u32], gaps: &mut [u32]) -> bool
     requires { ⌜ now index ≡ replicate indexLength 0 ⌝ }
-    requires { ⌜ now marks ≡ replicate maxNodes 0 ⌝ }
+    requires { ⌜ now gaps ≡ replicate maxNodes 0 ⌝ }
     ensures { λ r. ⌜ r ≡ accepted (now (table .entry)) ⌝ }
     ensures { λ r. ⌜ (r ≡ true → Indexed (tableOf (now (table .entry))) (now (index .exit))) ⌝ }
-    ensures { λ r. ⌜ (r ≡ true → marksOf (now (marks .exit)) ≡ flow (tableOf (now (table .entry)))) ⌝ }
+    ensures { λ r. ⌜ (r ≡ true → gapsOf (now (gaps .exit)) ≡ flow (tableOf (now (table .entry)))) ⌝ }
 {
     if table.len() != table::BYTES {
         return false;
     }
     let n = table::line_total(table);
-    match judge(table, index, marks, n) {
+    match judge(table, index, gaps, n) {
         Verdict::Sound => rest_is_zero(table, n),
         Verdict::Fault(_, _) => false,
     }

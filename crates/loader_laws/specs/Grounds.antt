@@ -20,7 +20,7 @@ use Rattle.table.specs.declared.Part.the-variants.{Slots, Nodes, Branches}
 use Rattle.table.specs.declared.Role.{Role}
 use Rattle.table.specs.declared.Role.the-variants.{Unused, Constant, ReadNumber, ReadChannel, ReadCarried, WriteNumber, WriteChannel, WriteCarried}
 use Rattle.ranges.specs.Ranges.{roleInRange, ahead, definitionInRange, nodeInRange, operandInRange, targetsInRange, branchInRange, rowInRange}
-use Rattle.flow.specs.Flow.{pathMark, slotWritten}
+use Rattle.flow.specs.Flow.{pathGap, slotWritten}
 use Rattle.loader_laws.specs.Blocks.{Filled, Stands, start-suc, stands-line, owner-is, owner-stands}
 use Rattle.loader_laws.specs.FormedRows as R
 use Rattle.loader_laws.specs.FormedRows.{FormedTo}
@@ -141,7 +141,7 @@ module _ (tb : Table) (g : Formed tb) where
         let q : operandInRange tb r (slotCount tb d) k ≡ true = every-elim (operandInRange tb r (slotCount tb d)) 5 k (search parts depth 9) z in
         omega (arith, named-below (operandRole tb r k) (slotCount tb d) (operand tb r k) q w, slots-few d (definition-of n h))
 
-    no-mark : slotWritten tb (rowOf tb n i) ≢ pathMark
+    no-mark : slotWritten tb (rowOf tb n i) ≢ pathGap
     unfolding slotWritten
     no-mark e =
         let r = rowOf tb n i in

@@ -16,7 +16,7 @@ use Rattle.table.specs.Layout.{branchCount, definitionOf, start}
 use Rattle.table.specs.Roles.{operand, operandRole, reads}
 use Rattle.table.specs.declared.Part.the-variants.{Branches}
 use Rattle.ranges.specs.Ranges.{argumentInRange, callInRange, nodeInRange}
-use Rattle.flow.specs.Flow.{pathMark, mayLack, argumentWritten, callWritten, operandWritten, rowWritten, readsUnwritten, unreachable}
+use Rattle.flow.specs.Flow.{pathGap, mayLack, argumentWritten, callWritten, operandWritten, rowWritten, readsUnwritten, unreachable}
 use Rattle.loader_laws.specs.Paths.{rowOf, CallReads, BranchReads, Reachable, SurelyWritten}
 use Rattle.loader_laws.specs.Paths.Laws.{reachable-iff, written-iff}
 use Rattle.loader_laws.specs.Grounds.{Formed, node-kind, branch-kind, node-in-range, slots-few, definition-of, node-of, branch-below, operand-slot, reads-named, edges}
@@ -30,11 +30,11 @@ module _ (tb : Table) (g : Formed tb) where
       let reach = reachable-iff tb (edges tb g) n h in
       let q : nodeRow tb + n - nodeRow tb ≡ n = omega arith in
       rw (node-kind tb g n h, q)
-      (λ e. reach .0 (not-false (mayLack tb n pathMark) e), λ p. rw (reach .1 p))
+      (λ e. reach .0 (not-false (mayLack tb n pathGap) e), λ p. rw (reach .1 p))
 
   -- ---- ground 6
 
-  sure : (n k : ℕ) → n < nodes tb → k < pathMark → (not (mayLack tb n k) ≡ true) ↔ SurelyWritten tb n k
+  sure : (n k : ℕ) → n < nodes tb → k < pathGap → (not (mayLack tb n k) ≡ true) ↔ SurelyWritten tb n k
   sure n k h l = let w = written-iff tb (edges tb g) n k h l in
       (λ e. w .0 (not-true (mayLack tb n k) e), λ s. rw (w .1 s))
 

@@ -106,8 +106,8 @@ module _ (tb : Table) (s : State) (t : ℕ) (d : Direction) (c : ℕ) where
   answers-rest i top e l used =
       first-rest (answers tb s t d c) i maxThreads e (λ k j. only-waiting tb s t d c k (rw (free-from s top used k (omega arith))))
 
-  pub nobody-is : (u top : ℕ) → first (answers tb s t d c) u ≡ u → top ≤ u → UsedBelow s top → Nobody ≡ partnerOf tb s t d c
-  nobody-is u top past h k = none-answers tb s t d c (answers-rest u top past h k)
+  pub nobody-is : (f : Partner) (u top : ℕ) → f ≡ Nobody → first (answers tb s t d c) u ≡ u → top ≤ u → UsedBelow s top → f ≡ partnerOf tb s t d c
+  nobody-is f u top e past h k = e ∙ none-answers tb s t d c (answers-rest u top past h k)
 
   -- all threads were tried
   pub none-is : (f : Partner) (u : ℕ) → f ≡ Nobody → first (answers tb s t d c) u ≡ u → maxThreads ≤ u → u ≤ maxThreads → f ≡ partnerOf tb s t d c

@@ -1,11 +1,10 @@
 -- One law for each way out of the functions that read offers and branches. Assumes nothing.
 use Prim.Native.Nat.{ℕ, _+_}
-use native.Mathlib.Omega.{arith}
 use mathlib.Core.Path.{_≡_, sym, _∙_}
 use mathlib.Core.Bool.{Bool, true, false, _&&_}
 use mathlib.Core.List.{List}
 use lib.Dec.{eqb}
-use borrow.Author.Tests.{eq-eqb, ne-eqb, eqb-true}
+use borrow.Author.Tests.{eq-eqb, ne-eqb}
 use Rattle.numbers.specs.Rows.{at}
 use Rattle.numbers.specs.Search.Laws.{caseB}
 use Rattle.table.specs.Fields as Field
@@ -14,9 +13,8 @@ use Rattle.table.specs.Layout.{branchCount, start}
 use Rattle.table.specs.declared.Part.the-variants.{Branches}
 use Rattle.state.specs.State.{State, standsAt, slotOf}
 use Rattle.rules.specs.Program.{fitting, branchAt, actOf, printedGuard, guardHolds, same}
-use Rattle.rules.specs.Offers.{meets?, offersAt}
+use Rattle.rules.specs.Offers.{offersAt}
 use Rattle.rules.specs.declared.Direction.{Direction}
-use Rattle.rules.specs.declared.Direction.the-variants.{Out, In}
 use Rattle.rules.specs.declared.Act.{Act}
 use Rattle.rules.specs.declared.Act.the-variants.{Meeting}
 use Rattle.offers.specs.Offer.{offerOf, offerOn}
@@ -56,29 +54,6 @@ pub ruleset offering = (offers-nothing, offers-elsewhere, offers-shut, offers-op
 module _ (d e : Direction) where
   pub same-arm : (x y : Direction) (r : Bool) → d ≡ x → e ≡ y → r ≡ same x y → r ≡ same d e
   same-arm x y r f g h = rw (f, g) h
-
--- ---- the code of a branch's act
-
-module _ (tb : Table) (r k : ℕ) (d : Direction) (e : k ≡ at tb r Field.action) where
-  pub meets-out : d ≡ Out → eqb k 1 ≡ meets? (actOf tb r) d
-  unfolding actOf meets? same
-  meets-out f =
-      rw (f, ← e)
-      (caseB (eqb k 1) (λ a. rw a) (λ a. rw a
-      (caseB (eqb k 2) (λ b. rw b) (λ b. rw b
-      (caseB (eqb k 3) (λ h. rw h) (λ h. rw h
-      (caseB (eqb k 4) (λ g. rw g) (λ g. rw g
-      (caseB (eqb k 0) (λ z. rw z) (λ z. rw z))))))))))
-
-  pub meets-in : d ≡ In → eqb k 2 ≡ meets? (actOf tb r) d
-  unfolding actOf meets? same
-  meets-in f =
-      rw (f, ← e)
-      (caseB (eqb k 1) (λ a. let q : eqb k 2 ≡ false = ne-eqb k 2 (λ j. absurd (omega (arith, eqb-true k 1 a))) in rw (a, q)) (λ a. rw a
-      (caseB (eqb k 2) (λ b. rw b) (λ b. rw b
-      (caseB (eqb k 3) (λ h. rw h) (λ h. rw h
-      (caseB (eqb k 4) (λ g. rw g) (λ g. rw g
-      (caseB (eqb k 0) (λ z. rw z) (λ z. rw z))))))))))
 
 -- ---- what a branch is to a search: v is what it offers
 

@@ -73,18 +73,6 @@ fn is_same(d: Direction, e: Direction) -> bool
     }
 }
 
-// Whether the branch in a row is a meeting of direction d.
-pub fn is_meeting(table: &[u8], index: &[u32], row: usize, d: Direction) -> bool
-    requires { ⌜ Indexed (tableOf (now table)) (now index) ⌝ }
-    ensures { λ r. ⌜ r ≡ meets? (actOf (tableOf (now (table .entry))) row) d ⌝ }
-{
-    let code = table::cell_of(table, index, row, field::ACTION);
-    match d {
-        Direction::Out => code == 1,
-        Direction::In => code == 2,
-    }
-}
-
 // What a branch is to a search for an offer: it offers what is looked for, it offers what the asker itself offers on the channel, or neither.
 enum Seen {
     Answers,
@@ -245,24 +233,28 @@ pub fn find_partner(
     }
     let limit = at_most_all(state, top);
     let nodes = table::node_row_of(table, index);
+    let mut found = Partner::Nobody;
     let mut u = next_waiting(state, 0, limit);
-    while u < limit {
+    'threads: while u < limit {
         let n = branches_asked(table, index, nodes, state, t, u);
         let from = first_row(table, index, nodes, state, u, n);
         let mut competes = false;
         for i in 0..n {
             match seen_in(table, index, from + i as usize, state, u, d, c) {
-                Seen::Answers => return Partner::At(u, i),
+                Seen::Answers => {
+                    found = Partner::At(u, i);
+                    break 'threads;
+                }
                 Seen::Competes => competes = true,
                 Seen::Neither => {}
             }
         }
         if competes {
-            return Partner::Nobody;
+            break 'threads;
         }
         u = next_waiting(state, u + 1, limit);
     }
-    Partner::Nobody
+    found
 }
 
 // Whether thread u offers d on channel c by its branch i.

@@ -11,15 +11,15 @@ use Rattle.table.specs.Table.{Table, nodeRow, branchRow, parameters}
 use Rattle.table.specs.Layout.{nodeOf}
 use Rattle.table.specs.Roles.{operand, operandRole, reads}
 use Rattle.table.specs.declared.Role.{Role}
-use Rattle.flow.specs.Flow.{Marks, flow, marked, mayLack, argumentWritten, callWritten, operandWritten, rowWritten, readsUnwritten, unreachable}
+use Rattle.flow.specs.Flow.{Gaps, flow, hasGap, mayLack, argumentWritten, callWritten, operandWritten, rowWritten, readsUnwritten, unreachable}
 
--- what is marked in marks ms, which are those of the flow
-module _ (tb : Table) (ms : Marks) (e : ms ≡ flow tb) where
-  lacks : (n k : ℕ) (t : Bool) → t ≡ marked ms n k → t ≡ mayLack tb n k
+-- what is hasGap in gaps ms, which are those of the flow
+module _ (tb : Table) (ms : Gaps) (e : ms ≡ flow tb) where
+  lacks : (n k : ℕ) (t : Bool) → t ≡ hasGap ms n k → t ≡ mayLack tb n k
   unfolding mayLack
   lacks n k t f = f ∙ rw e
 
-  module _ (r n k x : ℕ) (t : Bool) (f : t ≡ marked ms n x) where
+  module _ (r n k x : ℕ) (t : Bool) (f : t ≡ hasGap ms n x) where
     pub argument-is : x ≡ at tb r (Field.arguments + k) → not t ≡ argumentWritten tb r n k
     unfolding argumentWritten
     argument-is g = rw (lacks n x t f, g)
@@ -28,7 +28,7 @@ module _ (tb : Table) (ms : Marks) (e : ms ≡ flow tb) where
     unfolding operandWritten
     operand-read a u g h i j = rw (← g, ← h, i, lacks n x t f, j)
 
-  pub node-reached : (r a n : ℕ) (t : Bool) → a ≡ at tb r Field.kind → a ≡ 5 → n ≡ r - nodeRow tb → t ≡ marked ms n 16 → not t ≡ unreachable tb r
+  pub node-reached : (r a n : ℕ) (t : Bool) → a ≡ at tb r Field.kind → a ≡ 5 → n ≡ r - nodeRow tb → t ≡ hasGap ms n 16 → not t ≡ unreachable tb r
   unfolding unreachable
   node-reached r a n t f g h i = rw (← f, g, lacks n 16 t i, h)
 

@@ -289,8 +289,8 @@ pub fn profile(table: &[u8]) -> Profiled
         return Profiled::WrongLength;
     }
     let mut index = [0u32; table::INDEX];
-    let mut marks = [0u32; loader::MARKED];
-    if loader::accept(table, &mut index, &mut marks) {
+    let mut gaps = [0u32; loader::GAPS];
+    if loader::accept(table, &mut index, &mut gaps) {
         return judge(table, &index);
     }
     Profiled::WrongTable

@@ -1,5 +1,5 @@
--- When the check of a table gives each of its answers, in document 02's words. Of buffers of bytes, whatever their length. Nodes are counted over the whole
--- file. Assumes nothing.
+-- When the check of a table gives each of its answers, in document 02's words. Of buffers of bytes, whatever their length. Ground 9 is said as the writer's law
+-- says it, by the files that load to the table. Nodes are counted over the whole file. Assumes nothing.
 use Prim.Native.Nat.{ℕ, _≤_, _<_}
 use native.Mathlib.Omega.{arith}
 use mathlib.Core.Path.{_≡_, refl}
@@ -7,15 +7,17 @@ use mathlib.Core.Bool.{true, false}
 use mathlib.Core.List.{List}
 use mathlib.Core.Logic.{_⊎_, inl, inr, ⊎-elim, _≢_, _↔_}
 use lib.Dec.{ltb, leb, eqb}
-use lib.ListN.{length, getD}
+use lib.ListN.{length}
 use borrow.Author.Tests.{ltb-false, leb-true, leb-false, le-leb, lt-leb, eqb-true, eqb-false, eq-eqb, ne-eqb}
 use Rattle.numbers.specs.Rows.{at}
 use Rattle.numbers.specs.Search.Laws.{caseB, contra, every-fails, some-elim, some-intro}
 use Rattle.numbers.specs.Tests.{parts}
+use Rattle.text.specs.Text.Characters.{Characters}
 use Rattle.table.specs.Fields as Field
 use Rattle.table.specs.Table.{Table, tableLength, tableOf, nodes}
 use Rattle.table.specs.Layout.{branchCount, definitionOf}
 use Rattle.loader.specs.Load.{accepted}
+use Rattle.writer_laws.specs.Writing.{FileOf, accepted-of, refused-of}
 use Rattle.state.specs.State.{maxThreads}
 use Rattle.rules.specs.Program.{kindOf, callee, branchAt}
 use Rattle.profile.specs.Profile.{isSpawn, nodeSpawns, spawnsIn, hasSpawn, callAllowed, nodeAllowed, callsAllowed, definitionBound, withinRows, profileOf, profileCall}
@@ -97,72 +99,81 @@ module _ (tb : Table) where
 
 -- ---- the answers
 
-module _ (table : List ℕ) where
+-- some file loads to the table
+abbrev pub IsTable : List ℕ → Type 0
+IsTable table = (file : List ℕ) × FileOf table file
+
+-- when each answer is due. A table to which a file loads has the right length
+unfoldable pub Due : List ℕ → Profiled → Type 0
+Due table WrongLength = length table ≢ tableLength
+Due table WrongTable = (length table ≡ tableLength) × ((file : List ℕ) → ¬ FileOf table file)
+Due table ForbiddenCall = IsTable table × Forbidden (tableOf table)
+Due table ManyThreads = IsTable table × Permitted (tableOf table) × (maxThreads < definitionBound (tableOf table) 0)
+Due table (Passes n) = IsTable table × Permitted (tableOf table) × (n ≡ definitionBound (tableOf table) 0) × (n ≤ maxThreads)
+
+-- of a table that is bytes, as a slice is
+module _ (table : List ℕ) (fit : Characters table) where
   abbrev tb : Table
   tb = tableOf table
 
-  -- when each answer is due. A table that is accepted has the right length
-  unfoldable pub Due : Profiled → Type 0
-  Due WrongLength = length table ≢ tableLength
-  Due WrongTable = (length table ≡ tableLength) × (accepted table ≡ false)
-  Due ForbiddenCall = (accepted table ≡ true) × Forbidden (tableOf table)
-  Due ManyThreads = (accepted table ≡ true) × Permitted (tableOf table) × (maxThreads < definitionBound (tableOf table) 0)
-  Due (Passes n) = (accepted table ≡ true) × Permitted (tableOf table) × (n ≡ definitionBound (tableOf table) 0) × (n ≤ maxThreads)
-
-  answer-due : Due (profileCall table)
+  answer-due : Due table (profileCall table)
   unfolding Due profileCall profileOf withinRows
   answer-due =
       caseB (eqb (length table) tableLength)
       (λ e. caseB (accepted table)
-      (λ y. caseB (callsAllowed tb)
+      (λ y. let f = accepted-of table fit .0 y in caseB (callsAllowed tb)
       (λ c. caseB (leb (definitionBound tb 0) maxThreads)
-      (λ b. rw (e, y, c, b) (y, allowed-iff tb .0 c, refl, leb-true _ maxThreads b))
-      (λ b. rw (e, y, c, b) (y, allowed-iff tb .0 c, leb-false _ maxThreads b)))
-      (λ c. rw (e, y, c) (y, forbidden-iff tb .0 c)))
-      (λ y. rw (e, y) (eqb-true (length table) tableLength e, y)))
+      (λ b. rw (e, y, c, b) (f, allowed-iff tb .0 c, refl, leb-true _ maxThreads b))
+      (λ b. rw (e, y, c, b) (f, allowed-iff tb .0 c, leb-false _ maxThreads b)))
+      (λ c. rw (e, y, c) (f, forbidden-iff tb .0 c)))
+      (λ y. rw (e, y) (eqb-true (length table) tableLength e, refused-of table fit .0 y)))
       (λ e. rw e (eqb-false (length table) tableLength e))
+
+  pub table-accepted : IsTable table → accepted table ≡ true
+  table-accepted = accepted-of table fit .1
 
   long : accepted table ≡ true → eqb (length table) tableLength ≡ true
   unfolding accepted
   long y = search parts
 
-  due-answer : (x : Profiled) → Due x → profileCall table ≡ x
+  due-answer : (x : Profiled) → Due table x → profileCall table ≡ x
   unfolding Due profileCall profileOf withinRows
   due-answer WrongLength n = rw (ne-eqb (length table) tableLength n)
-  due-answer WrongTable (e, y) = rw (eq-eqb (length table) tableLength e, y)
-  due-answer ForbiddenCall (y, k) = rw (long y, y, forbidden-iff tb .1 k)
-  due-answer ManyThreads (y, f, b) = rw (long y, y, allowed-iff tb .1 f, lt-leb (definitionBound tb 0) maxThreads b)
-  due-answer (Passes n) (y, f, e, b) = rw (long y, y, allowed-iff tb .1 f, ← e, le-leb n maxThreads b)
+  due-answer WrongTable (e, none) = rw (eq-eqb (length table) tableLength e, refused-of table fit .1 none)
+  due-answer ForbiddenCall (f, k) = let y = table-accepted f in rw (long y, y, forbidden-iff tb .1 k)
+  due-answer ManyThreads (f, p, b) = let y = table-accepted f in rw (long y, y, allowed-iff tb .1 p, lt-leb (definitionBound tb 0) maxThreads b)
+  due-answer (Passes n) (f, p, e, b) = let y = table-accepted f in rw (long y, y, allowed-iff tb .1 p, ← e, le-leb n maxThreads b)
 
   -- each answer is given exactly when it is due; and the same, ground by ground
-  pub answer-iff : (x : Profiled) → (profileCall table ≡ x) ↔ Due x
+  pub answer-iff : (x : Profiled) → (profileCall table ≡ x) ↔ Due table x
   answer-iff x = (λ e. rw e at answer-due, due-answer x)
 
   pub length-iff : (profileCall table ≡ WrongLength) ↔ (length table ≢ tableLength)
   unfolding Due
   length-iff = answer-iff WrongLength
 
-  pub table-iff : (profileCall table ≡ WrongTable) ↔ ((length table ≡ tableLength) × (accepted table ≡ false))
+  -- 9: it has a table's length, and no file loads to it
+  pub table-iff : (profileCall table ≡ WrongTable) ↔ ((length table ≡ tableLength) × ((file : List ℕ) → ¬ FileOf table file))
   unfolding Due
   table-iff = answer-iff WrongTable
 
-  pub call-iff : (profileCall table ≡ ForbiddenCall) ↔ ((accepted table ≡ true) × Forbidden (tableOf table))
+  pub call-iff : (profileCall table ≡ ForbiddenCall) ↔ (IsTable table × Forbidden (tableOf table))
   unfolding Due
   call-iff = answer-iff ForbiddenCall
 
   pub threads-iff : (profileCall table ≡ ManyThreads)
-      ↔ ((accepted table ≡ true) × Permitted (tableOf table) × (maxThreads < definitionBound (tableOf table) 0))
+      ↔ (IsTable table × Permitted (tableOf table) × (maxThreads < definitionBound (tableOf table) 0))
   unfolding Due
   threads-iff = answer-iff ManyThreads
 
   pub passes-iff : (n : ℕ) → (profileCall table ≡ Passes n)
-      ↔ ((accepted table ≡ true) × Permitted (tableOf table) × (n ≡ definitionBound (tableOf table) 0) × (n ≤ maxThreads))
+      ↔ (IsTable table × Permitted (tableOf table) × (n ≡ definitionBound (tableOf table) 0) × (n ≤ maxThreads))
   unfolding Due
   passes-iff n = answer-iff (Passes n)
 
   -- the number that a table passes with is that of one thread at least, and of no more threads than there are rows
-  pub passes-some : ((i : ℕ) → getD table i 0 < 256) → (n : ℕ) → profileCall table ≡ Passes n → (1 ≤ n) × (n ≤ maxThreads)
-  passes-some fit n e =
-      let (y, f, q, b) = passes-iff n .0 e in
-      let a = allowed table y fit (allowed-iff tb .1 f) in
+  pub passes-some : (n : ℕ) → profileCall table ≡ Passes n → (1 ≤ n) × (n ≤ maxThreads)
+  passes-some n e =
+      let (f, p, q, b) = passes-iff n .0 e in
+      let a = allowed table (table-accepted f) fit (allowed-iff tb .1 p) in
       (omega (arith, definition-some tb a 0 (a .grants .some-definition)), b)

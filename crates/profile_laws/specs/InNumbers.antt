@@ -3,7 +3,7 @@
 use Prim.Native.Nat.{ℕ, _≤_, _<_}
 use native.Mathlib.Omega.{arith}
 use mathlib.Core.Path.{_≡_, refl, sym, ap, _∙_}
-use mathlib.Core.Bool.{true, false, cond}
+use mathlib.Core.Bool.{cond}
 use mathlib.Core.List.{List, [], _∷_}
 use mathlib.Core.Logic.{_≢_, _↔_}
 use lib.Dec.{eqb}
@@ -13,7 +13,6 @@ use mir.Syntax.{w32}
 use mir.Facts.{toZ-pos}
 use Rattle.numbers.specs.Tests.{clash}
 use Rattle.table.specs.Table.{tableLength, tableOf}
-use Rattle.loader.specs.Load.{accepted}
 use Rattle.loader_laws.specs.Yields.{loaded-small}
 use Rattle.state.specs.State.{maxThreads, view}
 use Rattle.rules.specs.Seats.{seatedRun}
@@ -27,6 +26,7 @@ use Rattle.interface.specs.Interface.{loadResult, startResult, inNumbers, runFi
 use Rattle.guarantee.specs.Claim.{Any, on, collect}
 use Rattle.guarantee.specs.SeatedClaim.{AtSeat}
 use Rattle.guarantee.specs.Exported.{left, refusal, left-so, started-so, refused-by, load-so, table-so}
+use Rattle.guarantee.specs.WriteInNumbers.{LoadsTo, IsLoaded, loads-so, accepted-loads}
 use Rattle.guarantee.specs.ReasonsInLists.{two-is}
 use Rattle.guarantee.specs.InNumbers.{leftFrom}
 use Rattle.guarantee.specs.InNumbers.Proof.{from-so, started-iff}
@@ -34,7 +34,7 @@ use Rattle.profile.specs.Profile.{definitionBound, profileCall, refusalNumber, 
 use Rattle.profile.specs.declared.Profiled.{Profiled}
 use Rattle.profile.specs.declared.Profiled.the-variants.{Passes, WrongLength, WrongTable, ForbiddenCall, ManyThreads}
 use Rattle.profile_laws.specs.Claim.{threadsIn}
-use Rattle.profile_laws.specs.Grounds.{Permitted, Forbidden, length-iff, table-iff, call-iff, threads-iff, passes-iff, passes-some}
+use Rattle.profile_laws.specs.Grounds.{Permitted, Forbidden, IsTable, length-iff, table-iff, call-iff, threads-iff, passes-iff, passes-some}
 use Rattle.profile_laws.specs.SeatedPledge.{EndsLackingAt, NeverLacksAt, seated-accepted-pledge}
 
 -- ---- what is said
@@ -42,12 +42,12 @@ use Rattle.profile_laws.specs.SeatedPledge.{EndsLackingAt, NeverLacksAt,
 -- of the bytes of a table: each refusal exactly when it is due, and no other; and the threads
 pub record ProfileInNumbers (table : List ℕ) : Type 0 where
   pub eight : (profileResult table .refusal ≡ pos 8) ↔ (length table ≢ tableLength)
-  pub nine : (profileResult table .refusal ≡ pos 9) ↔ ((length table ≡ tableLength) × (accepted table ≡ false))
-  pub sixteen : (profileResult table .refusal ≡ pos 16) ↔ ((accepted table ≡ true) × Forbidden (tableOf table))
+  pub nine : (profileResult table .refusal ≡ pos 9) ↔ ((length table ≡ tableLength) × ((file : List ℕ) → ¬ LoadsTo table file))
+  pub sixteen : (profileResult table .refusal ≡ pos 16) ↔ (IsLoaded table × Forbidden (tableOf table))
   pub seventeen : (profileResult table .refusal ≡ pos 17)
-      ↔ ((accepted table ≡ true) × Permitted (tableOf table) × (maxThreads < definitionBound (tableOf table) 0))
+      ↔ (IsLoaded table × Permitted (tableOf table) × (maxThreads < definitionBound (tableOf table) 0))
   pub zero : (profileResult table .refusal ≡ pos 0)
-      ↔ ((accepted table ≡ true) × Permitted (tableOf table) × (definitionBound (tableOf table) 0 ≤ maxThreads))
+      ↔ (IsLoaded table × Permitted (tableOf table) × (definitionBound (tableOf table) 0 ≤ maxThreads))
   pub refused : profileResult table .refusal ≢ pos 0 → profileResult table .threads ≡ pos 0
   pub threads : profileResult table .refusal ≡ pos 0
       → (profileResult table .threads ≡ pos (definitionBound (tableOf table) 0)) × (1 ≤ definitionBound (tableOf table) 0)
@@ -122,6 +122,10 @@ module _ (table : List ℕ) where
     unfolding profileResult threadsNumber
     passes-threads n e = rw e (threads-are (Passes n) (passes-some table fit n e .1))
 
+    -- C sees a file loaded to it exactly when one loads to it
+    loaded-so : IsTable table ↔ IsLoaded table
+    loaded-so = (λ (file, f). (file, loads-so table file .0 f), λ (file, f). (file, loads-so table file .1 f))
+
     refused-threads : (a : Profiled) → profileCall table ≡ a → refusalNumber a ≢ 0 → profileResult table .threads ≡ pos 0
     unfolding profileResult profileNumbers profileFields refusalNumber threadsNumber
     refused-threads (Passes n) e z = absurd (z refl)
@@ -133,17 +137,26 @@ module _ (table : List ℕ) where
     pub profile-in-numbers : ProfileInNumbers table
     unfolding answerWith refusalNumber
     profile-in-numbers = record {
-      eight = (λ e. length-iff table .0 (seen 8 e), λ d. shown WrongLength (length-iff table .1 d));
-      nine = (λ e. table-iff table .0 (seen 9 e), λ d. shown WrongTable (table-iff table .1 d));
-      sixteen = (λ e. call-iff table .0 (seen 16 e), λ d. shown ForbiddenCall (call-iff table .1 d));
-      seventeen = (λ e. threads-iff table .0 (seen 17 e), λ d. shown ManyThreads (threads-iff table .1 d));
+      eight = (λ e. length-iff table fit .0 (seen 8 e), λ d. shown WrongLength (length-iff table fit .1 d));
+      nine = (
+        λ e. let (l, none) = table-iff table fit .0 (seen 9 e) in (l, λ file f. none file (loads-so table file .1 f)),
+        λ (l, none). shown WrongTable (table-iff table fit .1 (l, λ file f. none file (loads-so table file .0 f))),
+      );
+      sixteen = (
+        λ e. let (y, k) = call-iff table fit .0 (seen 16 e) in (loaded-so .0 y, k),
+        λ (y, k). shown ForbiddenCall (call-iff table fit .1 (loaded-so .1 y, k)),
+      );
+      seventeen = (
+        λ e. let (y, f, b) = threads-iff table fit .0 (seen 17 e) in (loaded-so .0 y, f, b),
+        λ (y, f, b). shown ManyThreads (threads-iff table fit .1 (loaded-so .1 y, f, b)),
+      );
       zero = (
-        λ e. let (y, f, q, b) = passes-iff table _ .0 (seen 0 e) in (y, f, omega arith),
-        λ (y, f, b). shown (Passes (definitionBound (tableOf table) 0)) (passes-iff table _ .1 (y, f, refl, b)),
+        λ e. let (y, f, q, b) = passes-iff table fit _ .0 (seen 0 e) in (loaded-so .0 y, f, omega arith),
+        λ (y, f, b). shown (Passes (definitionBound (tableOf table) 0)) (passes-iff table fit _ .1 (loaded-so .1 y, f, refl, b)),
       );
       refused = λ n. refused-threads (profileCall table) refl (λ z. n (shown (profileCall table) refl ∙ ap pos z));
       threads = λ e. let q = seen 0 e in
-          let (y, f, is, b) = passes-iff table _ .0 q in
+          let (y, f, is, b) = passes-iff table fit _ .0 q in
           (passes-threads _ q ∙ ap pos is, omega (arith, passes-some table fit _ q .0));
     }
 
@@ -177,7 +190,7 @@ module _ (table : List ℕ) (fit : (i : ℕ) → getD table i 0 < 256) (passes :
     (state : List ℕ) (begun : startResult table state .answer .refusal ≡ pos 0) (ks : List (AtSeat Any)) where
   pledged : (n : ℕ) → profileCall table ≡ Passes n → PledgeInNumbers table state ks
   pledged n e =
-      let ok = profile-in-numbers table fit .zero .0 passes .0 in
+      let ok = accepted-loads table fit .1 (profile-in-numbers table fit .zero .0 passes .0) in
       let p = seated-accepted-pledge table fit n e state (started-iff table ok state .0 begun) ks in
       record {
         rows-found = found-so table _ ks (rw (started-so table state) (p .never-lacks));

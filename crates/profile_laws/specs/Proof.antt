@@ -37,7 +37,7 @@ use Rattle.profile.specs.Profile.{callsAllowed, definitionBound, profileCall}
 use Rattle.profile.specs.declared.Profiled.the-variants.{Passes}
 use Rattle.profile_laws.specs.Claim.{EndsLacking, NeverLacks, Pledge}
 use Rattle.profile_laws.specs.Bounds.{Allowed, allowed}
-use Rattle.profile_laws.specs.Grounds.{allowed-iff, passes-iff}
+use Rattle.profile_laws.specs.Grounds.{allowed-iff, table-accepted, passes-iff}
 use Rattle.profile_laws.specs.Weight.{weight, threads-weigh, full-weighs}
 use Rattle.profile_laws.specs.Lighter.{collected-lighter, started-weight}
 use Rattle.profile_laws.specs.Calls.{step-lighter, give-lighter, take-lighter, run-lighter, run-finds}
@@ -136,8 +136,8 @@ module _ (table : List ℕ) (ok : accepted table ≡ true) (fit : (i : ℕ) → 
 pub accepted-pledge : (table : List ℕ) → ((i : ℕ) → getD table i 0 < 256) → (n : ℕ) → profileCall table ≡ Passes n
     → (state : List ℕ) → length state ≡ stateLength → (ks : List Any) → Pledge table state n ks
 accepted-pledge table fit n e =
-    let (ok, permitted, is, few) = passes-iff table n .0 e in
-    pledged table ok fit (allowed-iff (tableOf table) .1 permitted) n is few
+    let (file, permitted, is, few) = passes-iff table fit n .0 e in
+    pledged table (table-accepted table fit file) fit (allowed-iff (tableOf table) .1 permitted) n is few
 
 -- ---- the theorem: document 02's S-3, of every file that loads and passes with n threads, whatever the two buffers had, and of every list of calls
 pub pledge : (file t : List ℕ) → loaded file t .answer ≡ Done → (n : ℕ) → profileCall (loaded file t .table) ≡ Passes n

@@ -30,7 +30,7 @@ use Rattle.guarantee.specs.SeatedProof.{seat-sound, reached-through}
 use Rattle.profile.specs.Profile.{profileCall}
 use Rattle.profile.specs.declared.Profiled.the-variants.{Passes}
 use Rattle.profile_laws.specs.Claim.{threadsIn, EndsLacking, NeverLacks}
-use Rattle.profile_laws.specs.Grounds.{passes-iff}
+use Rattle.profile_laws.specs.Grounds.{table-accepted, passes-iff}
 use Rattle.profile_laws.specs.Proof.{accepted-pledge}
 
 -- ---- what is said
@@ -105,7 +105,7 @@ module _ (table : List ℕ) (ok : accepted table ≡ true) (fit : (i : ℕ) → 
 pub seated-accepted-pledge : (table : List ℕ) → ((i : ℕ) → getD table i 0 < 256) → (n : ℕ) → profileCall table ≡ Passes n
     → (state : List ℕ) → length state ≡ stateLength → (ks : List (AtSeat Any)) → SeatedPledge table state n ks
 seated-accepted-pledge table fit n e state long ks =
-    let ok = passes-iff table n .0 e .0 in
+    let ok = table-accepted table fit (passes-iff table fit n .0 e .0) in
     let p = accepted-pledge table fit n e state long (through ks) in
     record {
       never-lacks = list-finds table ok fit (startCall table state .state) (start-sound table ok fit state (start-done table ok state long)) ks (p .never-lacks);

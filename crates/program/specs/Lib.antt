@@ -1,1 +1,1 @@
-pub mod Assigning
+pub mod HandedOn

@@ -2,12 +2,12 @@
 -- the branches are tried in their order (002: the local priority). Assumes nothing.
 use Prim.Native.Nat.{ℕ}
 use mathlib.Core.Path.{_≡_, refl, sym, _∙_}
-use mathlib.Core.Logic.{_⊎_, inl, inr}
+use mathlib.Core.Logic.{_⊎_, inl, inr, ⊎-elim}
 use mathlib.Core.Bool.{Bool, true, false}
 use mathlib.Core.List.{List, [], _∷_, _++_, map}
 use mathlib.Core.Option.{some}
 use Rattle.numbers.specs.Search.Laws.{contra}
-use Rattle.published.specs.Syntax.{Process, end, choice, invoke, Sum, nothing, branch, wait, Prefix, tau, output, input, newChannel, newThread, assign, andWait}
+use Rattle.published.specs.Syntax.{Guard, Process, end, choice, invoke, Sum, nothing, branch, wait, Prefix, tau, output, input, newChannel, newThread, assign, andWait}
 use Rattle.published.specs.Agents.{_∈_, Value, channel, Env, look, bind, holds, Commitment, gives, takes, Thread, thread, Channels, adding, Agent, agent}
 use Rattle.published.specs.Rules.{Acts, step, new, spawn, next, call, inert, send, out, recv, inn, more, Nothing, Run, last, pass}
 
@@ -106,25 +106,29 @@ acts-of def (more m) = absurd m
 
 -- ---- two of them
 
+-- [g] α, P is a branch of a sum with a true guard, and what Over says holds of the guard and the prefix of each branch in front of it
+module _ (δ : Env) (Over : Guard → Prefix → Type 0) where
+  unfoldable pub InSum : Sum → Prefix → Process → Type 0
+  InSum nothing α P = ⊥
+  InSum (branch g β R Q) α P = ((holds δ g ≡ true) × (β ≡ α) × (R ≡ P)) ⊎ (Over g β × InSum Q α P)
+  InSum (wait Q) α P = ⊥
+
+  unfoldable pub InProcess : Process → Prefix → Process → Type 0
+  InProcess end α P = ⊥
+  InProcess (choice Q) α P = InSum Q α P
+  InProcess (invoke D vs) α P = ⊥
+
+-- α, P is the first branch of t whose guard is true, which is the one that (next) leads to
+abbrev pub FirstTrue : Thread → Prefix → Process → Type 0
+FirstTrue t α P = InProcess (t .env) (λ g β. holds (t .env) g ≡ false) (t .process) α P
+
 -- what two reductions of the first thread from the agent A may differ in
-pub data Alike (A : Agent) : Agent → Agent → Type 0 where
+pub data Alike (A T T′ : Agent) : Type 0 where
   -- nothing
-  same-end : {T T′ : Agent} → T ≡ T′ → Alike A T T′
-  -- (new): the name of the channel, which is a new one
-  other-name : {T T′ : Agent} (t : Thread) (B : List Thread) (c : ℕ) (P : Process) (ĉ ĉ′ : ℕ) → A .threads ≡ t ∷ B
-      → A .channels ĉ ≡ false → A .channels ĉ′ ≡ false
-      → T ≡ agent (adding (A .channels) ĉ) (thread [] (bind (t .env) c (channel ĉ)) P ∷ B)
-      → T′ ≡ agent (adding (A .channels) ĉ′) (thread [] (bind (t .env) c (channel ĉ′)) P ∷ B) → Alike A T T′
-  -- (send): which input of the neighbour u on the channel is met. The value w that is given is the same
-  other-input : {T T′ : Agent} (t u : Thread) (C : List Thread) (P : Process) (ĉ x x′ : ℕ) (R R′ : Process) (w : Value) → A .threads ≡ t ∷ u ∷ C
-      → takes ĉ x R ∈ u .commitments → takes ĉ x′ R′ ∈ u .commitments
-      → T ≡ agent (A .channels) (thread [] (t .env) P ∷ thread [] (bind (u .env) x w) R ∷ C)
-      → T′ ≡ agent (A .channels) (thread [] (t .env) P ∷ thread [] (bind (u .env) x′ w) R′ ∷ C) → Alike A T T′
-  -- (recv): which output of the neighbour u on the channel is met, and so what is received
-  other-output : {T T′ : Agent} (t u : Thread) (C : List Thread) (P : Process) (ĉ x v v′ : ℕ) (R R′ : Process) (w w′ : Value) → A .threads ≡ t ∷ u ∷ C
-      → gives ĉ v R ∈ u .commitments → gives ĉ v′ R′ ∈ u .commitments → look (u .env) v ≡ some w → look (u .env) v′ ≡ some w′
-      → T ≡ agent (A .channels) (thread [] (bind (t .env) x w) P ∷ thread [] (u .env) R ∷ C)
-      → T′ ≡ agent (A .channels) (thread [] (bind (t .env) x w′) P ∷ thread [] (u .env) R′ ∷ C) → Alike A T T′
+  same-end : T ≡ T′ → Alike A T T′
+  -- what the action of one branch leaves open: (new) the name of the channel, (send) and (recv) which commitment of the neighbour on the channel is met
+  same-branch : (t : Thread) (B : List Thread) (α : Prefix) (P : Process) → A .threads ≡ t ∷ B → FirstTrue t α P
+      → ByAction (A .channels) (t .env) B α P T → ByAction (A .channels) (t .env) B α P T′ → Alike A T T′
 
 pub same-channel : (δ : Env) (c ĉ ĉ′ : ℕ) → look δ c ≡ some (channel ĉ) → look δ c ≡ some (channel ĉ′) → ĉ ≡ ĉ′
 same-channel δ c ĉ ĉ′ e f = let q : some (channel ĉ) ≡ some (channel ĉ′) = sym e ∙ f in cc
@@ -132,36 +136,8 @@ same-channel δ c ĉ ĉ′ e f = let q : some (channel ĉ) ≡ some (channel ĉ�
 pub same-value : (δ : Env) (v : ℕ) (w w′ : Value) → look δ v ≡ some w → look δ v ≡ some w′ → w ≡ w′
 same-value δ v w w′ e f = let q : some w ≡ some w′ = sym e ∙ f in cc
 
-module _ (Δ : Channels) (Γ : List Commitment) (δ : Env) (S : Process) where
-  -- the agent before
-  abbrev before : List Thread → Agent
-  before B = agent Δ (thread Γ δ S ∷ B)
-
-  sends-alike : (B : List Thread) (c v : ℕ) (P : Process) (T T′ : Agent) → Sends Δ δ B c v P T → Sends Δ δ B c v P T′ → Alike (before B) T T′
-  unfolding Sends
-  sends-alike [] c v P T T′ s s′ = absurd s
-  sends-alike (u ∷ C) c v P T T′ (ĉ, x, R, w, e, i, f, q) (ĉ′, x′, R′, w′, e′, i′, f′, q′) =
-      let z : ĉ′ ≡ ĉ = same-channel δ c ĉ′ ĉ e′ e in
-      let y : w′ ≡ w = same-value δ v w′ w f′ f in
-      other-input (thread Γ δ S) u C P ĉ x x′ R R′ w refl i (rw z at i′) q (rw y at q′)
-
-  receives-alike : (B : List Thread) (c x : ℕ) (P : Process) (T T′ : Agent) → Receives Δ δ B c x P T → Receives Δ δ B c x P T′ → Alike (before B) T T′
-  unfolding Receives
-  receives-alike [] c x P T T′ s s′ = absurd s
-  receives-alike (u ∷ C) c x P T T′ (ĉ, v, R, w, e, i, f, q) (ĉ′, v′, R′, w′, e′, i′, f′, q′) =
-      let z : ĉ′ ≡ ĉ = same-channel δ c ĉ′ ĉ e′ e in
-      other-output (thread Γ δ S) u C P ĉ x v v′ R R′ w w′ refl i (rw z at i′) f f′ q q′
-
+module _ (Δ : Channels) (Γ : List Commitment) (δ : Env) where
   module _ (B : List Thread) where
-    action-alike : (α : Prefix) (P : Process) (T T′ : Agent) → ByAction Δ δ B α P T → ByAction Δ δ B α P T′ → Alike (before B) T T′
-    unfolding ByAction
-    action-alike tau P T T′ e e′ = same-end (e ∙ sym e′)
-    action-alike (output c v) P T T′ s s′ = sends-alike B c v P T T′ s s′
-    action-alike (input c x) P T T′ s s′ = receives-alike B c x P T T′ s s′
-    action-alike (newChannel c) P T T′ (ĉ, f, e) (ĉ′, f′, e′) = other-name (thread Γ δ S) B c P ĉ ĉ′ refl f f′ e e′
-    action-alike (newThread R) P T T′ e e′ = same-end (e ∙ sym e′)
-    action-alike (assign x e) P T T′ a a′ = absurd a
-
     commitment-same : (α : Prefix) (P : Process) (Q : Sum) (T T′ : Agent) → ByCommitment Δ Γ δ B α P Q T → ByCommitment Δ Γ δ B α P Q T′ → T ≡ T′
     unfolding ByCommitment
     commitment-same tau P Q T T′ a a′ = absurd a
@@ -185,7 +161,7 @@ module _ (Δ : Channels) (Γ : List Commitment) (δ : Env) (S : Process) where
   receives-only (u ∷ C) c x ĉ′ P T (ĉ, v, R, w, e, i, g, q) e′ f = let z : ĉ ≡ ĉ′ = same-channel δ c ĉ ĉ′ e e′ in f u (inl refl) v R (rw z at i)
 
   module _ (B : List Thread) where
-    not-both : (α : Prefix) (P : Process) (Q : Sum) (T T′ : Agent) → ByAction Δ δ B α P T → ByCommitment Δ Γ δ B α P Q T′ → ⊥
+    pub not-both : (α : Prefix) (P : Process) (Q : Sum) (T T′ : Agent) → ByAction Δ δ B α P T → ByCommitment Δ Γ δ B α P Q T′ → ⊥
     unfolding ByAction ByCommitment
     not-both tau P Q T T′ a k = k
     not-both (output c v) P Q T T′ a (ĉ, e, f, q) = sends-only B c v ĉ P T a e f
@@ -194,39 +170,47 @@ module _ (Δ : Channels) (Γ : List Commitment) (δ : Env) (S : Process) where
     not-both (newThread R) P Q T T′ a k = k
     not-both (assign x e) P Q T T′ a k = k
 
-    prefix-alike : (k k′ : Bool) (α : Prefix) (P : Process) (Q : Sum) (T T′ : Agent) → ByPrefix Δ Γ δ B k α P Q T → ByPrefix Δ Γ δ B k′ α P Q T′
-        → Alike (before B) T T′
-    unfolding ByPrefix
-    prefix-alike false false α P Q T T′ a a′ = action-alike B α P T T′ a a′
-    prefix-alike false true α P Q T T′ a a′ = absurd (not-both α P Q T T′ a a′)
-    prefix-alike true false α P Q T T′ a a′ = absurd (not-both α P Q T′ T a′ a)
-    prefix-alike true true α P Q T T′ a a′ = same-end (commitment-same B α P Q T T′ a a′)
+    -- both are the action of one branch of the process S
+    abbrev OfBranch : Process → Agent → Agent → Type 0
+    OfBranch S T T′ =
+        (α : Prefix) × (P : Process) × InProcess δ (λ g β. holds δ g ≡ false) S α P × ByAction Δ δ B α P T × ByAction Δ δ B α P T′
 
-    sum-alike : (k k′ : Bool) (Q : Sum) (T T′ : Agent) → BySum Δ Γ δ B k Q T → BySum Δ Γ δ B k′ Q T′ → Alike (before B) T T′
-    unfolding BySum
+    prefix-alike : (g : Guard) → holds δ g ≡ true → (k k′ : Bool) (α : Prefix) (P : Process) (Q : Sum) (T T′ : Agent)
+        → ByPrefix Δ Γ δ B k α P Q T → ByPrefix Δ Γ δ B k′ α P Q T′ → (T ≡ T′) ⊎ OfBranch (choice (branch g α P Q)) T T′
+    unfolding ByPrefix InProcess InSum
+    prefix-alike g y false false α P Q T T′ a a′ = inr (α, P, inl (y, refl, refl), a, a′)
+    prefix-alike g y false true α P Q T T′ a a′ = absurd (not-both α P Q T T′ a a′)
+    prefix-alike g y true false α P Q T T′ a a′ = absurd (not-both α P Q T′ T a′ a)
+    prefix-alike g y true true α P Q T T′ a a′ = inl (commitment-same B α P Q T T′ a a′)
+
+    sum-alike : (k k′ : Bool) (Q : Sum) (T T′ : Agent) → BySum Δ Γ δ B k Q T → BySum Δ Γ δ B k′ Q T′ → (T ≡ T′) ⊎ OfBranch (choice Q) T T′
+    unfolding BySum InProcess InSum
     sum-alike k k′ nothing T T′ a b = absurd a
-    sum-alike k k′ (branch g α P Q) T T′ (inl (f, a)) (inl (f′, a′)) = sum-alike k k′ Q T T′ a a′
+    sum-alike k k′ (branch g α P Q) T T′ (inl (f, a)) (inl (f′, a′)) =
+        ⊎-elim (λ e. inl e) (λ (β, R, i, x, x′). inr (β, R, inr (f, i), x, x′)) (sum-alike k k′ Q T T′ a a′)
     sum-alike k k′ (branch g α P Q) T T′ (inl (f, a)) (inr (f′, a′)) = contra f′ f
     sum-alike k k′ (branch g α P Q) T T′ (inr (f, a)) (inl (f′, a′)) = contra f f′
-    sum-alike k k′ (branch g α P Q) T T′ (inr (f, a)) (inr (f′, a′)) = prefix-alike k k′ α P Q T T′ a a′
+    sum-alike k k′ (branch g α P Q) T T′ (inr (f, a)) (inr (f′, a′)) = prefix-alike g f k k′ α P Q T T′ a a′
     sum-alike k k′ (wait Q) T T′ a b = absurd a
 
-    process-alike : (def : ℕ → Process) (k k′ : Bool) (P : Process) (T T′ : Agent) → ByProcess Δ Γ δ B def k P T → ByProcess Δ Γ δ B def k′ P T′
-        → Alike (before B) T T′
+    process-alike : (def : ℕ → Process) (k k′ : Bool) (S : Process) (T T′ : Agent) → ByProcess Δ Γ δ B def k S T → ByProcess Δ Γ δ B def k′ S T′
+        → (T ≡ T′) ⊎ OfBranch S T T′
     unfolding ByProcess
     process-alike def k k′ (choice Q) T T′ a a′ = sum-alike k k′ Q T T′ a a′
-    process-alike def false false end T T′ e e′ = same-end (e ∙ sym e′)
+    process-alike def false false end T T′ e e′ = inl (e ∙ sym e′)
     process-alike def false true end T T′ e e′ = absurd e′
     process-alike def true k′ end T T′ e e′ = absurd e
     process-alike def false false (invoke D vs) T T′ (ws, e, q) (ws′, e′, q′) =
-        let z : map some ws ≡ map some ws′ = sym e ∙ e′ in same-end ((rw z at q) ∙ sym q′)
+        let z : map some ws ≡ map some ws′ = sym e ∙ e′ in inl ((rw z at q) ∙ sym q′)
     process-alike def false true (invoke D vs) T T′ a a′ = absurd a′
     process-alike def true k′ (invoke D vs) T T′ a a′ = absurd a
 
 of-alike : (def : ℕ → Process) (Δ : Channels) (A : List Thread) (k k′ : Bool) (T T′ : Agent) → Of def Δ A k T → Of def Δ A k′ T′ → Alike (agent Δ A) T T′
 unfolding Of
 of-alike def Δ [] k k′ T T′ a a′ = absurd a
-of-alike def Δ (t ∷ B) k k′ T T′ a a′ = process-alike Δ (t .commitments) (t .env) (t .process) B def k k′ (t .process) T T′ a a′
+of-alike def Δ (t ∷ B) k k′ T T′ a a′ =
+    ⊎-elim (λ e. same-end e) (λ (α, P, i, x, x′). same-branch t B α P refl i x x′)
+    (process-alike Δ (t .commitments) (t .env) B def k k′ (t .process) T T′ a a′)
 
 -- two reductions of the first thread from one agent end in the same agent, but for the name of a new channel and the commitment that is met
 pub settled-choice : (def : ℕ → Process) {A T T′ : Agent} → Acts def Nothing A T → Acts def Nothing A T′ → Alike A T T′

@@ -3,6 +3,7 @@ pub mod Agents
 pub mod Rules
 pub mod Fired
 pub mod Stands
+pub mod Unchecked
 pub mod Enabling
 pub mod Bindings
 pub mod ProductLaws
@@ -12,5 +13,9 @@ pub mod Chain
 pub mod Cliques
 pub mod Choices
 pub mod Whole
+pub mod NoFreer
+pub mod SettledTurns
+pub mod Sole
+pub mod Collections
 pub mod Printed
 pub mod AgentExamples

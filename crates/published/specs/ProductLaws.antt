@@ -86,7 +86,7 @@ none-knows c (u ∷ A) h = let q = none-knows c A (λ t i. h t (inr i)) in rw (h
 -- ---- series of reductions
 
 module _ (R : Agent → Agent → Type 0) where
-  pub many-on : {A B C : Agent} → Many R A B → Many R B C → Many R A C
+  unfoldable pub many-on : {A B C : Agent} → Many R A B → Many R B C → Many R A C
   many-on stays q = q
   many-on (goes r p) q = goes r (many-on p q)
 

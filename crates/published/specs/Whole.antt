@@ -6,10 +6,10 @@ use mathlib.Core.Bool.{Bool, true, false}
 use mathlib.Core.List.{List, [], _∷_, map}
 use mathlib.Core.Option.{some}
 use Rattle.published.specs.Syntax.{Process, end, choice, invoke, Sum, nothing, branch, wait, Prefix, tau, output, input, newChannel, newThread, assign, waits, waiting}
-use Rattle.published.specs.Agents.{_∈_, Value, channel, Env, look, bind, Commitment, gives, takes, Thread, thread, Channels, adding, Agent, agent}
+use Rattle.published.specs.Agents.{_∈_, Value, channel, Env, look, holds, Commitment, gives, takes, Thread, thread, Channels, Agent, agent}
 use Rattle.published.specs.Rules.{Rearranged, Acts, step, new, spawn, next, call, inert, send, out, recv, inn, more, Nothing, Run, last, pass, Turn, zeroed}
 use Rattle.published.specs.Fired.{Rule, by-inert, by-call, by-step, by-new, by-spawn, by-send, by-recv, by-passing, by-assigns, by-zeros, kind, apart, Fired, fired, behind, nothing-fires, firing, Ends, ActsBy, TurnBy}
-use Rattle.published.specs.Choices.{commits, ByCommitment, ByPrefix, BySum, ByProcess, Of, acts-of}
+use Rattle.published.specs.Choices.{commits, ByAction, ByCommitment, ByPrefix, BySum, ByProcess, Of, acts-of, InProcess}
 
 -- ---- whole turns
 
@@ -40,31 +40,46 @@ pub record WholeTurn (def : ℕ → Process) (A : Agent) (t : Thread) (T : Agent
 abbrev pub Is : Agent → Channels → List Thread → Type 0
 Is T Δ A = (T .channels ≡ Δ) × Rearranged A (T .threads)
 
+-- beside the threads B: an output for which nobody is committed to receive, an input for which nobody is committed to send. Then there is (out) or (in)
+unfoldable pub Unmet : Env → List Thread → Prefix → Type 0
+Unmet δ B tau = ⊥
+Unmet δ B (output c v) =
+    (ĉ : ℕ) × (look δ c ≡ some (channel ĉ)) × ((u : Thread) → u ∈ B → (x : ℕ) (S : Process) → takes ĉ x S ∈ u .commitments → ⊥)
+Unmet δ B (input c x) =
+    (ĉ : ℕ) × (look δ c ≡ some (channel ĉ)) × ((u : Thread) → u ∈ B → (v : ℕ) (S : Process) → gives ĉ v S ∈ u .commitments → ⊥)
+Unmet δ B (newChannel c) = ⊥
+Unmet δ B (newThread R) = ⊥
+Unmet δ B (assign x e) = ⊥
+
+-- a whole turn of thread t from the agent A to the agent T, by the action of the branch α, P of t: its guard is true, and each branch in front of it is passed
+-- over, by (next) or by (out) or (in)
+pub record ByBranch (A : Agent) (t : Thread) (α : Prefix) (P : Process) (T : Agent) : Type 0 where
+  pub others : List Thread
+  pub brought : Rearranged (A .threads) (t ∷ others)
+  pub comes-to : InProcess (t .env) (λ g β. (holds (t .env) g ≡ false) ⊎ Unmet (t .env) others β) (t .process) α P
+  pub product : List Thread
+  pub action : ByAction (A .channels) (t .env) others α P (agent (T .channels) product)
+  pub put-back : Rearranged product (T .threads)
+
+-- how many branches a choice has
+unfoldable pub branches : Sum → ℕ
+branches nothing = 0
+branches (branch g α P Q) = suc (branches Q)
+branches (wait Q) = branches Q
+
 -- forNumbers says which variables of each definition are for numbers, as in `Ours`
 module _ (def : ℕ → Process) (forNumbers : ℕ → ℕ → Bool) where
   -- two ends, T and T′, of a turn of thread t from the agent A
   pub data UpTo (A : Agent) (t : Thread) (T T′ : Agent) : Type 0 where
     -- the two ends have the same channels and the same threads
-    same-end : (Δ : Channels) (B : List Thread) → Is T Δ B → Is T′ Δ B → UpTo A t T T′
-    -- (new): the name of the channel, which is a new one
-    other-name : (B : List Thread) (c : ℕ) (P : Process) (ĉ ĉ′ : ℕ) → Rearranged (A .threads) (t ∷ B) → A .channels ĉ ≡ false → A .channels ĉ′ ≡ false
-        → Is T (adding (A .channels) ĉ) (thread [] (bind (t .env) c (channel ĉ)) P ∷ B)
-        → Is T′ (adding (A .channels) ĉ′) (thread [] (bind (t .env) c (channel ĉ′)) P ∷ B) → UpTo A t T T′
-    -- (send): which thread takes w, u or u′, and by which commitment on the channel. Each leaves all others, B or B′, as they were
-    other-taker : (u u′ : Thread) (B B′ : List Thread) (P : Process) (ĉ x x′ : ℕ) (R R′ : Process) (w : Value)
-        → Rearranged (A .threads) (t ∷ u ∷ B) → Rearranged (A .threads) (t ∷ u′ ∷ B′) → takes ĉ x R ∈ u .commitments → takes ĉ x′ R′ ∈ u′ .commitments
-        → Is T (A .channels) (thread [] (t .env) P ∷ thread [] (bind (u .env) x w) R ∷ B)
-        → Is T′ (A .channels) (thread [] (t .env) P ∷ thread [] (bind (u′ .env) x′ w) R′ ∷ B′) → UpTo A t T T′
-    -- (recv): which thread gives, and by which commitment on the channel, and so what is received
-    other-giver : (u u′ : Thread) (B B′ : List Thread) (P : Process) (ĉ x v v′ : ℕ) (R R′ : Process) (w w′ : Value)
-        → Rearranged (A .threads) (t ∷ u ∷ B) → Rearranged (A .threads) (t ∷ u′ ∷ B′) → gives ĉ v R ∈ u .commitments → gives ĉ v′ R′ ∈ u′ .commitments
-        → look (u .env) v ≡ some w → look (u′ .env) v′ ≡ some w′
-        → Is T (A .channels) (thread [] (bind (t .env) x w) P ∷ thread [] (u .env) R ∷ B)
-        → Is T′ (A .channels) (thread [] (bind (t .env) x w′) P ∷ thread [] (u′ .env) R′ ∷ B′) → UpTo A t T T′
-    -- document 01 leaves a wait for a branch with a false guard too (skip): how many waits there are in Σ wait
-    other-waits : (B : List Thread) (Γ : List Commitment) (n n′ : ℕ) → Rearranged (A .threads) (t ∷ B)
+    same-end : Is T (T′ .channels) (T′ .threads) → UpTo A t T T′
+    -- what the action of one branch leaves open: (new) the name of the channel, (send) and (recv) who is met, and by which commitment on the channel
+    same-branch : (α : Prefix) (P : Process) → ByBranch A t α P T → ByBranch A t α P T′ → UpTo A t T T′
+    -- document 01 leaves a wait for a branch with a false guard too (skip): where no branch acts and a whole turn comes to Σ wait, there is one for each branch
+    other-waits : (B : List Thread) (Γ : List Commitment) (Q : Sum) (n : ℕ) → Rearranged (A .threads) (t ∷ B) → t .process ≡ choice Q
+        → ((α : Prefix) (P : Process) (X : Agent) → ByBranch A t α P X → ⊥) → WholeTurn def A t T
         → Is T (A .channels) (thread Γ (t .env) (choice (waits (suc n))) ∷ B)
-        → Is T′ (A .channels) (thread Γ (t .env) (choice (waits (suc n′))) ∷ B) → UpTo A t T T′
+        → Is T′ (A .channels) (thread Γ (t .env) (choice (waits (branches Q))) ∷ B) → UpTo A t T T′
     -- document 01 begins numbers with 0 (zeros): what they are bound to after (call)
     from-zero : (B : List Thread) (D : ℕ) (vs : List ℕ) (ws : List Value) (δ′ : Env) → Rearranged (A .threads) (t ∷ B)
         → t .process ≡ invoke D vs → map (look (t .env)) vs ≡ map some ws → ((x : ℕ) → look δ′ x ≡ zeroed (forNumbers D x) (look (map some ws) x))

@@ -1,18 +1,18 @@
--- A collection is one use of (stuck), with the threads that it takes as the clique, and then uses of (reclaim). No rule of document 01's own is needed. Assumes
--- nothing but what the table grants.
+-- A collection is one use of (stuck), with the threads that it takes as the clique, and then uses of (reclaim), one for each channel that it frees. No rule of
+-- document 01's own is needed. Assumes nothing but what the table grants.
 use Prim.Native.Nat.{ℕ, suc, _<_}
 use native.Mathlib.Omega.{arith}
 use mathlib.Core.Path.{_≡_, refl, sym, _∙_, ap}
 use mathlib.Core.Logic.{inl, inr, ⊎-elim, _↔_}
-use mathlib.Core.Bool.{Bool, true, false, _&&_, cond}
+use mathlib.Core.Bool.{Bool, true, false, not, _&&_, cond}
 use mathlib.Core.List.{List, [], _∷_, _++_}
 use lib.ListN.{length, getD}
 use borrow.Author.Tests.{ltb-true}
 use Rattle.numbers.specs.Search.{tabulate}
 use Rattle.numbers.specs.Search.Laws.{caseB, contra, getD-tabulate, length-tabulate}
 use Rattle.table.specs.Table.{Table, ports}
-use Rattle.state.specs.State.{State, maxThreads, maxChannels, thread, inUse, isWaiting, typeIn, withThreads}
-use Rattle.rules.specs.Holding.{holds}
+use Rattle.state.specs.State.{State, maxThreads, maxChannels, thread, inUse, isWaiting, typeIn, withThreads, withChannels}
+use Rattle.rules.specs.Holding.{holds, settled}
 use Rattle.rules.specs.Start.{freeRow}
 use Rattle.rules.specs.Offers.{offers}
 use Rattle.rules.specs.declared.Direction.{Direction}
@@ -23,29 +23,34 @@ use Rattle.marking.specs.Enabled as Collector
 use Rattle.marking.specs.Enabled.{nobody, is-ready, by-bench, by-thread}
 use Rattle.collector.specs.Collect.{taken, remaining, collected}
 use Rattle.collector.specs.Collect.Laws.{taken-iff, stays-enabled}
-use Rattle.published.specs.Syntax.{Process, waiting}
-use Rattle.published.specs.Agents.{_∈_, channelOf, Thread, Agent, agent, knows, globalrc, Commits}
-use Rattle.published.specs.Rules.{Rearranged, none-left, same-first, twice, Reclaims, Sticks, stuck, sticks, exchange, Many, goes, Reaches}
+use Rattle.published.specs.Syntax.{waiting}
+use Rattle.published.specs.Agents.{_∈_, channelOf, Thread, agent, knows, globalrc, Commits}
+use Rattle.published.specs.Rules.{Rearranged, none-left, same-first, twice, Sticks, stuck}
 use Rattle.published.specs.Enabling.{Enabled, Disabled}
-use Rattle.published.specs.ProductLaws.{same-order, to-front, turned-back, none-knows, reclaims-reach}
+use Rattle.published.specs.ProductLaws.{to-front, turned-back, none-knows}
+use Rattle.published.specs.Collections.{Collects}
 use Rattle.published_laws.specs.Readable.{Readable}
 use Rattle.published_laws.specs.Standing.{threadOf, threadsOf, channelsOf, agentOf}
 use Rattle.published_laws.specs.Environments.{knows-held}
 use Rattle.published_laws.specs.Products.{Bench, thread-env, row-of}
-use Rattle.published_laws.specs.Reclaims.{counted-anew}
+use Rattle.published_laws.specs.Reclaims.{freedChannels, counted-named}
 use Rattle.published_laws.specs.Commitments.{pledge-channel, commits-offers}
 use Rattle.published_laws.specs.EnabledAlike.{placeOf, waiting-waits, enabled-iff}
 
 -- ---- the threads of the rows that a test takes
 
 module _ (tb : Table) where
+  -- a row in use that the test takes, in front of threads
+  unfoldable pub takenThen : Bool → List ℕ → List Thread → List Thread
+  takenThen y row A = cond (inUse row && y) (threadOf tb row ∷ A) A
+
   unfoldable pub takenOf : (ℕ → Bool) → List (List ℕ) → List Thread
   takenOf q [] = []
-  takenOf q (row ∷ rows) = cond (inUse row && q 0) (threadOf tb row ∷ takenOf (λ t. q (suc t)) rows) (takenOf (λ t. q (suc t)) rows)
+  takenOf q (row ∷ rows) = takenThen (q 0) row (takenOf (λ t. q (suc t)) rows)
 
   pub taken-row : (x : Thread) (q : ℕ → Bool) (rows : List (List ℕ)) → x ∈ takenOf q rows
       → (t : ℕ) × (t < length rows) × (inUse (getD rows t []) ≡ true) × (q t ≡ true) × (x ≡ threadOf tb (getD rows t []))
-  unfolding takenOf
+  unfolding takenOf takenThen
   taken-row x q [] i = absurd i
   taken-row x q (row ∷ rows) i =
       let later : x ∈ takenOf (λ t. q (suc t)) rows
@@ -61,7 +66,7 @@ module _ (tb : Table) where
   pub taken-first : (q : ℕ → Bool) (rows left : List (List ℕ)) → length left ≡ length rows
       → ((t : ℕ) → t < length rows → getD left t [] ≡ cond (q t) freeRow (getD rows t []))
       → Rearranged (threadsOf tb rows) (takenOf q rows ++ threadsOf tb left)
-  unfolding takenOf threadsOf
+  unfolding takenOf takenThen threadsOf
   taken-first q [] [] e h = none-left
   taken-first q [] (y ∷ left) e h = absurd (omega arith)
   taken-first q (row ∷ rows) [] e h = absurd (omega arith)
@@ -73,6 +78,17 @@ module _ (tb : Table) where
       (λ y. rw (u, y) (same-first r))
       (λ y. rw (u, y, u) (twice (same-first r) (turned-back (to-front (takenOf (λ t. q (suc t)) rows) (threadOf tb row) (threadsOf tb left))))))
       (λ u. caseB (q 0) (λ y. rw (u, y) r) (λ y. rw (u, y, u) r)))
+
+  taken-same : (q q′ : ℕ → Bool) (rows : List (List ℕ)) → ((t : ℕ) → t < length rows → inUse (getD rows t []) ≡ true → q t ≡ q′ t) → takenOf q rows ≡ takenOf q′ rows
+  unfolding takenOf takenThen
+  taken-same q q′ [] h = refl
+  taken-same q q′ (row ∷ rows) h =
+      let r = taken-same (λ t. q (suc t)) (λ t. q′ (suc t)) rows (λ t l u. h (suc t) (omega arith) u) in
+      caseB (inUse row) (λ u. let e : q 0 ≡ q′ 0 = h 0 (omega arith) u in rw (u, e, r)) (λ u. rw (u, r))
+
+  -- the threads of the rows in use in a state that are free in a later one
+  unfoldable pub freedThreads : State → State → List Thread
+  freedThreads s later = takenOf (λ t. not (inUse (thread later t))) (s .threads)
 
 module _ (tb : Table) (g : Granted tb) (rd : Readable tb) (s : State) (ok : Sound tb s) (b : Thread) (bn : Bench tb b) where
   -- the threads that a collection takes
@@ -150,17 +166,21 @@ module _ (tb : Table) (g : Granted tb) (rd : Readable tb) (s : State) (ok : Soun
   pub stuck-once : Sticks (agent (channelsOf s) (clique ++ leftThreads)) (agent (channelsOf s) leftThreads)
   stuck-once = stuck clique leftThreads clique-waits clique-unknown
 
-  -- after the use of (stuck) come any number of uses of (reclaim)
-  pub reclaimed-after : Many Reclaims (agent (channelsOf s) leftThreads) (agentOf tb b (collected tb s))
-  unfolding collected agentOf channelsOf
-  reclaimed-after =
-      let freed : State = withThreads s leftRows in
-      counted-anew tb freed (ok .orderly .shaped .all-channels) b bn
+  -- they are those of the rows that are freed
+  clique-freed : clique ≡ freedThreads tb s (collected tb s)
+  unfolding freedThreads collected settled withChannels
+  clique-freed =
+      taken-same tb (taken tb s) (λ t. not (inUse (thread (collected tb s) t))) (s .threads)
+      (λ t l u. let e : thread (collected tb s) t ≡ cond (taken tb s t) freeRow (thread s t) = left-row t (in-range t l) in
+      rw e (caseB (taken tb s t) (λ y. rw y refl) (λ y. rw (y, u))))
 
-  -- the whole collection, by any rules that have these
-  pub collection-reduced : (def : ℕ → Process) (More : Agent → Agent → Type 0) → Reaches def More (agentOf tb b s) (agentOf tb b (collected tb s))
-  unfolding agentOf
-  collection-reduced def More = goes (exchange split (sticks stuck-once) (same-order leftThreads)) (reclaims-reach def More reclaimed-after)
+  -- the whole collection: (stuck) takes the threads of the rows that are freed, and then (reclaim) the channels that are freed
+  pub collection-reduced : Collects (freedThreads tb s (collected tb s)) (freedChannels s (collected tb s)) (agentOf tb b s) (agentOf tb b (collected tb s))
+  unfolding agentOf collected settled withChannels channelsOf freedChannels
+  collection-reduced =
+      let x : State = withThreads s leftRows in
+      let (p, e) = counted-named tb x (ok .orderly .shaped .all-channels) b bn in
+      rw (← clique-freed) (record { parted = split; stuck-once = stuck-once; reclaimed = p; these = e })
 
   -- the threads that are taken are those that 002 calls disabled
   pub taken-disabled : (t : ℕ) → t < maxThreads → inUse (thread s t) ≡ true

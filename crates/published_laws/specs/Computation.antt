@@ -36,6 +36,7 @@ use Rattle.published.specs.Agents as Agents
 use Rattle.published.specs.Agents.{Value, refers, valueOf, Thread}
 use Rattle.published.specs.Rules.{Reduces, acts, more, stays, goes, Reaches, assigns}
 use Rattle.published.specs.Fired.{turns-reach}
+use Rattle.published.specs.Collections.{collects-reach}
 use Rattle.published.specs.ProductLaws.{many-on, stepped-reaches}
 use Rattle.published.specs.Polarity.{OnePolarity, our-proposition-2}
 use Rattle.published_laws.specs.Standing.{bodyOf, forNumbers, threadOf, threadsOf, agentOf, OurRules, OurLabels}
@@ -191,7 +192,7 @@ module _ (table : List ℕ) (ok : accepted table ≡ true) (fit : (i : ℕ) → 
         (courseOf tb n (view state) .reason) (run-done table ok fit state sb n))
 
     collected-by : Leads state (collectCall table state .state) o E o E
-    collected-by = collect-call-reduced table ok fit state sb (benchAt o E) (bench-is tb o (own-refers o h) E w) (bodyOf tb) (OurRules tb)
+    collected-by = collects-reach (bodyOf tb) (OurRules tb) (collect-call-reduced table ok fit state sb (benchAt o E) (bench-is tb o (own-refers o h) E w))
 
     -- ---- give
 

@@ -1,9 +1,9 @@
 -- The other direction of the refinement: every whole turn of a ready thread by 002's rules ends as the engine's step of that thread does, up to what 002 leaves
 -- open. Assumes nothing but what the table grants.
-use Prim.Native.Nat.{ℕ, suc, _-_, _<_}
+use Prim.Native.Nat.{ℕ, zero, suc, _+_, _-_, _<_}
 use native.Mathlib.Omega.{arith}
 use mathlib.Core.Path.{_≡_, refl, sym, _∙_, ap}
-use mathlib.Core.Logic.{inl, inr, ⊎-elim, _≢_}
+use mathlib.Core.Logic.{_⊎_, inl, inr, ⊎-elim, _≢_}
 use mathlib.Core.Bool.{true, false}
 use mathlib.Core.List.{List, [], _∷_, map}
 use mathlib.Core.Option.{some}
@@ -34,17 +34,18 @@ use Rattle.rules_laws.specs.Onward.{goneBy-ready, createdBy-ready}
 use Rattle.rules_laws.specs.Chosen.{channelBy, Open, Answering, Blocked, Creating, Spawning, Chosen, chosen}
 use Rattle.rules_laws.specs.Kept.{written-orderly}
 use Rattle.published.specs.Syntax as Syntax
-use Rattle.published.specs.Syntax.{Process, Sum, waits}
+use Rattle.published.specs.Syntax.{Process, Sum, nothing, Prefix, waits}
 use Rattle.published.specs.Agents as Agents
-use Rattle.published.specs.Agents.{_∈_, Value, look, Commitment, Thread, Channels, Agent, agent}
+use Rattle.published.specs.Agents.{_∈_, Value, look, bind, holds, Commitment, Thread, Channels, Agent, agent}
 use Rattle.published.specs.Rules.{Rearranged, same-first, twice, Many, Reclaims, Nothing}
-use Rattle.published.specs.ProductLaws.{same-order, in-rearranged, turned-back}
+use Rattle.published.specs.ProductLaws.{in-rearranged, turned-back}
 use Rattle.published.specs.Fired.{nothing-fires}
 use Rattle.published.specs.Orders.{cancelled}
-use Rattle.published.specs.Choices.{Sends, Receives, ByAction, ByCommitment, ByProcess, Of, same-channel, same-value}
-use Rattle.published.specs.Whole.{Whole, WholeTurn, Is, UpTo, same-end, other-name, other-taker, other-giver, other-waits, from-zero, whole-of}
+use Rattle.published.specs.Choices.{Sends, Receives, ByAction, ByCommitment, ByProcess, Of, InProcess, same-channel}
+use Rattle.published.specs.Whole.{Whole, WholeTurn, Is, Unmet, ByBranch, branches, UpTo, same-end, same-branch, other-waits, from-zero, whole-of}
+use Rattle.published.specs.Sole.{Sole, gives-once, takes-once}
 use Rattle.published_laws.specs.Readable.{Readable}
-use Rattle.published_laws.specs.Standing.{prefixOf, processAt, bodyOf, forNumbers, envOf, commitmentsFrom, waitingThread, readyThread, threadOf, threadsOf, channelsOf, agentOf}
+use Rattle.published_laws.specs.Standing.{prefixOf, sumBefore, processAt, bodyOf, forNumbers, envOf, commitmentsFrom, waitingThread, readyThread, threadOf, threadsOf, channelsOf, agentOf}
 use Rattle.published_laws.specs.Products.{Bench, ready-thread}
 use Rattle.published_laws.specs.Reclaims.{counted-anew}
 use Rattle.published_laws.specs.Commitments.{pledge}
@@ -54,7 +55,7 @@ use Rattle.published_laws.specs.Alone.{own-first, new-first, at-choice, 
 use Rattle.published_laws.specs.Calling.{after, values, evaluated, entered-zeros, after-thread, after-used, as-given}
 use Rattle.published_laws.specs.Together.{met-commits, given-value, family-first, mate-second, both-first}
 use Rattle.published_laws.specs.Stepping.{Allowed, Plain}
-use Rattle.published_laws.specs.PassedOver.{nextBy, acts-by, rests, ahead-of}
+use Rattle.published_laws.specs.PassedOver.{nextBy, comes-so, acts-by, none-acts, rests, ahead-of}
 
 -- ---- the branches before the one that the engine takes
 
@@ -113,18 +114,24 @@ module _ (tb : Table) (s : State) (t : ℕ) where
 
 -- ---- the ends
 
--- the moves with which 002 leaves nothing open, and to which document 01 adds nothing: an end, a call of a definition without numbers besides its parameters, a
--- wait with no guard that is false, a branch taken alone, a new thread
-unfoldable pub Settled : Table → List ℕ → Move → Type 0
-Settled tb row Ends = Unit {0}
-Settled tb row Calls = Plain tb row Calls
-Settled tb row Waits = Plain tb row Waits
-Settled tb row (Goes i) = Unit {0}
-Settled tb row (Creates i c) = ⊥
-Settled tb row (Spawns i u) = Unit {0}
-Settled tb row (Meets i u j) = ⊥
-Settled tb row LacksThread = ⊥
-Settled tb row LacksChannel = ⊥
+branch-number : (tb : Table) (q : Sum) (n i m : ℕ) → branches (sumBefore tb (processAt tb) q n i m) ≡ m + branches q
+unfolding branches sumBefore
+branch-number tb q n i zero = omega arith
+branch-number tb q n i (suc m) = omega (arith, branch-number tb q n (suc i) m)
+
+-- the moves of thread t with which 002 leaves nothing open, and to which document 01 adds nothing: an end, a call of a definition without numbers besides its
+-- parameters, a wait with no guard that is false, a branch taken alone, a new thread, and a meeting by the one commitment that there is on the channel
+module _ (tb : Table) (b : Thread) (s : State) (t : ℕ) where
+  unfoldable pub Settled : Move → Type 0
+  Settled Ends = Unit {0}
+  Settled Calls = Plain tb (thread s t) Calls
+  Settled Waits = Plain tb (thread s t) Waits
+  Settled (Goes i) = Unit {0}
+  Settled (Creates i c) = ⊥
+  Settled (Spawns i u) = Unit {0}
+  Settled (Meets i u j) = Sole (agentOf tb b s .threads) (channelBy tb s t i)
+  Settled LacksThread = ⊥
+  Settled LacksChannel = ⊥
 
 module _ (tb : Table) (g : Granted tb) (rd : Readable tb) (s : State) (o : Orderly tb s) (t : ℕ) (l : t < maxThreads) (ready : isReady (thread s t) ≡ true)
     (b : Thread) (bn : Bench tb b) (T : Agent) (h : WholeTurn (bodyOf tb) (agentOf tb b s) (readyThread tb (thread s t)) T) where
@@ -146,12 +153,15 @@ module _ (tb : Table) (g : Granted tb) (rd : Readable tb) (s : State) (o : Order
   EndsSo m = Is T (agentOf tb b (written tb s t m) .channels) (agentOf tb b (written tb s t m) .threads)
 
   as-like : (m : Move) → EndsSo m → EndsLike m
-  as-like m e = same-end (agentOf tb b (written tb s t m) .channels) (agentOf tb b (written tb s t m) .threads) e (refl, same-order _)
+  as-like m e = same-end e
 
   -- the threads beside it are those of the state
-  same-others : Rearranged (others tb g rd s o t l ready b bn) (h .others)
+  beside : (C : List Thread) → Rearranged (agentOf tb b s .threads) (readyThread tb (thread s t) ∷ C) → Rearranged (others tb g rd s o t l ready b bn) C
   unfolding agentOf
-  same-others = cancelled (readyThread tb (thread s t)) rest (h .others) (twice (turned-back (own-first tb g rd s o t l ready b bn)) (h .brought))
+  beside C p = cancelled (readyThread tb (thread s t)) rest C (twice (turned-back (own-first tb g rd s o t l ready b bn)) p)
+
+  same-others : Rearranged (others tb g rd s o t l ready b bn) (h .others)
+  same-others = beside (h .others) (h .brought)
 
   among : (x : Thread) → x ∈ h .others → x ∈ others tb g rd s o t l ready b bn
   among x i = in-rearranged x same-others i
@@ -232,11 +242,21 @@ module _ (tb : Table) (g : Granted tb) (rd : Readable tb) (s : State) (o : Order
           let row = waitingRow (thread s t) in
           own-row row (waiting-used row (waiting-waits (thread s t))) _ (rw c at (wait-thread tb g rd s o t l ready b bn))
 
+      none-goes : (α : Prefix) (P : Process) (X : Agent) → ByBranch (agentOf tb b s) (readyThread tb (thread s t)) α P X → ⊥
+      unfolding agentOf readyThread InProcess
+      none-goes α P X x =
+          let it = rw (ap (λ (y : Thread). y .process) (at-choice tb g rd s o t l ready b bn kind)) at (x .comes-to) in
+          none-acts tb g rd s o t l ready b bn (x .others) (λ y i. in-rearranged y (beside (x .others) (x .brought)) i) all _
+          (branchCount tb (standsAt (thread s t))) 0 (omega arith) α P (agent (X .channels) (x .product)) it (x .action)
+
       waits-like : EndsLike Waits
-      unfolding agentOf written withThread channelsOf readyThread
+      unfolding agentOf written withThread channelsOf readyThread branches
       waits-like =
           let (w, e, f) = by-waits in
-          other-waits (h .others) (commitmentsFrom tb (thread s t) 0 (suc n)) w n (h .brought) e (refl, resting-first)
+          let Q = sumBefore tb (processAt tb) nothing (standsAt (thread s t)) 0 (branchCount tb (standsAt (thread s t))) in
+          let all-of-them : branches Q ≡ suc n = omega (arith, branch-number tb nothing (standsAt (thread s t)) 0 (branchCount tb (standsAt (thread s t))), c) in
+          other-waits (h .others) (commitmentsFrom tb (thread s t) 0 (suc n)) Q w (h .brought)
+          (ap (λ (x : Thread). x .process) (at-choice tb g rd s o t l ready b bn kind)) none-goes h e (refl, rw all-of-them resting-first)
 
       -- with no guard that is false
       waits-so : Plain tb (thread s t) Waits → EndsSo Waits
@@ -261,6 +281,37 @@ module _ (tb : Table) (g : Granted tb) (rd : Readable tb) (s : State) (o : Order
           rw (x .does) at (acts-by tb g rd s o t l ready b bn (h .others) among k (x .branch-in) before-it (x .passes)
           (λ Γ Q U y. f Γ Q U (rw (x .does) at y)) (agent (T .channels) (h .product)) w)
 
+      -- the turn is one by that branch
+      abbrev ByIts : Act → Agent → Type 0
+      ByIts a X =
+          ByBranch (agentOf tb b s) (readyThread tb (thread s t))
+          (prefixOf tb (processAt tb (childOf tb (standsAt (thread s t)) (branchAt tb (standsAt (thread s t)) k))) (branchAt tb (standsAt (thread s t)) k) a)
+          (nextBy tb g rd s o t l ready b bn k) X
+
+      comes-there : (a : Act) → Open tb s t k a → (B : List Thread) → ((x : Thread) → x ∈ B → x ∈ others tb g rd s o t l ready b bn)
+          → InProcess (envOf tb (thread s t)) (λ g β. (holds (envOf tb (thread s t)) g ≡ false) ⊎ Unmet (envOf tb (thread s t)) B β)
+          (readyThread tb (thread s t) .process)
+          (prefixOf tb (processAt tb (childOf tb (standsAt (thread s t)) (branchAt tb (standsAt (thread s t)) k))) (branchAt tb (standsAt (thread s t)) k) a)
+          (nextBy tb g rd s o t l ready b bn k)
+      comes-there a x B f =
+          rw (at-choice tb g rd s o t l ready b bn kind)
+          (rw (x .does) at (comes-so tb g rd s o t l ready b bn B f k (x .branch-in) before-it (x .passes)))
+
+      its-turn : (a : Act) → Open tb s t k a
+          → ((Γ : List Commitment) (Q : Sum) (U : Agent) → ByCommitment (channelsOf s) Γ (envOf tb (thread s t)) (h .others)
+          (prefixOf tb (processAt tb (childOf tb (standsAt (thread s t)) (branchAt tb (standsAt (thread s t)) k))) (branchAt tb (standsAt (thread s t)) k) a)
+          (nextBy tb g rd s o t l ready b bn k) Q U → ⊥)
+          → ByIts a T
+      unfolding agentOf readyThread
+      its-turn a x f = record {
+        others = h .others;
+        brought = h .brought;
+        comes-to = comes-there a x (h .others) among;
+        product = h .product;
+        action = by-action a x f;
+        put-back = h .put-back;
+      }
+
       -- (step)
       tau-so : Open tb s t k Tau → EndsSo (Goes k)
       unfolding ByAction ByCommitment prefixOf agentOf written withThread channelsOf
@@ -282,14 +333,16 @@ module _ (tb : Table) (g : Granted tb) (rd : Readable tb) (s : State) (o : Order
       unfolding ByAction ByCommitment prefixOf agentOf written withMark typed withThread withChannel channelsOf readyThread
       creation-like c x =
           let row = thread s t in
-          let (ĉ, f, q) = by-action New (x .takes) (λ Γ Q U y. y) in
           let free : channelsOf s c ≡ false = rw (x .untyped) in
-          other-name (h .others) (fieldA tb (branchAt tb (standsAt row) k)) (nextBy tb g rd s o t l ready b bn k) ĉ c (h .brought) f free
-          (is-end _ _ q) (
-            channels-with tb g rd s o t l ready b bn Nothing nothing-fires k kind (x .takes .branch-in) before-it c x,
-            own-row (createdBy tb row k c) (ready-used (createdBy tb row k c) (createdBy-ready tb row k c)) _
-                (created-thread tb g (typeIn s) row sound used k (x .takes .branch-in) (x .takes .does) c (x .channel-in)),
-          )
+          same-branch _ _ (its-turn New (x .takes) (λ Γ Q U y. y)) (record {
+            others = h .others;
+            brought = h .brought;
+            comes-to = comes-there New (x .takes) (h .others) among;
+            product = Agents.thread [] (bind (envOf tb row) (fieldA tb (branchAt tb (standsAt row) k)) (Agents.channel c)) (nextBy tb g rd s o t l ready b bn k) ∷ h .others;
+            action = (c, free, rw (channels-with tb g rd s o t l ready b bn Nothing nothing-fires k kind (x .takes .branch-in) before-it c x) refl);
+            put-back = own-row (createdBy tb row k c) (ready-used (createdBy tb row k c) (createdBy-ready tb row k c)) _
+                (created-thread tb g (typeIn s) row sound used k (x .takes .branch-in) (x .takes .does) c (x .channel-in));
+          })
 
       -- (spawn)
       spawn-so : (u : ℕ) → Spawning tb s t k u → EndsSo (Spawns k u)
@@ -340,6 +393,12 @@ module _ (tb : Table) (g : Granted tb) (rd : Readable tb) (s : State) (o : Order
             same-channel (envOf tb (thread s t)) (fieldA tb (branchAt tb (standsAt (thread s t)) k)) ĉ (channelBy tb s t k) q
             (channel-is tb g rd s o t l ready b bn k (x .branch-in) e does)
 
+        mate-among : (y : Thread) → y ∈ (waitingThread tb (thread s u) ∷ apart) → y ∈ others tb g rd s o t l ready b bn
+        mate-among y i = in-rearranged y mate-next i
+
+        open-as : (e : Direction) → actOf tb (branchAt tb (standsAt (thread s t)) k) ≡ Meeting e → Open tb s t k (Meeting e)
+        open-as e does = record { at-choice = kind; branch-in = x .branch-in; passes = x .passes; does = does }
+
         -- branch k gives
         module _ (does : actOf tb (branchAt tb (standsAt (thread s t)) k) ≡ Meeting Out) (does′ : actOf tb (branchAt tb (standsAt (thread s u)) j) ≡ Meeting In)
             (dir : opposite d ≡ In) where
@@ -347,31 +406,31 @@ module _ (tb : Table) (g : Granted tb) (rd : Readable tb) (s : State) (o : Order
           unfolding waitingThread pledge
           mate-takes = rw dir at (met-commits tb s t u j (channelBy tb s t k) (opposite d) a)
 
-          send-like : (C : List Thread) → Rearranged (agentOf tb b s .threads) (readyThread tb (thread s t) ∷ C)
-              → Sends (channelsOf s) (envOf tb (thread s t)) C (fieldA tb (branchAt tb (standsAt (thread s t)) k)) (fieldB tb (branchAt tb (standsAt (thread s t)) k))
-              (nextBy tb g rd s o t l ready b bn k) (agent (T .channels) (h .product))
-              → EndsLike (Meets k u j)
-          unfolding Sends agentOf written withThread channelsOf readyThread waitingThread
-          send-like [] p z = absurd z
-          send-like (v ∷ C) p (ĉ, y, R, w, q, i, e, z) =
-              let (w′, has, gets) = given-value tb g rd (typeIn s) (thread s t) (thread s u) sound mate-sound used mate-used k j (x .branch-in) (a .branch-in)
+          -- the turn, and the engine's
+          gives-turn : ByIts (Meeting Out) T
+          unfolding ByCommitment prefixOf
+          gives-turn =
+              its-turn (Meeting Out) (open-as Out does)
+              (λ Γ Q U (ĉ, q, f, z). let c : ĉ ≡ channelBy tb s t k = same-as Out does ĉ q in
+              f (waitingThread tb (thread s u)) mate-there slot′ next′ (rw c mate-takes))
+
+          gives-engine : ByIts (Meeting Out) (agentOf tb b (written tb s t (Meets k u j)))
+          unfolding ByAction Sends prefixOf agentOf written withThread channelsOf readyThread waitingThread
+          gives-engine =
+              let (w, has, gets) = given-value tb g rd (typeIn s) (thread s t) (thread s u) sound mate-sound used mate-used k j (x .branch-in) (a .branch-in)
               does does′ (sym (a .is)) in
-              let c : ĉ ≡ channelBy tb s t k = same-as Out does ĉ q in
-              let f : w ≡ w′ = same-value (envOf tb (thread s t)) (fieldB tb (branchAt tb (standsAt (thread s t)) k)) w w′ e has in
               let both = rw (
                 gave-thread tb g (typeIn s) (thread s t) sound used k (x .branch-in) does (valueBy tb (thread s u) j),
-                received-thread tb g (typeIn s) (thread s u) mate-sound mate-used j (a .branch-in) does′ (valueBy tb (thread s t) k) w′ gets,
+                received-thread tb g (typeIn s) (thread s u) mate-sound mate-used j (a .branch-in) does′ (valueBy tb (thread s t) k) w gets,
               ) at (both-first tb g rd s o t l ready b bn Nothing nothing-fires k kind (x .branch-in) before-it u j d x a) in
-              other-taker v (waitingThread tb (thread s u)) C apart (nextBy tb g rd s o t l ready b bn k) (channelBy tb s t k) y slot′ R next′ w′ p two-first
-              (rw c at i) mate-takes (is-end _ _ (rw f at z)) (refl, turned-back both)
-
-          gives-like : EndsLike (Meets k u j)
-          unfolding ByAction ByCommitment prefixOf agentOf
-          gives-like =
-              send-like (h .others) (h .brought)
-              (by-action (Meeting Out) (record { at-choice = kind; branch-in = x .branch-in; passes = x .passes; does = does })
-              (λ Γ Q U (ĉ, q, f, z). let c : ĉ ≡ channelBy tb s t k = same-as Out does ĉ q in
-              f (waitingThread tb (thread s u)) mate-there slot′ next′ (rw c mate-takes)))
+              record {
+                others = waitingThread tb (thread s u) ∷ apart;
+                brought = two-first;
+                comes-to = comes-there (Meeting Out) (open-as Out does) (waitingThread tb (thread s u) ∷ apart) mate-among;
+                product = _;
+                action = (channelBy tb s t k, slot′, next′, w, channel-is tb g rd s o t l ready b bn k (x .branch-in) Out does, mate-takes, has, refl);
+                put-back = turned-back both;
+              }
 
         -- branch k receives
         module _ (does : actOf tb (branchAt tb (standsAt (thread s t)) k) ≡ Meeting In) (does′ : actOf tb (branchAt tb (standsAt (thread s u)) j) ≡ Meeting Out)
@@ -380,43 +439,53 @@ module _ (tb : Table) (g : Granted tb) (rd : Readable tb) (s : State) (o : Order
           unfolding waitingThread pledge
           mate-gives = rw dir at (met-commits tb s t u j (channelBy tb s t k) (opposite d) a)
 
-          receive-like : (C : List Thread) → Rearranged (agentOf tb b s .threads) (readyThread tb (thread s t) ∷ C)
-              → Receives (channelsOf s) (envOf tb (thread s t)) C (fieldA tb (branchAt tb (standsAt (thread s t)) k))
-              (fieldB tb (branchAt tb (standsAt (thread s t)) k)) (nextBy tb g rd s o t l ready b bn k) (agent (T .channels) (h .product))
-              → EndsLike (Meets k u j)
-          unfolding Receives agentOf written withThread channelsOf readyThread waitingThread
-          receive-like [] p z = absurd z
-          receive-like (v ∷ C) p (ĉ, y, R, w, q, i, e, z) =
-              let (w′, has, gets) = given-value tb g rd (typeIn s) (thread s u) (thread s t) mate-sound sound mate-used used j k (a .branch-in) (x .branch-in)
+          receives-turn : ByIts (Meeting In) T
+          unfolding ByCommitment prefixOf
+          receives-turn =
+              its-turn (Meeting In) (open-as In does)
+              (λ Γ Q U (ĉ, q, f, z). let c : ĉ ≡ channelBy tb s t k = same-as In does ĉ q in
+              f (waitingThread tb (thread s u)) mate-there slot′ next′ (rw c mate-gives))
+
+          receives-engine : ByIts (Meeting In) (agentOf tb b (written tb s t (Meets k u j)))
+          unfolding ByAction Receives prefixOf agentOf written withThread channelsOf readyThread waitingThread
+          receives-engine =
+              let (w, has, gets) = given-value tb g rd (typeIn s) (thread s u) (thread s t) mate-sound sound mate-used used j k (a .branch-in) (x .branch-in)
               does′ does (a .is) in
-              let c : ĉ ≡ channelBy tb s t k = same-as In does ĉ q in
               let both = rw (
-                received-thread tb g (typeIn s) (thread s t) sound used k (x .branch-in) does (valueBy tb (thread s u) j) w′ gets,
+                received-thread tb g (typeIn s) (thread s t) sound used k (x .branch-in) does (valueBy tb (thread s u) j) w gets,
                 gave-thread tb g (typeIn s) (thread s u) mate-sound mate-used j (a .branch-in) does′ (valueBy tb (thread s t) k),
               ) at (both-first tb g rd s o t l ready b bn Nothing nothing-fires k kind (x .branch-in) before-it u j d x a) in
-              other-giver v (waitingThread tb (thread s u)) C apart (nextBy tb g rd s o t l ready b bn k) (channelBy tb s t k)
-              (fieldB tb (branchAt tb (standsAt (thread s t)) k)) y slot′ R next′ w w′ p two-first (rw c at i) mate-gives e has
-              (is-end _ _ z) (refl, turned-back both)
+              record {
+                others = waitingThread tb (thread s u) ∷ apart;
+                brought = two-first;
+                comes-to = comes-there (Meeting In) (open-as In does) (waitingThread tb (thread s u) ∷ apart) mate-among;
+                product = _;
+                action = (channelBy tb s t k, slot′, next′, w, channel-is tb g rd s o t l ready b bn k (x .branch-in) In does, mate-gives, has, refl);
+                put-back = turned-back both;
+              }
 
-          receives-like : EndsLike (Meets k u j)
-          unfolding ByAction ByCommitment prefixOf agentOf
-          receives-like =
-              receive-like (h .others) (h .brought)
-              (by-action (Meeting In) (record { at-choice = kind; branch-in = x .branch-in; passes = x .passes; does = does })
-              (λ Γ Q U (ĉ, q, f, z). let c : ĉ ≡ channelBy tb s t k = same-as In does ĉ q in
-              f (waitingThread tb (thread s u)) mate-there slot′ next′ (rw c mate-gives)))
-
-        meeting-like : (e : Direction) → e ≡ d → EndsLike (Meets k u j)
-        unfolding opposite
-        meeting-like Out z = gives-like (x .does ∙ ap Meeting (sym z)) (a .does ∙ ap (λ y. Meeting (opposite y)) (sym z)) (ap opposite (sym z))
-        meeting-like In z = receives-like (x .does ∙ ap Meeting (sym z)) (a .does ∙ ap (λ y. Meeting (opposite y)) (sym z)) (ap opposite (sym z))
+        -- both are by branch k, and so up to whom is met; where there is one commitment on the channel they are the same
+        meeting-by : (e : Direction) → e ≡ d → EndsLike (Meets k u j) × (Sole (agentOf tb b s .threads) (channelBy tb s t k) → EndsSo (Meets k u j))
+        unfolding opposite prefixOf readyThread
+        meeting-by Out z =
+            let does = x .does ∙ ap Meeting (sym z) in
+            let does′ = a .does ∙ ap (λ y. Meeting (opposite y)) (sym z) in
+            let one = gives-turn does does′ (ap opposite (sym z)) in
+            let other = gives-engine does does′ (ap opposite (sym z)) in
+            (same-branch _ _ one other, λ sole. gives-once _ _ _ _ _ _ _ (channel-is tb g rd s o t l ready b bn k (x .branch-in) Out does) sole _ one other)
+        meeting-by In z =
+            let does = x .does ∙ ap Meeting (sym z) in
+            let does′ = a .does ∙ ap (λ y. Meeting (opposite y)) (sym z) in
+            let one = receives-turn does does′ (ap opposite (sym z)) in
+            let other = receives-engine does does′ (ap opposite (sym z)) in
+            (same-branch _ _ one other, λ sole. takes-once _ _ _ _ _ _ _ (channel-is tb g rd s o t l ready b bn k (x .branch-in) In does) sole _ one other)
 
   -- ---- by the move that the engine makes
 
   some-branch : kindOf tb (standsAt (thread s t)) ≡ 1 → branchCount tb (standsAt (thread s t)) ≡ suc (branchCount tb (standsAt (thread s t)) - 1)
   some-branch kind = let x = rd .some-branch (standsAt (thread s t)) (sound .node-in used) kind in omega arith
 
-  settled-so : (m : Move) → Chosen tb s t m → Before tb s t m → Settled tb (thread s t) m → EndsSo m
+  settled-so : (m : Move) → Chosen tb s t m → Before tb s t m → Settled tb b s t m → EndsSo m
   unfolding Chosen Before Settled
   settled-so Ends (m, n) p z = ends-so m n
   settled-so Calls c p z = calls-so c z
@@ -425,7 +494,7 @@ module _ (tb : Table) (g : Granted tb) (rd : Readable tb) (s : State) (o : Order
   settled-so (Goes i) (inr c) p z = assignment-so (c .at-choice) i p c
   settled-so (Creates i k) c p z = absurd z
   settled-so (Spawns i u) c p z = spawn-so (c .takes .at-choice) i p u c
-  settled-so (Meets i u j) c p z = absurd z
+  settled-so (Meets i u j) c p z = meeting-by (c .takes .at-choice) i p u j (c .direction) (c .takes) (c .partner) (c .direction) refl .1 z
   settled-so LacksThread c p z = absurd z
   settled-so LacksChannel c p z = absurd z
 
@@ -437,7 +506,7 @@ module _ (tb : Table) (g : Granted tb) (rd : Readable tb) (s : State) (o : Order
   ends-like (Goes i) c p z = as-like (Goes i) (settled-so (Goes i) c p tt)
   ends-like (Creates i k) c p z = creation-like (c .takes .at-choice) i p k c
   ends-like (Spawns i u) c p z = as-like (Spawns i u) (settled-so (Spawns i u) c p tt)
-  ends-like (Meets i u j) c p z = meeting-like (c .takes .at-choice) i p u j (c .direction) (c .takes) (c .partner) (c .direction) refl
+  ends-like (Meets i u j) c p z = meeting-by (c .takes .at-choice) i p u j (c .direction) (c .takes) (c .partner) (c .direction) refl .0
   ends-like LacksThread c p z = absurd z
   ends-like LacksChannel c p z = absurd z
 
@@ -453,17 +522,21 @@ module _ (tb : Table) (g : Granted tb) (rd : Readable tb) (s : State) (ok : Soun
       rw e (ends-like tb g rd s (ok .orderly) t l ready b bn T (rw e at h) (move tb s t) (chosen tb s t) (before tb s t) z)
 
   -- where 002 leaves nothing open it is that agent itself, its threads in some order
-  pub turn-exactly : Settled tb (thread s t) (move tb s t) → (T : Agent) → WholeTurn (bodyOf tb) (agentOf tb b s) (threadOf tb (thread s t)) T
+  pub turn-exactly : Settled tb b s t (move tb s t) → (T : Agent) → WholeTurn (bodyOf tb) (agentOf tb b s) (threadOf tb (thread s t)) T
       → Is T (agentOf tb b (written tb s t (move tb s t)) .channels) (agentOf tb b (written tb s t (move tb s t)) .threads)
   turn-exactly z T h =
       settled-so tb g rd s (ok .orderly) t l ready b bn T (rw (ready-thread tb (thread s t) ready) at h) (move tb s t) (chosen tb s t) (before tb s t) z
 
   -- after that the step only reclaims
+  reclaims-after : Many Reclaims (agentOf tb b (written tb s t (move tb s t))) (agentOf tb b (perform tb s t (move tb s t)))
+  unfolding perform
+  reclaims-after =
+      counted-anew tb (written tb s t (move tb s t)) (written-orderly tb g s (ok .orderly) t l ready (move tb s t) (chosen tb s t) .shaped .all-channels) b bn
+
   pub step-conversely : Allowed (move tb s t) → (T : Agent) → WholeTurn (bodyOf tb) (agentOf tb b s) (threadOf tb (thread s t)) T
       → (E : Agent) × UpTo (bodyOf tb) (forNumbers tb) (agentOf tb b s) (threadOf tb (thread s t)) T E × Many Reclaims E (agentOf tb b (perform tb s t (move tb s t)))
-  unfolding perform
-  step-conversely z T h = (
-    agentOf tb b (written tb s t (move tb s t)),
-    turn-conversely z T h,
-    counted-anew tb (written tb s t (move tb s t)) (written-orderly tb g s (ok .orderly) t l ready (move tb s t) (chosen tb s t) .shaped .all-channels) b bn,
-  )
+  step-conversely z T h = (agentOf tb b (written tb s t (move tb s t)), turn-conversely z T h, reclaims-after)
+
+  pub step-exactly : Settled tb b s t (move tb s t) → (T : Agent) → WholeTurn (bodyOf tb) (agentOf tb b s) (threadOf tb (thread s t)) T
+      → (E : Agent) × Is T (E .channels) (E .threads) × Many Reclaims E (agentOf tb b (perform tb s t (move tb s t)))
+  step-exactly z T h = (agentOf tb b (written tb s t (move tb s t)), turn-exactly z T h, reclaims-after)

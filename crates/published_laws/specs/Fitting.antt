@@ -1,5 +1,6 @@
 -- Document 02's S-4 in whole numbers: a guard counts as true just where the file's guard is true and the branch has no sum or difference that is out of
--- range. And its comparison: where all sums of a choice fit, guards and values are those of the papers. Assumes nothing but that the table is accepted.
+-- range. And its comparison: where all sums of a choice fit, guards and values are those of the papers; of steps: `Compared.antt`. Assumes
+-- nothing but that the table is accepted.
 use Prim.Native.Nat.{ℕ, _-_, _%_, _≤_, _<_}
 use native.Mathlib.Omega.{arith}
 use mathlib.Core.Path.{_≡_, refl, sym, _∙_, ap}
@@ -45,7 +46,7 @@ use Rattle.published_laws.specs.Environments.{printed-same, guard-same}
 abbrev pub OutOfRange : ℤ → Type 0
 OutOfRange z = (ltZ z (negsuc 2147483647) ≡ true) ⊎ (ltZ (pos 2147483647) z ≡ true)
 
--- such a number is in range just where it is not out of it
+-- the test is false of a number that is out of range, and true of one that is not
 out-not-in : (z : ℤ) → OutOfRange z → inRange z ≡ false
 unfolding inRange
 out-not-in (pos n) (inl e) = clash cc

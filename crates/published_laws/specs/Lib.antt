@@ -22,6 +22,7 @@ pub mod EnabledAlike
 pub mod Collecting
 pub mod Taking
 pub mod Running
+pub mod Compared
 pub mod Choosing
 pub mod PassedOver
 pub mod Conversely

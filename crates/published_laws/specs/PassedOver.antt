@@ -17,12 +17,12 @@ use Rattle.rules.specs.declared.Act.the-variants.{Meeting}
 use Rattle.rules_laws.specs.Granted.{Granted}
 use Rattle.rules_laws.specs.Soundness.{Orderly}
 use Rattle.rules_laws.specs.Chosen.{channelBy}
-use Rattle.published.specs.Syntax.{Process, Sum, nothing, Prefix, andWait, waits, waiting, someWait}
-use Rattle.published.specs.Agents.{_∈_, Env, Commitment, Thread, Agent, agent}
-use Rattle.published.specs.Choices.{Sends, Receives, ByAction, ByCommitment, ByPrefix, BySum, ByProcess, Of, same-channel}
-use Rattle.published.specs.Whole.{Whole, firstWaits, Onward, whole-of}
+use Rattle.published.specs.Syntax.{Guard, Process, choice, Sum, nothing, Prefix, andWait, waits, waiting, someWait}
+use Rattle.published.specs.Agents.{_∈_, Env, holds, Commitment, Thread, Agent, agent}
+use Rattle.published.specs.Choices.{Sends, Receives, ByAction, ByCommitment, ByPrefix, BySum, ByProcess, Of, InSum, InProcess, same-channel}
+use Rattle.published.specs.Whole.{Whole, firstWaits, Unmet, Onward, whole-of}
 use Rattle.published_laws.specs.Readable.{Readable}
-use Rattle.published_laws.specs.Standing.{prefixOf, sumBefore, processAt, bodyOf, envOf, committed, commitmentsFrom, channelsOf}
+use Rattle.published_laws.specs.Standing.{guardOf, prefixOf, sumBefore, processAt, bodyOf, envOf, committed, commitmentsFrom, channelsOf}
 use Rattle.published_laws.specs.Unrolled.{wait-behind, one-more-wait}
 use Rattle.published_laws.specs.Products.{Bench}
 use Rattle.published_laws.specs.Commitments.{pledge}
@@ -81,6 +81,43 @@ module _ (tb : Table) (g : Granted tb) (rd : Readable tb) (s : State) (o : Order
     commits-so i m In e Γ P Q T (ĉ, q, f, z) =
         let c : ĉ ≡ channelBy tb s t i = same-channel δ (fieldA tb (row i)) ĉ (channelBy tb s t i) q (channel-is tb g rd s o t l ready b bn i m In e) in
         rw c at z
+
+    -- in 002's words: its guard is false, or nobody is there to meet
+    unmet-so : (i : ℕ) → i < branchCount tb (standsAt (thread s t)) → (d : Direction) → actOf tb (branchAt tb (standsAt (thread s t)) i) ≡ Meeting d
+        → Unanswered tb s t (opposite d) (channelBy tb s t i) → (P : Process)
+        → Unmet (envOf tb (thread s t)) B (prefixOf tb P (branchAt tb (standsAt (thread s t)) i) (Meeting d))
+    unfolding Unmet prefixOf opposite pledge
+    unmet-so i m Out e f P =
+        let on = channel-is tb g rd s o t l ready b bn i m Out e in
+        let inside = channel-in tb g rd s o t l ready b bn i m Out e in
+        (channelBy tb s t i, on, λ u k x S h. others-silent tb g rd s o t l ready b bn In (channelBy tb s t i) inside f u (among u k) x S h)
+    unmet-so i m In e f P =
+        let on = channel-is tb g rd s o t l ready b bn i m In e in
+        let inside = channel-in tb g rd s o t l ready b bn i m In e in
+        (channelBy tb s t i, on, λ u k x S h. others-silent tb g rd s o t l ready b bn Out (channelBy tb s t i) inside f u (among u k) x S h)
+
+    left-aside : (i : ℕ) → Passed tb s t i → i < branchCount tb (standsAt (thread s t))
+        → (holds (envOf tb (thread s t)) (guardOf tb (branchAt tb (standsAt (thread s t)) i)) ≡ false) ⊎ Unmet (envOf tb (thread s t)) B (prefixBy i)
+    left-aside i (closed y) m = inl (guard-is tb g rd s o t l ready b bn i m ∙ y)
+    left-aside i (unmet d y e f) m = inr (rw e (unmet-so i m d e f _))
+
+    -- with m branches left from branch i on, j before branch k, which goes ahead
+    comes : (k : ℕ) → k < branchCount tb (standsAt (thread s t)) → ((j : ℕ) → j < k → Passed tb s t j)
+        → guardHolds tb (branchAt tb (standsAt (thread s t)) k) (thread s t) ≡ true → (m j i : ℕ) → j < m → k ≡ i + j
+        → InSum (envOf tb (thread s t)) (λ g β. (holds (envOf tb (thread s t)) g ≡ false) ⊎ Unmet (envOf tb (thread s t)) B β)
+        (sumBefore tb (processAt tb) nothing (standsAt (thread s t)) i m) (prefixBy k) (nextBy k)
+    unfolding InSum sumBefore
+    comes k n before y zero j i z e = absurd (omega arith)
+    comes k n before y (suc m) zero i z e = let q : i ≡ k = omega arith in rw q (inl (guard-is tb g rd s o t l ready b bn k n ∙ y, refl, refl))
+    comes k n before y (suc m) (suc j) i z e = inr (left-aside i (before i (omega arith)) (omega arith), comes k n before y m j (suc i) (omega arith) (omega arith))
+
+    -- it is the branch that a turn comes to
+    pub comes-so : (k : ℕ) → k < branchCount tb (standsAt (thread s t)) → ((j : ℕ) → j < k → Passed tb s t j)
+        → guardHolds tb (branchAt tb (standsAt (thread s t)) k) (thread s t) ≡ true
+        → InProcess (envOf tb (thread s t)) (λ g β. (holds (envOf tb (thread s t)) g ≡ false) ⊎ Unmet (envOf tb (thread s t)) B β)
+        (choice (sumBefore tb (processAt tb) nothing (standsAt (thread s t)) 0 (branchCount tb (standsAt (thread s t))))) (prefixBy k) (nextBy k)
+    unfolding InProcess
+    comes-so k n before y = comes k n before y (branchCount tb (standsAt (thread s t))) k 0 n (omega arith)
 
     -- a branch that does not go ahead is passed over: by (next), or by (out) or (in)
     pub passes-over : (i : ℕ) → Passed tb s t i → i < branchCount tb (standsAt (thread s t)) → (k : Bool) (Γ : List Commitment) (Q : Sum) (T : Agent)
@@ -181,7 +218,22 @@ module _ (tb : Table) (g : Granted tb) (rd : Readable tb) (s : State) (o : Order
     no-branch k zero Γ T a = a
     no-branch k (suc w) Γ T a = a
 
+    no-act : (i : ℕ) → Passed tb s t i → i < branchCount tb (standsAt (thread s t))
+        → holds (envOf tb (thread s t)) (guardOf tb (branchAt tb (standsAt (thread s t)) i)) ≡ true → (T : Agent)
+        → ByAction (channelsOf s) (envOf tb (thread s t)) B (prefixBy i) (nextBy i) T → ⊥
+    no-act i (closed z) m y T a = contra (sym (guard-is tb g rd s o t l ready b bn i m) ∙ y) z
+    no-act i (unmet d z e f) m y T a = meets-nobody i m d e f B (λ x h. h) _ _ T (rw e at a)
+
     module _ (all : (j : ℕ) → j < branchCount tb (standsAt (thread s t)) → Passed tb s t j) where
+      -- no branch from i on acts
+      pub none-acts : (Over : Guard → Prefix → Type 0) (m i : ℕ) → i + m ≡ branchCount tb (standsAt (thread s t)) → (α : Prefix) (P : Process) (T : Agent)
+          → InSum (envOf tb (thread s t)) Over (sumBefore tb (processAt tb) nothing (standsAt (thread s t)) i m) α P
+          → ByAction (channelsOf s) (envOf tb (thread s t)) B α P T → ⊥
+      unfolding InSum sumBefore
+      none-acts Over zero i c α P T x a = x
+      none-acts Over (suc m) i c α P T (inl (y, e, f)) a = no-act i (all i (omega arith)) (omega arith) y T (rw (← e, ← f) at a)
+      none-acts Over (suc m) i c α P T (inr (p, x)) a = none-acts Over m (suc i) (omega arith) α P T x a
+
       -- after the last branch
       stops : (Γ : List Commitment) (w : ℕ) (T : Agent)
           → Onward (bodyOf tb) (agent (channelsOf s) (midway tb g rd s o t l ready b bn Γ (andWait (waits w)) ∷ B)) T

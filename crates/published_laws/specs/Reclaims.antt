@@ -1,10 +1,10 @@
 -- Counting the channels of a state anew is a series of uses of (reclaim), one for each channel that nobody holds any more. Assumes nothing.
-use Prim.Native.Nat.{ℕ, zero, suc, _≤_}
+use Prim.Native.Nat.{ℕ, zero, suc, _≤_, _<_}
 use native.Mathlib.Omega.{arith}
 use mathlib.Core.Path.{_≡_, refl, sym, _∙_, fun-ext}
 use mathlib.Core.Logic.{_≢_}
-use mathlib.Core.Bool.{true, not, _&&_, _||_}
-use mathlib.Core.List.{List, [], _∷_}
+use mathlib.Core.Bool.{Bool, true, not, _&&_, _||_, cond}
+use mathlib.Core.List.{List, [], _∷_, _++_}
 use lib.Dec.{ltb, leb, eqb}
 use lib.ListN.{length, getD, List·getD-eq-default}
 use borrow.Author.Tests.{ltb-true, ltb-false, lt-ltb, eqb-true, eqb-false, eq-eqb, leb-true, leb-false, le-leb, lt-leb}
@@ -17,8 +17,23 @@ use Rattle.rules_laws.specs.Settle.{settled-row}
 use Rattle.published.specs.Agents.{Thread, Channels, adding, agent, globalrc}
 use Rattle.published.specs.Rules.{Reclaims, reclaim, Many, stays, goes}
 use Rattle.published.specs.ProductLaws.{many-on}
+use Rattle.published.specs.Collections.{gone, allGone, gone-on}
 use Rattle.published_laws.specs.Standing.{threadsOf, channelsOf, agentOf}
 use Rattle.published_laws.specs.Products.{Bench, globalrc-count}
+
+-- the numbers below n that pass a test, in rising order
+unfoldable pub those : (ℕ → Bool) → ℕ → List ℕ
+those p zero = []
+those p (suc n) = those p n ++ cond (p n) (n ∷ []) []
+
+those-same : (p q : ℕ → Bool) (n : ℕ) → ((c : ℕ) → c < n → p c ≡ q c) → those p n ≡ those q n
+unfolding those
+those-same p q zero h = refl
+those-same p q (suc n) h = rw (h n (omega arith), those-same p q n (λ c l. h c (omega arith)))
+
+-- the channels in use in a state that are free in a later one
+unfoldable pub freedChannels : State → State → List ℕ
+freedChannels s later = those (λ c. channelsOf s c && not (channelsOf later c)) maxChannels
 
 module _ (Δ : Channels) (count : ℕ → ℕ) where
   -- the channels from k on, and of those below it the ones with a count above 0
@@ -56,18 +71,25 @@ module _ (Δ : Channels) (count : ℕ → ℕ) where
       (λ y. rw y (left-other k c (eqb-false c k y))))
 
   module _ (A : List Thread) (counted : (c : ℕ) → globalrc c A ≡ count c) where
-    reclaim-one : (k : ℕ) → Many Reclaims (agent (left k) A) (agent (left (suc k)) A)
+    -- with the channels that go
+    reclaim-one : (k : ℕ) → (p : Many Reclaims (agent (left k) A) (agent (left (suc k)) A)) × (allGone p ≡ cond (Δ k && not (ltb 0 (count k))) (k ∷ []) [])
+    unfolding allGone gone
     reclaim-one k =
         caseB (Δ k)
         (λ y. caseB (ltb 0 (count k))
-        (λ z. let e : left k ≡ left (suc k) = left-same k (left-past k ∙ rw (y, z) (sym (left-here k ∙ y))) in rw e stays)
+        (λ z. let e : left k ≡ left (suc k) = left-same k (left-past k ∙ rw (y, z) (sym (left-here k ∙ y))) in rw (e, y, z) (stays, refl))
         (λ z. let e : left k ≡ adding (left (suc k)) k = left-gone k (left-here k ∙ y) in
-        rw e (goes (reclaim k (left-past k ∙ rw (y, z)) (counted k ∙ (let h : count k ≡ 0 = omega (arith, ltb-false 0 (count k) z) in h))) stays)))
-        (λ y. let e : left k ≡ left (suc k) = left-same k (left-past k ∙ rw y (sym (left-here k ∙ y))) in rw e stays)
+        rw (e, y, z) (goes (reclaim k (left-past k ∙ rw (y, z)) (counted k ∙ (let h : count k ≡ 0 = omega (arith, ltb-false 0 (count k) z) in h))) stays, refl)))
+        (λ y. let e : left k ≡ left (suc k) = left-same k (left-past k ∙ rw y (sym (left-here k ∙ y))) in rw (e, y) (stays, refl))
 
-    reclaim-below : (k : ℕ) → Many Reclaims (agent (left 0) A) (agent (left k) A)
-    reclaim-below zero = stays
-    reclaim-below (suc k) = many-on Reclaims (reclaim-below k) (reclaim-one k)
+    reclaim-below : (k : ℕ)
+        → (p : Many Reclaims (agent (left 0) A) (agent (left k) A)) × (allGone p ≡ those (λ c. Δ c && not (ltb 0 (count c))) k)
+    unfolding those allGone
+    reclaim-below zero = (stays, refl)
+    reclaim-below (suc k) =
+        let (p, e) = reclaim-below k in
+        let (q, f) = reclaim-one k in
+        (many-on Reclaims p q, gone-on p q ∙ cc)
 
 -- ---- of a state
 
@@ -91,11 +113,23 @@ module _ (tb : Table) (s : State) (all : length (s .channels) ≡ maxChannels) w
       rw (lt-leb maxChannels c l) (sym (rw (settled-row tb s c l) (row-typed (typeIn s c) (countOf tb (s .threads) c) (waiters tb (s .threads) c)))))
       (λ y. rw (none-past c (ltb-false c maxChannels y), settled-past c (ltb-false c maxChannels y))))
 
-  -- from the state before the channels are counted to that afterwards
-  pub counted-anew : (b : Thread) → Bench tb b → Many Reclaims (agentOf tb b s) (agentOf tb b (settled tb s))
-  unfolding agentOf settled withChannels
-  counted-anew b bn =
+  gone-there : (c : ℕ) → c < maxChannels
+      → (channelsOf s c && not (ltb 0 (countOf tb (s .threads) c))) ≡ (channelsOf s c && not (channelsOf (settled tb s) c))
+  unfolding channelsOf
+  gone-there c l =
+      let e : channelsOf (settled tb s) c ≡ channelsOf s c && ltb 0 (countOf tb (s .threads) c) =
+      rw (settled-row tb s c l) (row-typed (typeIn s c) (countOf tb (s .threads) c) (waiters tb (s .threads) c)) in
+      rw e (caseB (channelsOf s c) (λ y. rw y) (λ y. rw y))
+
+  -- from the state before the channels are counted to that afterwards, with the channels that go
+  pub counted-named : (b : Thread) → Bench tb b
+      → (p : Many Reclaims (agentOf tb b s) (agentOf tb b (settled tb s))) × (allGone p ≡ freedChannels s (settled tb s))
+  unfolding agentOf settled withChannels freedChannels
+  counted-named b bn =
       let n = countOf tb (s .threads) in
       let A = b ∷ threadsOf tb (s .threads) in
       let p = reclaim-below (channelsOf s) n A (globalrc-count tb b bn (s .threads)) maxChannels in
-      rw (left-all (channelsOf s) n, settled-channels) at p
+      rw (left-all (channelsOf s) n, settled-channels, those-same _ _ maxChannels gone-there) at p
+
+  pub counted-anew : (b : Thread) → Bench tb b → Many Reclaims (agentOf tb b s) (agentOf tb b (settled tb s))
+  counted-anew b bn = counted-named b bn .0

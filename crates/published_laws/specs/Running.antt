@@ -34,14 +34,15 @@ use Rattle.engine_laws.specs.Buffers.{SoundBuffer, view-sound}
 use Rattle.engine_laws.specs.Answers.{step-performed}
 use Rattle.engine_laws.specs.Bench.{give-met, take-met}
 use Rattle.engine_laws.specs.SoundCalls.{call-made, call-view, run-view}
-use Rattle.collector.specs.Collect.{collectOn, collectCall}
+use Rattle.collector.specs.Collect.{collectOn, collectCall, seatedCollect}
 use Rattle.collector.specs.declared.Collected.the-variants as Collected
 use Rattle.collector_laws.specs.CollectionKeeps.{collect-on-kept}
+use Rattle.guarantee.specs.SeatedProof.{collected-plainly}
 use Rattle.published.specs.Syntax.{Process, choice, Sum, branch, always, output, input}
 use Rattle.published.specs.Agents as Agents
 use Rattle.published.specs.Agents.{Env, look, bind, Commitment, Thread, Agent}
-use Rattle.published.specs.Rules.{Reaches}
 use Rattle.published.specs.Fired.{by-send, by-recv, Fired, fired, Labels, SteppedBy, Turns}
+use Rattle.published.specs.Collections.{Collects}
 use Rattle.published_laws.specs.Readable.{Readable, readable}
 use Rattle.published_laws.specs.Standing.{bodyOf, threadOf, agentOf, OurRules, OurLabels}
 use Rattle.published_laws.specs.Products.{Bench}
@@ -50,7 +51,8 @@ use Rattle.published_laws.specs.Stepping.{Allowed, step-reduced}
 use Rattle.published_laws.specs.Telling.{answer-tells}
 use Rattle.published_laws.specs.Turning.{course-turns}
 use Rattle.published_laws.specs.Outside.{give-reduced, take-reduced}
-use Rattle.published_laws.specs.Collecting.{collection-reduced}
+use Rattle.published_laws.specs.Reclaims.{freedChannels}
+use Rattle.published_laws.specs.Collecting.{freedThreads, collection-reduced}
 
 pub done-allowed : (n : ℕ) (m : Move) (k : ℕ) (d : Deed) → stepAnswer n m ≡ Stepped.Done k d → Allowed m
 unfolding stepAnswer Allowed
@@ -144,14 +146,25 @@ module _ (table : List ℕ) (ok : accepted table ≡ true) (fit : (i : ℕ) → 
         (λ i l. ap (nextHad tb) (run-view table ok fit state sb i)) in
         rw (same, run-view table ok fit state sb n, ← q) (course-turns tb g rd b bn n (view state) sound)
 
-    -- ---- a collection, by any rules that have those of Table 5
+    -- ---- a collection
 
-    pub collect-call-reduced : (def : ℕ → Process) (More : Agent → Agent → Type 0)
-        → Reaches def More (agentOf (tableOf table) b (view state)) (agentOf (tableOf table) b (view (collectCall table state .state)))
+    -- to the bytes `later`: (stuck) takes the threads of the rows that are in use before and free after, all at once, and then (reclaim) takes each of the
+    -- channels that are in use before and free after
+    abbrev pub CollectedTo : List ℕ → Type 0
+    CollectedTo later =
+        Collects (freedThreads (tableOf table) (view state) (view later)) (freedChannels (view state) (view later))
+        (agentOf (tableOf table) b (view state)) (agentOf (tableOf table) b (view later))
+
+    pub collect-call-reduced : CollectedTo (collectCall table state .state)
     unfolding collectCall collectOn
-    collect-call-reduced def More =
+    collect-call-reduced =
         rw (call-view table ok Collected.Refused state sb (collectOn tb (view state)) (collect-on-kept tb g (view state) sound))
-        (collection-reduced tb g rd (view state) sound b bn def More)
+        (collection-reduced tb g rd (view state) sound b bn)
+
+    -- the delivered call, at a seat at which it is done
+    pub seated-collect-reduced : (rights : List ℕ) (seat n : ℕ) → seatedCollect table state rights seat .answer ≡ Collected.Done n
+        → CollectedTo (seatedCollect table state rights seat .state)
+    seated-collect-reduced rights seat n e = rw (collected-plainly table state rights seat n e) collect-call-reduced
 
   -- ---- give and take, by any rules that have those of Table 3: the bench is about to send on a port, or to receive
 

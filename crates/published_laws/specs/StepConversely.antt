@@ -20,11 +20,11 @@ use Rattle.rules_laws.specs.Soundness.{Sound}
 use Rattle.engine_laws.specs.Buffers.{SoundBuffer, view-sound}
 use Rattle.published.specs.Agents.{Thread, Agent}
 use Rattle.published.specs.Rules.{Reclaims, Many}
-use Rattle.published.specs.Whole.{WholeTurn, UpTo}
+use Rattle.published.specs.Whole.{WholeTurn, Is, UpTo}
 use Rattle.published_laws.specs.Readable.{Readable, readable}
 use Rattle.published_laws.specs.Standing.{bodyOf, forNumbers, threadOf, agentOf}
 use Rattle.published_laws.specs.Products.{Bench}
-use Rattle.published_laws.specs.Conversely.{step-conversely}
+use Rattle.published_laws.specs.Conversely.{Settled, step-conversely, step-exactly}
 use Rattle.published_laws.specs.Running.{done-allowed, step-did}
 
 may-step : (s : State) (t : ℕ) → canStep s t ≡ true → (t < maxThreads) × (isReady (thread s t) ≡ true)
@@ -55,3 +55,13 @@ module _ (table : List ℕ) (ok : accepted table ≡ true) (fit : (i : ℕ) → 
       let (l, ready) = may-step (view state) t c in
       let z = done-allowed (standsAt (thread (view state) t)) (move tb (view state) t) k d a in
       rw q (step-conversely tb g rd (view state) sound t l ready b bn z T h)
+
+  -- where 002 leaves nothing open, it ends in such an agent itself, its threads in some order
+  pub step-call-exactly : (b : Thread) → Bench (tableOf table) b → (t k : ℕ) (d : Deed) → stepCall table state t .answer ≡ Stepped.Done k d
+      → Settled (tableOf table) b (view state) t (move (tableOf table) (view state) t) → (T : Agent)
+      → WholeTurn (bodyOf (tableOf table)) (agentOf (tableOf table) b (view state)) (threadOf (tableOf table) (thread (view state) t)) T
+      → (E : Agent) × Is T (E .channels) (E .threads) × Many Reclaims E (agentOf (tableOf table) b (view (stepCall table state t .state)))
+  step-call-exactly b bn t k d e z T h =
+      let (c, a, q) = step-did table ok fit state sb t k d e in
+      let (l, ready) = may-step (view state) t c in
+      rw q (step-exactly tb g rd (view state) sound t l ready b bn z T h)

@@ -4,13 +4,13 @@ use native.Mathlib.Omega.{arith}
 use mathlib.Core.Path.{_≡_, sym, _∙_}
 use mathlib.Core.List.{List}
 use lib.ListN.{length, getD, set, List·getD-eq-default}
-use lib.Seq.{set-out, set-getD}
+use lib.Seq.{set-getD}
 use borrow.Author.Tests.{lt-ltb, le-ltb, eq-eqb, ne-eqb}
 use Rattle.table.specs.Table.{Table}
 use Rattle.state.specs.State.{maxChannels, rowSlots}
 use Rattle.holding.specs.Own.{ownRoom}
 use Rattle.holding.specs.Own.Laws.{room-le}
-use Rattle.recount.specs.Tally.{added, markedAt, addedUnless}
+use Rattle.recount.specs.Tally.{added, stampedAt, addedUnless}
 
 -- ---- byte_at and add
 
@@ -21,38 +21,34 @@ pub add-in : (l : List ℕ) (c w r : ℕ) → r ≡ (getD l c 0 + w) % 256 → s
 unfolding added
 add-in l c w r e = rw e
 
-pub add-out : (l : List ℕ) (c w : ℕ) → length l ≤ c → l ≡ added l c w
-unfolding added
-add-out l c w h = sym (set-out l c ((getD l c 0 + w) % 256) h)
-
 -- ---- count_once
 
-module _ (marks : List ℕ) (mark c w : ℕ) (l : List ℕ) where
-  pub no-channel-added : maxChannels ≤ c → l ≡ addedUnless marks mark c w l
+module _ (stamps : List ℕ) (stamp c w : ℕ) (l : List ℕ) where
+  pub no-channel-added : maxChannels ≤ c → l ≡ addedUnless stamps stamp c w l
   unfolding addedUnless
   no-channel-added h = rw (le-ltb c 128 h)
 
   module _ (h : c < maxChannels) where
-    pub again-added : getD marks c 0 ≡ mark → l ≡ addedUnless marks mark c w l
+    pub again-added : getD stamps c 0 ≡ stamp → l ≡ addedUnless stamps stamp c w l
     unfolding addedUnless
-    again-added e = rw (lt-ltb c 128 h, eq-eqb (getD marks c 0) mark e)
+    again-added e = rw (lt-ltb c 128 h, eq-eqb (getD stamps c 0) stamp e)
 
-    pub once-added : (m : List ℕ) → m ≡ added l c w → (getD marks c 0 ≡ mark → ⊥) → m ≡ addedUnless marks mark c w l
+    pub once-added : (m : List ℕ) → m ≡ added l c w → (getD stamps c 0 ≡ stamp → ⊥) → m ≡ addedUnless stamps stamp c w l
     unfolding addedUnless
-    once-added m f e = f ∙ rw (lt-ltb c 128 h, ne-eqb (getD marks c 0) mark e)
+    once-added m f e = f ∙ rw (lt-ltb c 128 h, ne-eqb (getD stamps c 0) stamp e)
 
-module _ (marks : List ℕ) (mark c : ℕ) where
-  pub no-channel-marked : maxChannels ≤ c → marks ≡ markedAt marks mark c
-  unfolding markedAt
-  no-channel-marked h = rw (le-ltb c 128 h)
+module _ (stamps : List ℕ) (stamp c : ℕ) where
+  pub no-channel-stamped : maxChannels ≤ c → stamps ≡ stampedAt stamps stamp c
+  unfolding stampedAt
+  no-channel-stamped h = rw (le-ltb c 128 h)
 
-  pub again-marked : c < maxChannels → getD marks c 0 ≡ mark → marks ≡ markedAt marks mark c
-  unfolding markedAt
-  again-marked h e = rw (lt-ltb c 128 h, ← e) (sym (set-getD marks c 0))
+  pub again-stamped : c < maxChannels → getD stamps c 0 ≡ stamp → stamps ≡ stampedAt stamps stamp c
+  unfolding stampedAt
+  again-stamped h e = rw (lt-ltb c 128 h, ← e) (sym (set-getD stamps c 0))
 
-  pub once-marked : c < maxChannels → set marks c mark ≡ markedAt marks mark c
-  unfolding markedAt
-  once-marked h = rw (lt-ltb c 128 h)
+  pub once-stamped : c < maxChannels → set stamps c stamp ≡ stampedAt stamps stamp c
+  unfolding stampedAt
+  once-stamped h = rw (lt-ltb c 128 h)
 
 -- ---- count_slot: a slot of the row is one of 16
 

@@ -1,7 +1,7 @@
--- The counts of holders as one pass over the rows makes them. `Tally/Laws.antt` proves that they are the numbers of holders, and `Tally/Marks.antt` that the marks
+-- The counts of holders as one pass over the rows makes them. `Tally/Laws.antt` proves that they are the numbers of holders, and `Tally/Stamps.antt` that the stamps
 -- which the pass keeps tell whether a thread has been counted at a channel.
 pub mod Laws
-pub mod Marks
+pub mod Stamps
 pub mod Pass
 use Prim.Native.Nat.{ℕ, zero, suc, _+_, _%_, _<_, _≤_}
 use mathlib.Core.Path.{_≡_}
@@ -33,20 +33,20 @@ module _ (tb : Table) where
   addedBelow p ths l zero = l
   addedBelow p ths l (suc n) = rowAdded (getD ths n []) (bit (p (getD ths n []))) (addedBelow p ths l n)
 
--- ---- marks, one for each channel: thread t leaves t + 1 where it is counted, and 0 is the mark of nobody
+-- ---- stamps, one for each channel: thread t leaves t + 1 where it is counted, and 0 is the stamp of nobody
 
--- channel c given a mark; there is no channel 128
-unfoldable pub markedAt : List ℕ → ℕ → ℕ → List ℕ
-markedAt marks mark c = cond (ltb c maxChannels) (set marks c mark) marks
+-- channel c given a stamp; there is no channel 128
+unfoldable pub stampedAt : List ℕ → ℕ → ℕ → List ℕ
+stampedAt stamps stamp c = cond (ltb c maxChannels) (set stamps c stamp) stamps
 
--- entry c made larger by w, unless channel c has the mark
+-- entry c made larger by w, unless channel c has the stamp
 unfoldable pub addedUnless : List ℕ → ℕ → ℕ → ℕ → List ℕ → List ℕ
-addedUnless marks mark c w l = cond (ltb c maxChannels) (cond (eqb (getD marks c 0) mark) l (added l c w)) l
+addedUnless stamps stamp c w l = cond (ltb c maxChannels) (cond (eqb (getD stamps c 0) stamp) l (added l c w)) l
 
--- no channel has the mark of thread t or of a later one
+-- no channel has the stamp of thread t or of a later one
 unfoldable pub Fresh : ℕ → List ℕ → Type 0
-Fresh t marks = (length marks ≡ maxChannels) × ((c : ℕ) → getD marks c 0 ≤ t)
+Fresh t stamps = (length stamps ≡ maxChannels) × ((c : ℕ) → getD stamps c 0 ≤ t)
 
--- the first k slots of thread t's row have been gone through: a channel has the thread's mark just where one of them holds it, and none has a later thread's
+-- the first k slots of thread t's row have been gone through: a channel has the thread's stamp just where one of them holds it, and none has a later thread's
 unfoldable pub Passed : Table → List ℕ → ℕ → ℕ → List ℕ → Type 0
-Passed tb row t k marks = Fresh (t + 1) marks × ((c : ℕ) → c < maxChannels → eqb (getD marks c 0) (t + 1) ≡ holdsTo tb row c k)
+Passed tb row t k stamps = Fresh (t + 1) stamps × ((c : ℕ) → c < maxChannels → eqb (getD stamps c 0) (t + 1) ≡ holdsTo tb row c k)

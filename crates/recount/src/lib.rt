@@ -1,4 +1,4 @@
-// How many threads hold each channel, and how many of those wait, by one pass over the thread rows. A channel keeps the mark of the thread that was counted at it
+// How many threads hold each channel, and how many of those wait, by one pass over the thread rows. A channel keeps the stamp of the thread that was counted at it
 // last, so that one look tells whether a thread which holds it by several slots has been counted.
 ghost use mathlib.Core.Path.{_≡_};
 ghost use Prim.Native.Nat.{_+_, _%_, _≤_, _<_};
@@ -10,7 +10,7 @@ ghost use Rattle.table.specs.Index.{Indexed};
 ghost use Rattle.state.specs.State.{stateOf, maxThreads, maxChannels, thread, isWaiting};
 ghost use Rattle.rules.specs.Holding.{holders, waiters};
 ghost use Rattle.holding.specs.Own.{ownOf, ownRoom, typesOf};
-ghost use Rattle.recount.specs.Tally.{added, addedUnless, markedAt, rowAdded, Fresh, Passed};
+ghost use Rattle.recount.specs.Tally.{added, addedUnless, stampedAt, rowAdded, Fresh, Passed};
 
 // An entry for each channel.
 pub const CHANNELS: usize = state::CHANNELS as usize;
@@ -43,23 +43,23 @@ fn add(counts: &mut [u8], c: u8, w: u8)
     }
 }
 
-// A thread with this mark is counted at channel c, and w times among the waiting ones, unless the channel has the mark already. There is no channel 128.
+// A thread with this stamp is counted at channel c, and w times among the waiting ones, unless the channel has the stamp already. There is no channel 128.
 fn count_once(
     c: u8,
-    mark: u8,
+    stamp: u8,
     w: u8,
-    marks: &mut [u8; CHANNELS],
+    stamps: &mut [u8; CHANNELS],
     held: &mut [u8; CHANNELS],
     waiting: &mut [u8; CHANNELS],
 )
-    ensures { λ _. ⌜ now (held .exit) ≡ addedUnless (now (marks .entry)) mark c 1 (now (held .entry)) ⌝ }
-    ensures { λ _. ⌜ now (waiting .exit) ≡ addedUnless (now (marks .entry)) mark c w (now (waiting .entry)) ⌝ }
-    ensures { λ _. ⌜ now (marks .exit) ≡ markedAt (now (marks .entry)) mark c ⌝ }
+    ensures { λ _. ⌜ now (held .exit) ≡ addedUnless (now (stamps .entry)) stamp c 1 (now (held .entry)) ⌝ }
+    ensures { λ _. ⌜ now (waiting .exit) ≡ addedUnless (now (stamps .entry)) stamp c w (now (waiting .entry)) ⌝ }
+    ensures { λ _. ⌜ now (stamps .exit) ≡ stampedAt (now (stamps .entry)) stamp c ⌝ }
 {
     let at = c as usize;
     if at < CHANNELS {
-        if marks[at] != mark {
-            marks[at] = mark;
+        if stamps[at] != stamp {
+            stamps[at] = stamp;
             add(held, c, 1);
             add(waiting, c, w);
         }
@@ -76,7 +76,7 @@ pub fn count_slot(
     from: usize,
     k: u32,
     w: u8,
-    marks: &mut [u8; CHANNELS],
+    stamps: &mut [u8; CHANNELS],
     held: &mut [u8; CHANNELS],
     waiting: &mut [u8; CHANNELS],
 )
@@ -85,15 +85,15 @@ pub fn count_slot(
     requires { ⌜ from ≡ typesOf (tableOf (now table)) (thread (stateOf (now state)) t) ⌝ }
     requires { ⌜ from ≤ 12713792 ⌝ }
     requires { ⌜ k < ownRoom (tableOf (now table)) (thread (stateOf (now state)) t) ⌝ }
-    requires { ⌜ Passed (tableOf (now table)) (thread (stateOf (now state)) t) t k (now marks) ⌝ }
+    requires { ⌜ Passed (tableOf (now table)) (thread (stateOf (now state)) t) t k (now stamps) ⌝ }
     requires { ⌜ length (now held) ≡ maxChannels ⌝ }
     requires { ⌜ length (now waiting) ≡ maxChannels ⌝ }
     ensures { λ _. ⌜ now (held .exit) ≡ added (now (held .entry)) (ownOf (tableOf (now (table .entry))) (thread (stateOf (now (state .entry))) t) k) 1 ⌝ }
     ensures { λ _. ⌜ now (waiting .exit) ≡ added (now (waiting .entry)) (ownOf (tableOf (now (table .entry))) (thread (stateOf (now (state .entry))) t) k) w ⌝ }
-    ensures { λ _. ⌜ Passed (tableOf (now (table .entry))) (thread (stateOf (now (state .entry))) t) t (k + 1) (now (marks .exit)) ⌝ }
+    ensures { λ _. ⌜ Passed (tableOf (now (table .entry))) (thread (stateOf (now (state .entry))) t) t (k + 1) (now (stamps .exit)) ⌝ }
 {
     let c = holding::channel_at(table, index, from, state, t, k);
-    count_once(c, t as u8 + 1, w, marks, held, waiting);
+    count_once(c, t as u8 + 1, w, stamps, held, waiting);
 }
 
 // Thread t is counted at each channel that it holds.
@@ -102,26 +102,26 @@ fn tally_row(
     index: &[u32],
     state: &[u32; state::WORDS],
     t: u32,
-    marks: &mut [u8; CHANNELS],
+    stamps: &mut [u8; CHANNELS],
     held: &mut [u8; CHANNELS],
     waiting: &mut [u8; CHANNELS],
 )
     requires { ⌜ Indexed (tableOf (now table)) (now index) ⌝ }
     requires { ⌜ t < maxThreads ⌝ }
-    requires { ⌜ Fresh t (now marks) ⌝ }
+    requires { ⌜ Fresh t (now stamps) ⌝ }
     requires { ⌜ length (now held) ≡ maxChannels ⌝ }
     requires { ⌜ length (now waiting) ≡ maxChannels ⌝ }
     ensures { λ _. ⌜ now (held .exit) ≡ rowAdded (tableOf (now (table .entry))) (thread (stateOf (now (state .entry))) t) 1 (now (held .entry)) ⌝ }
     ensures { λ _. ⌜ now (waiting .exit)
         ≡ rowAdded (tableOf (now (table .entry))) (thread (stateOf (now (state .entry))) t) (bit (isWaiting (thread (stateOf (now (state .entry))) t))) (now (waiting .entry)) ⌝ }
-    ensures { λ _. ⌜ Fresh (t + 1) (now (marks .exit)) ⌝ }
+    ensures { λ _. ⌜ Fresh (t + 1) (now (stamps .exit)) ⌝ }
 {
     let slots = holding::slots_of(table, index, state, t);
     let from = slots.from;
     let n = slots.count;
     let w = holding::weight(state, t);
     for k in 0..n {
-        count_slot(table, index, state, t, from, k, w, marks, held, waiting);
+        count_slot(table, index, state, t, from, k, w, stamps, held, waiting);
     }
 }
 
@@ -139,8 +139,8 @@ pub fn tally(
     ensures { λ _. ⌜ now (held .exit) ≡ tabulate maxChannels (holders (tableOf (now (table .entry))) (stateOf (now (state .entry)) .threads)) ⌝ }
     ensures { λ _. ⌜ now (waiting .exit) ≡ tabulate maxChannels (waiters (tableOf (now (table .entry))) (stateOf (now (state .entry)) .threads)) ⌝ }
 {
-    let mut marks = [0u8; CHANNELS];
+    let mut stamps = [0u8; CHANNELS];
     for t in 0..state::THREADS {
-        tally_row(table, index, state, t, &mut marks, held, waiting);
+        tally_row(table, index, state, t, &mut stamps, held, waiting);
     }
 }

@@ -2,6 +2,7 @@
 -- a call is refused if its list is not in order or its seat may not make it, and that is said before the state is looked at; else it is the call as
 -- `Calls.antt` has it.
 pub mod Laws
+pub mod Entitled
 use Prim.Native.Nat.{ℕ, _+_, _*_}
 use mathlib.Core.Bool.{Bool, _&&_, _||_, cond}
 use mathlib.Core.List.{List}

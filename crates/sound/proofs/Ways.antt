@@ -18,7 +18,7 @@ use Rattle.table.specs.Fields as Field
 use Rattle.table.specs.Table.{Table, nodes, ports, slotRow, slotCount}
 use Rattle.table.specs.Layout.{start, definitionOf, slotType}
 use Rattle.table.specs.declared.Part.the-variants.{Slots}
-use Rattle.flow.specs.Flow.{Marks, flow, marked, mayLack}
+use Rattle.flow.specs.Flow.{Gaps, flow, hasGap, mayLack}
 use Rattle.state.specs.State.{State, maxThreads, maxChannels, threadWords, rowSlots, threadMark, channelMark, turn, thread, status, standsAt, slotOf, inUse, typeIn}
 use Rattle.rules.specs.Program.{channelSlot}
 use Rattle.rules.specs.Holding.{countOf, holders, waiters}
@@ -104,9 +104,9 @@ module _ (tb : Table) (s : State) (row : List ℕ) (k n from ty : ℕ)
         rw (← e, own, ← type-is, ne-eqb ty 0 o, ne-eqb v 4294967295 (λ p. omega (arith, p)), lt-ltb v 128 q, ← w, or-true (mayLack tb (standsAt row) k)) (and-true (eqb x ty))
 
     module _ (q : maxChannels ≤ v) where
-      pub slot-empty : (ms : Marks) (r : Bool) → ms ≡ flow tb → r ≡ marked ms n k → v ≡ 4294967295 → r ≡ slotSound tb s row k
+      empty-slot : (ms : Gaps) (r : Bool) → ms ≡ flow tb → r ≡ hasGap ms n k → v ≡ 4294967295 → r ≡ slotSound tb s row k
       unfolding slotSound slotTyped slotFilled channelSlot mayLack
-      slot-empty ms r p i w = rw (← e, own, ← type-is, ne-eqb ty 0 o, eq-eqb v 4294967295 w, ← f, ← p, ← i) (or-false r)
+      empty-slot ms r p i w = rw (← e, own, ← type-is, ne-eqb ty 0 o, eq-eqb v 4294967295 w, ← f, ← p, ← i) (or-false r)
         where
           or-false : (b : Bool) → b ≡ (b || false)
           or-false true = refl
@@ -115,6 +115,12 @@ module _ (tb : Table) (s : State) (row : List ℕ) (k n from ty : ℕ)
       pub slot-no-channel : (v ≡ 4294967295 → ⊥) → false ≡ slotSound tb s row k
       unfolding slotSound slotTyped slotFilled channelSlot
       slot-no-channel p = rw (← e, own, ← type-is, ne-eqb ty 0 o, ne-eqb v 4294967295 p, le-ltb v 128 q)
+
+-- the mark that was read comes first: an answer that is no mark of this slot is refused there
+pub slot-empty : (tb : Table) (s : State) (row : List ℕ) (k n : ℕ) (ms : Gaps) (r : Bool) → r ≡ hasGap ms n k → ms ≡ flow tb → n ≡ standsAt row
+    → (v : ℕ) → v ≡ slotOf row k → v ≡ 4294967295 → maxChannels ≤ v → (from ty : ℕ) → from ≡ typesOf tb row → ty ≡ at tb (from + k) Field.type → (ty ≡ 0 → ⊥)
+    → k < ownRoom tb row → r ≡ slotSound tb s row k
+slot-empty tb s row k n ms r i p f v e w q from ty g j o h = empty-slot tb s row k n from ty f g h j o v e q ms r p i w
 
 pub ruleset slots = (slot-number, slot-channel, slot-empty, slot-no-channel)
 

@@ -9,7 +9,7 @@ ghost use Rattle.numbers.specs.Search.{every, tabulate};
 ghost use Rattle.table.specs.Table.{tableOf, nodes, ports};
 ghost use Rattle.table.specs.Index.{Indexed};
 ghost use Rattle.flow.specs.Flow.{flow};
-ghost use Rattle.flow.specs.Marks.{marksOf};
+ghost use Rattle.flow.specs.Gaps.{gapsOf};
 ghost use Rattle.state.specs.State.{stateOf, maxThreads, maxChannels, threadWords, rowSlots, thread, standsAt, isWaiting};
 ghost use Rattle.state.specs.Words.{waiting as waitingStatus};
 ghost use Rattle.holding.specs.Own.{ownRoom, typesOf};
@@ -39,7 +39,7 @@ fn marks_in_range(state: &[u32; state::WORDS]) -> bool
 fn slot_sound(
     table: &[u8],
     index: &[u32],
-    marks: &[u32],
+    gaps: &[u32],
     state: &[u32; state::WORDS],
     t: u32,
     n: u32,
@@ -47,7 +47,7 @@ fn slot_sound(
     k: u32,
 ) -> bool
     requires { ⌜ Indexed (tableOf (now table)) (now index) ⌝ }
-    requires { ⌜ marksOf (now marks) ≡ flow (tableOf (now table)) ⌝ }
+    requires { ⌜ gapsOf (now gaps) ≡ flow (tableOf (now table)) ⌝ }
     requires { ⌜ n ≡ standsAt (thread (stateOf (now state)) t) ⌝ }
     requires { ⌜ from ≡ typesOf (tableOf (now table)) (thread (stateOf (now state)) t) ⌝ }
     requires { ⌜ from ≤ 12713792 ⌝ }
@@ -63,7 +63,7 @@ fn slot_sound(
         return state::channel_word(state, v as usize, state::TYPE) == ty;
     }
     if v == state::MINUS_ONE {
-        return flow::is_marked(marks, n as usize, k);
+        return flow::has_gap(gaps, n as usize, k);
     }
     false
 }
@@ -73,36 +73,36 @@ fn slot_sound(
 fn pass_slots(
     table: &[u8],
     index: &[u32],
-    marks: &[u32],
+    gaps: &[u32],
     state: &[u32; state::WORDS],
     t: u32,
     n: u32,
     from: usize,
     count: u32,
-    seen: &mut [u8; recount::CHANNELS],
+    stamps: &mut [u8; recount::CHANNELS],
     held: &mut [u8; recount::CHANNELS],
     waiting: &mut [u8; recount::CHANNELS],
 ) -> bool
     requires { ⌜ Indexed (tableOf (now table)) (now index) ⌝ }
-    requires { ⌜ marksOf (now marks) ≡ flow (tableOf (now table)) ⌝ }
+    requires { ⌜ gapsOf (now gaps) ≡ flow (tableOf (now table)) ⌝ }
     requires { ⌜ t < maxThreads ⌝ }
     requires { ⌜ n ≡ standsAt (thread (stateOf (now state)) t) ⌝ }
     requires { ⌜ from ≡ typesOf (tableOf (now table)) (thread (stateOf (now state)) t) ⌝ }
     requires { ⌜ from ≤ 12713792 ⌝ }
     requires { ⌜ count ≡ ownRoom (tableOf (now table)) (thread (stateOf (now state)) t) ⌝ }
-    requires { ⌜ Fresh t (now seen) ⌝ }
+    requires { ⌜ Fresh t (now stamps) ⌝ }
     requires { ⌜ length (now held) ≡ maxChannels ⌝ }
     requires { ⌜ length (now waiting) ≡ maxChannels ⌝ }
     ensures { λ r. ⌜ r ≡ every (slotSound (tableOf (now (table .entry))) (stateOf (now (state .entry))) (thread (stateOf (now (state .entry))) t)) count ⌝ }
     ensures { λ _. ⌜ now (held .exit) ≡ rowAdded (tableOf (now (table .entry))) (thread (stateOf (now (state .entry))) t) 1 (now (held .entry)) ⌝ }
     ensures { λ _. ⌜ now (waiting .exit) ≡ rowAdded (tableOf (now (table .entry))) (thread (stateOf (now (state .entry))) t) (bit (isWaiting (thread (stateOf (now (state .entry))) t))) (now (waiting .entry)) ⌝ }
-    ensures { λ _. ⌜ Fresh (t + 1) (now (seen .exit)) ⌝ }
+    ensures { λ _. ⌜ Fresh (t + 1) (now (stamps .exit)) ⌝ }
 {
     let w = holding::weight(state, t);
     let mut passed = true;
     for k in 0..count {
-        passed = passed & slot_sound(table, index, marks, state, t, n, from, k);
-        recount::count_slot(table, index, state, t, from, k, w, seen, held, waiting);
+        passed = passed & slot_sound(table, index, gaps, state, t, n, from, k);
+        recount::count_slot(table, index, state, t, from, k, w, stamps, held, waiting);
     }
     passed
 }
@@ -155,23 +155,23 @@ fn in_range(table: &[u8], index: &[u32], status: u32, n: u32) -> bool
 fn pass_row(
     table: &[u8],
     index: &[u32],
-    marks: &[u32],
+    gaps: &[u32],
     state: &[u32; state::WORDS],
     t: u32,
-    seen: &mut [u8; recount::CHANNELS],
+    stamps: &mut [u8; recount::CHANNELS],
     held: &mut [u8; recount::CHANNELS],
     waiting: &mut [u8; recount::CHANNELS],
 ) -> bool
     requires { ⌜ Indexed (tableOf (now table)) (now index) ⌝ }
-    requires { ⌜ marksOf (now marks) ≡ flow (tableOf (now table)) ⌝ }
+    requires { ⌜ gapsOf (now gaps) ≡ flow (tableOf (now table)) ⌝ }
     requires { ⌜ t < maxThreads ⌝ }
-    requires { ⌜ Fresh t (now seen) ⌝ }
+    requires { ⌜ Fresh t (now stamps) ⌝ }
     requires { ⌜ length (now held) ≡ maxChannels ⌝ }
     requires { ⌜ length (now waiting) ≡ maxChannels ⌝ }
     ensures { λ r. ⌜ r ≡ rowSound (tableOf (now (table .entry))) (stateOf (now (state .entry))) (thread (stateOf (now (state .entry))) t) ⌝ }
     ensures { λ _. ⌜ now (held .exit) ≡ rowAdded (tableOf (now (table .entry))) (thread (stateOf (now (state .entry))) t) 1 (now (held .entry)) ⌝ }
     ensures { λ _. ⌜ now (waiting .exit) ≡ rowAdded (tableOf (now (table .entry))) (thread (stateOf (now (state .entry))) t) (bit (isWaiting (thread (stateOf (now (state .entry))) t))) (now (waiting .entry)) ⌝ }
-    ensures { λ _. ⌜ Fresh (t + 1) (now (seen .exit)) ⌝ }
+    ensures { λ _. ⌜ Fresh (t + 1) (now (stamps .exit)) ⌝ }
 {
     let status = state::thread_word(state, t as usize, state::STATUS);
     if status == state::FREE {
@@ -183,13 +183,13 @@ fn pass_row(
     let typed = pass_slots(
         table,
         index,
-        marks,
+        gaps,
         state,
         t,
         n,
         slots.from,
         count,
-        seen,
+        stamps,
         held,
         waiting,
     );
@@ -201,23 +201,23 @@ fn pass_row(
 fn pass_rows(
     table: &[u8],
     index: &[u32],
-    marks: &[u32],
+    gaps: &[u32],
     state: &[u32; state::WORDS],
     held: &mut [u8; recount::CHANNELS],
     waiting: &mut [u8; recount::CHANNELS],
 ) -> bool
     requires { ⌜ Indexed (tableOf (now table)) (now index) ⌝ }
-    requires { ⌜ marksOf (now marks) ≡ flow (tableOf (now table)) ⌝ }
+    requires { ⌜ gapsOf (now gaps) ≡ flow (tableOf (now table)) ⌝ }
     requires { ⌜ now held ≡ replicate maxChannels 0 ⌝ }
     requires { ⌜ now waiting ≡ replicate maxChannels 0 ⌝ }
     ensures { λ r. ⌜ r ≡ rowsSound (tableOf (now (table .entry))) (stateOf (now (state .entry))) ⌝ }
     ensures { λ _. ⌜ now (held .exit) ≡ tabulate maxChannels (holders (tableOf (now (table .entry))) (stateOf (now (state .entry)) .threads)) ⌝ }
     ensures { λ _. ⌜ now (waiting .exit) ≡ tabulate maxChannels (waiters (tableOf (now (table .entry))) (stateOf (now (state .entry)) .threads)) ⌝ }
 {
-    let mut seen = [0u8; recount::CHANNELS];
+    let mut stamps = [0u8; recount::CHANNELS];
     let mut passed = true;
     for t in 0..state::THREADS {
-        passed = passed & pass_row(table, index, marks, state, t, &mut seen, held, waiting);
+        passed = passed & pass_row(table, index, gaps, state, t, &mut stamps, held, waiting);
     }
     passed
 }
@@ -300,10 +300,10 @@ fn ports_sound(table: &[u8], state: &[u32; state::WORDS]) -> bool
     true
 }
 
-// Whether a state is sound for a table, whose flow has these marks: ground 10.
-pub fn is_sound(table: &[u8], index: &[u32], marks: &[u32], state: &[u32; state::WORDS]) -> bool
+// Whether a state is sound for a table, whose flow has these gaps: ground 10.
+pub fn is_sound(table: &[u8], index: &[u32], gaps: &[u32], state: &[u32; state::WORDS]) -> bool
     requires { ⌜ Indexed (tableOf (now table)) (now index) ⌝ }
-    requires { ⌜ marksOf (now marks) ≡ flow (tableOf (now table)) ⌝ }
+    requires { ⌜ gapsOf (now gaps) ≡ flow (tableOf (now table)) ⌝ }
     ensures { λ r. ⌜ r ≡ sound (tableOf (now (table .entry))) (stateOf (now (state .entry))) ⌝ }
 {
     if !marks_in_range(state) {
@@ -311,7 +311,7 @@ pub fn is_sound(table: &[u8], index: &[u32], marks: &[u32], state: &[u32; state:
     }
     let mut held = [0u8; recount::CHANNELS];
     let mut waiting = [0u8; recount::CHANNELS];
-    if !pass_rows(table, index, marks, state, &mut held, &mut waiting) {
+    if !pass_rows(table, index, gaps, state, &mut held, &mut waiting) {
         return false;
     }
     if !counts_sound(table, state, &held, &waiting) {

@@ -16,7 +16,7 @@ ghost use Rattle.rules_laws.specs.Soundness.{Sound};
 ghost use Rattle.turns.specs.Counted.{Counted, weighed};
 ghost use Rattle.turns.specs.Running.{Running, MoveMade, TurnTaken};
 ghost use Rattle.turns.specs.Weights.{numberBy, weighedAfter};
-ghost use Rattle.program.specs.Assigning.{Carries};
+ghost use Rattle.program.specs.HandedOn.{Carries};
 ghost use Rattle.next_rows.specs.UsedBelow.{UsedBelow};
 ghost use Rattle.turns.specs.Made.{ChildIn};
 ghost use Rattle.turns.specs.TopRaised.{raisedBy};

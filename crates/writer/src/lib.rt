@@ -53,8 +53,8 @@ pub fn write(table: &[u8], file: &mut [u8]) -> Written
         return Written::WrongLength;
     }
     let mut index = [0u32; table::INDEX];
-    let mut marks = [0u32; loader::MARKED];
-    if !loader::accept(table, &mut index, &mut marks) {
+    let mut gaps = [0u32; loader::GAPS];
+    if !loader::accept(table, &mut index, &mut gaps) {
         return Written::WrongTable;
     }
     let n = table::line_total(table);

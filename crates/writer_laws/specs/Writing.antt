@@ -90,6 +90,19 @@ pub only-file : (t file other : List ℕ) → FileOf t file → FileOf t other
     → (file ≡ other) ⊎ (((file ≡ []) × (other ≡ endingText)) ⊎ ((file ≡ endingText) × (other ≡ [])))
 only-file t file other f g = one-text file other (sym (text-printed t file f) ∙ text-printed t other g)
 
+-- ground 9 accepts just the bytes that are the table of some file
+pub accepted-of : (t : List ℕ) → Characters t → (accepted t ≡ true) ↔ ((file : List ℕ) × FileOf t file)
+accepted-of t fit = (
+  λ a. let (file, own, c, e) = accepted-iff t fit .0 a in (file, file-of t file own e),
+  λ (file, f). table-accepted t file f,
+)
+
+pub refused-of : (t : List ℕ) → Characters t → (accepted t ≡ false) ↔ ((file : List ℕ) → ¬ FileOf t file)
+refused-of t fit = (
+  λ n file f. contra (table-accepted t file f) n,
+  λ none. caseB (accepted t) (λ a. let (file, f) = accepted-of t fit .0 a in absurd (none file f)) (λ n. n),
+)
+
 -- ---- the ways of a write
 
 data Way (t b : List ℕ) : Type 0 where
@@ -102,8 +115,7 @@ way : (t b : List ℕ) → Characters t → Way t b
 unfolding writeCall
 way t b fit = caseB (eqb (length t) tableLength)
     (λ y. caseB (accepted t)
-    (λ a. let (file, own, c, e) = accepted-iff t fit .0 a in
-    let x = file-of t file own e in
+    (λ a. let (file, x) = accepted-of t fit .0 a in
     let text = procedureText file in
     let f = text-of t file x in
     let n = text-some file in
@@ -158,9 +170,9 @@ module _ (t b : List ℕ) (fit : Characters t) where
 
   -- 9: it has a table's length, and is the table of no file
   pub table-iff : (writeCall t b .answer ≡ WrongTable) ↔ ((length t ≡ tableLength) × ((file : List ℕ) → ¬ FileOf t file))
-  table-iff = let w = table-way t b (way t b fit) in (
-    λ e. let (l, a) = w .0 e in (l, λ file f. contra (table-accepted t file f) a),
-    λ (l, none). w .1 (l, caseB (accepted t) (λ a. let (file, own, c, e) = accepted-iff t fit .0 a in absurd (none file (file-of t file own e))) (λ a. a)),
+  table-iff = let w = table-way t b (way t b fit) in let n = refused-of t fit in (
+    λ e. let (l, a) = w .0 e in (l, n .0 a),
+    λ (l, none). w .1 (l, n .1 none),
   )
 
   -- 15: it is the table of a file, and the buffer is shorter than that file

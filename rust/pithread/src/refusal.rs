@@ -10,8 +10,8 @@ use pithread_header::{
 
 /// The ground on which a call was refused. Nothing has changed then.
 ///
-/// If several grounds apply, the answer is the one with the lowest number, but that 18 and 19 come ahead of 10: a
-/// seat without the right is told nothing of the state.
+/// If several grounds apply, the answer is the first of them in this order: 1 to 7, 8, 9, 18, 19, 10, and then the
+/// others by their numbers. A seat without the right is told nothing of the state: a step of thread 99 is 19, not 11.
 ///
 /// ```
 /// use pithread::{Refusal, Table};

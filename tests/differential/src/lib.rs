@@ -13,6 +13,7 @@ mod profiles;
 mod sequence;
 mod tally;
 mod traffic;
+mod worked;
 mod writes;
 
 pub use calls::Calls;
@@ -24,6 +25,7 @@ pub use profiles::Profiles;
 pub use sequence::Sequence;
 pub use tally::Tally;
 pub use traffic::Traffic;
+pub use worked::WorkedFiles;
 pub use writes::Writes;
 
 use generate::{Random, Row, FIELDS};

@@ -27,8 +27,8 @@ pub struct Lists {
 /// Calls as the driver reads them, with what the reference answers and leaves.
 pub struct List {
     /// The lists of rights, one behind the other.
-    lists: Vec<u8>,
-    calls: Vec<u8>,
+    pub(crate) lists: Vec<u8>,
+    pub(crate) calls: Vec<u8>,
     answers: Vec<u8>,
     state: Vec<u8>,
 }
@@ -100,6 +100,14 @@ impl List {
         self.answers.len()
     }
 
+    /// A buffer with as many of the answers as go into it, laid over these bytes.
+    pub(crate) fn answered(&self, before: &[u8]) -> Vec<u8> {
+        let mut bytes = before.to_vec();
+        let laid = self.answers.len().min(before.len() - before.len() % WORD);
+        bytes[..laid].copy_from_slice(&self.answers[..laid]);
+        bytes
+    }
+
     /// The state after the last call.
     pub fn state(&self) -> &[u8] {
         &self.state
@@ -115,9 +123,7 @@ impl Lists {
     /// Works the list on a copy of the state, with so many bytes for the answers.
     pub fn compare(&mut self, list: &List, table: &[u8], state: &[u8], room: usize, about: &str) {
         let before: Vec<u8> = pattern(room).collect();
-        let mut expected = before.clone();
-        let laid = list.answers.len().min(room - room % WORD);
-        expected[..laid].copy_from_slice(&list.answers[..laid]);
+        let expected = list.answered(&before);
         self.table.fill(table);
         self.state.fill(state);
         self.lists.fill(&list.lists);

@@ -1,8 +1,9 @@
 //! Whole lists of calls, worked by the proved driver, against the reference.
 
-use differential::{for_seeds, List, Lists, Traffic};
+use differential::{for_seeds, List, Lists, Traffic, WorkedFiles};
 use generate::{
-    any_call, any_caller, changed_state, damaged_table, profiled, table_of, Layout, Random, LIVELY, STILL,
+    any_call, any_caller, changed_state, damaged, damaged_table, profiled, table_of, Layout, Random, LIVELY,
+    STILL, TABLE_BYTES,
 };
 use interface::{Call, RIGHTS, SEAT, STATE_BYTES};
 
@@ -67,6 +68,39 @@ fn lists_from_a_start() {
     }
     traffic.expect("given to somebody", [0, 1], 100);
     traffic.expect("taken from somebody", [0, 1], 100);
+}
+
+/// Files, right ones and damaged ones, that the driver loads and starts before it works the list, in buffers of
+/// the right lengths and of others.
+#[test]
+fn files_loaded_started_and_worked() {
+    let mut works = WorkedFiles::new(driver::work_file);
+    let mut traffic = Traffic::default();
+    for_seeds(44_000_000, 900, |random, about| {
+        let profile = random.pick(&LIVELY.each_ref());
+        let file = profiled(random, profile);
+        let text = if random.chance(60) { file.text() } else { damaged(random, &file) };
+        let list = match reference::load(&text) {
+            Ok(loaded) => {
+                let table = loaded.to_bytes();
+                any_list(random, Layout::new(&file).ports(), &table, &started(&table), &mut traffic)
+            }
+            Err(_) => List::new(&[]),
+        };
+        let mut lengths = [TABLE_BYTES, STATE_BYTES, random.below(list.answer_bytes() + 50)];
+        if random.chance(20) {
+            let place = random.below(2);
+            lengths[place] = random.below(lengths[place] + 2);
+        }
+        let (refusal, line) = works.compare(&text, &list, lengths, about);
+        traffic.note("file worked", refusal);
+        traffic.note("line named", i32::from(line > 1));
+    });
+    traffic.print();
+    traffic.expect("file worked", [0], 200);
+    traffic.expect("file worked", [8], 50);
+    traffic.expect("file worked", [2, 3, 4, 5, 6, 7], 2);
+    traffic.expect("line named", [1], 100);
 }
 
 /// Buffers of any length, tables and states with a fault, a rest behind the last call.

@@ -1,4 +1,4 @@
-use Rattle.engine.specs.Admitted.{admitted-judged, admitted-indexed, admitted-marked, seat-grants}
+use Rattle.engine.specs.Admitted.{admitted-judged, admitted-indexed, admitted-gaps, seat-grants}
 use Rattle.collector.specs.Collect.{seatedCollect}
 use Rattle.collector.proofs.Ends.{seated-refused}
 use borrow.Author.Needs.{needs}
@@ -17,7 +17,7 @@ collect-spec =
     (λ c. search needs)
     (λ c. search needs)
     (λ c. search needs)
-    (λ c κs. (search admitted-judged, (search admitted-indexed, search admitted-marked)))
+    (λ c κs. (search admitted-judged, (search admitted-indexed, search admitted-gaps)))
     (λ c. search needs)
     (λ c. search seated-refused)
     (λ c. search needs)

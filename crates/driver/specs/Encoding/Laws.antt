@@ -229,7 +229,7 @@ module _ (lists ws : List ℕ) (i code a v seat from n : ℕ) (e₁ : code ≡ g
 
 -- ---- a list of records
 
-called-next : (lists ws : List ℕ) (i : ℕ) → i < length ws / 6 → calledBy lists (drop (i * 6) ws) ≡ recordAt lists ws i ∷ calledBy lists (drop (i * 6 + 6) ws)
+pub called-next : (lists ws : List ℕ) (i : ℕ) → i < length ws / 6 → calledBy lists (drop (i * 6) ws) ≡ recordAt lists ws i ∷ calledBy lists (drop (i * 6 + 6) ws)
 unfolding calledBy recordAt
 called-next lists [] i h = absurd (omega arith)
 called-next lists (c ∷ []) i h = absurd (omega arith)

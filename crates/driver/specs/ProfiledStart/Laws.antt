@@ -10,15 +10,16 @@ use mir.Syntax.{w32}
 use mir.Val.{SFits, toZ, ofZ}
 use mir.Facts.{toZ-ofZ}
 use Rattle.numbers.specs.Search.Laws.{caseB, contra}
-use Rattle.interface.specs.Interface.{StateResult, result, startResult, profileResult}
+use Rattle.interface.specs.Interface.{startResult, profileResult}
 use Rattle.interface.specs.declared.ProfileAnswer.{ProfileAnswer}
-use Rattle.interface.specs.declared.StartAnswer.{StartAnswer}
 use Rattle.guarantee.specs.Claim.{Any}
 use Rattle.guarantee.specs.SeatedClaim.{AtSeat}
 use Rattle.guarantee.specs.InNumbers.{isZero}
 use Rattle.profile_laws.specs.InNumbers.{PledgeInNumbers, passed-pledge}
 use Rattle.driver.specs.Restore.Laws.{zero-is}
+use Rattle.driver.specs.WorkedFile.{startOpening}
 use Rattle.driver.specs.ProfiledStart.{begunTo, begun}
+use Rattle.driver.specs.declared.Opening.{Opening}
 
 module _ (t b : List ℕ) (a : ProfileAnswer) (e : a ≡ profileResult t) (f : SFits w32 (a .refusal)) where
   -- a table that the check refuses
@@ -30,12 +31,12 @@ module _ (t b : List ℕ) (a : ProfileAnswer) (e : a ≡ profileResult t) (f : S
       (λ y. rw (← e, y, toZ-ofZ f, q))
 
   -- one that passes is started
-  pub check-passed : ofZ w32 (a .refusal) ≡ 0 → (s : StartAnswer) (b₁ : List ℕ) → result s b₁ ≡ startResult t b → SFits w32 (s .refusal)
-      → begunTo (toZ w32 (ofZ w32 (s .refusal))) b₁ ≡ begun t b
-  unfolding begun isZero
-  check-passed z s b₁ q g =
-      let o : a .refusal ≡ pos 0 = sym (toZ-ofZ f) ∙ ap (toZ w32) z in
-      rw (← e, o, ← q, toZ-ofZ g)
+  pub check-passed : ofZ w32 (a .refusal) ≡ 0 → (o : Opening) (b₁ : List ℕ) → b₁ ≡ startResult t b .state → o ≡ startOpening (startResult t b .answer) → SFits w32 (o .refusal)
+      → begunTo (toZ w32 (ofZ w32 (o .refusal))) b₁ ≡ begun t b
+  unfolding begun isZero startOpening
+  check-passed z o b₁ w q g =
+      let p : a .refusal ≡ pos 0 = sym (toZ-ofZ f) ∙ ap (toZ w32) z in
+      rw (← e, p, toZ-ofZ g, w, q)
 
 -- where 0 is answered the state is that of a start, and the profile's pledge holds of every list of calls from there
 pub pledged : (table : List ℕ) → ((i : ℕ) → getD table i 0 < 256) → (state : List ℕ) → begun table state .refusal ≡ pos 0

@@ -19,12 +19,13 @@ use Rattle.text.specs.Text.{lineLength}
 use Rattle.table.specs.Table.{tableOf, lineTotal}
 use Rattle.loader.specs.Load.{tableLength}
 use Rattle.interface.specs.Interface.{LoadResult, loadedTo, loadResult, WriteResult, writeResult}
-use Rattle.interface.specs.declared.LoadAnswer.{LoadAnswer}
 use Rattle.interface.specs.declared.WriteAnswer.{WriteAnswer}
 use Rattle.guarantee.specs.InNumbers.{isZero}
 use Rattle.guarantee.specs.Exported.{load-eight}
 use Rattle.guarantee.specs.WriteInNumbers.{LoadsTo, WriteInNumbers, write-in-numbers}
+use Rattle.driver.specs.WorkedFile.{loadOpening}
 use Rattle.driver.specs.Restore.{restoredTo, restored}
+use Rattle.driver.specs.declared.Opening.{Opening}
 
 -- the one number that is zero
 pub zero-is : (z : ℤ) → isZero z ≡ true → z ≡ pos 0
@@ -73,14 +74,11 @@ module _ (t b b₁ : List ℕ) (r : WriteAnswer) (e : _≡_ {A = WriteResult} (r
     not-loaded : (u : List ℕ) → length u ≢ tableLength → loadResult (take v b₁) u ≡ loadedTo (record { refusal = pos 8; line = pos 0 }) u
     not-loaded u n = load-eight (take v b₁) t u (ap (λ (o : LoadResult). o .answer .refusal) (file-of .1 t long)) n
 
-    pub load-answered : (u u₁ : List ℕ) (a : LoadAnswer) → SFits w32 (a .refusal)
-        → _≡_ {A = LoadResult} (record { answer = a; table = u₁ }) (loadResult (take (v - 0) (drop 0 b₁)) u) → restoredTo (toZ w32 (ofZ w32 (a .refusal))) b₁ u₁ ≡ restored t b u
-    unfolding restored isZero
-    load-answered u u₁ a s q =
+    pub load-answered : (u u₁ : List ℕ) (o : Opening) → u₁ ≡ loadResult (take (v - 0) (drop 0 b₁)) u .table
+        → o ≡ loadOpening (loadResult (take (v - 0) (drop 0 b₁)) u .answer) → SFits w32 (o .refusal) → restoredTo (toZ w32 (ofZ w32 (o .refusal))) b₁ u₁ ≡ restored t b u
+    unfolding restored isZero loadOpening
+    load-answered u u₁ o w q s =
         let k : v - 0 ≡ v = omega arith in
-        let w : loadResult (take v b₁) u ≡ record { answer = a; table = u₁ } = sym (rw k at q) in
         caseB (eqb (length u) tableLength)
-        (λ y. let h = sym w ∙ file-of .1 u (eqb-true (length u) tableLength y) in
-        rw (done, y, left, toZ-ofZ s, ap (λ (o : LoadResult). o .answer .refusal) h, ap (λ (o : LoadResult). o .table) h))
-        (λ y. let h = sym w ∙ not-loaded u (λ l. contra (eq-eqb (length u) tableLength l) y) in
-        rw (done, y, left, toZ-ofZ s, ap (λ (o : LoadResult). o .answer .refusal) h, ap (λ (o : LoadResult). o .table) h))
+        (λ y. let h = file-of .1 u (eqb-true (length u) tableLength y) in rw (done, y, left, toZ-ofZ s, q, w, k, h))
+        (λ y. let h = not-loaded u (λ l. contra (eq-eqb (length u) tableLength l) y) in rw (done, y, left, toZ-ofZ s, q, w, k, h))

@@ -1,5 +1,5 @@
 use Rattle.rules.specs.Calls.Laws.{not-admitted}
-use Rattle.engine.specs.Admitted.{admitted-indexed, admitted-marked}
+use Rattle.engine.specs.Admitted.{admitted-indexed, admitted-gaps}
 use Rattle.engine.proofs.Laws.{rights-long, start-refuses, list-tells, start-judged}
 use borrow.Author.Needs.{needs}
 use Rattle.engine.proofs.admit_seat.Statement.{statement}
@@ -19,4 +19,4 @@ admit-seat-spec =
     (λ c. (search start-refuses, (λ e. not-admitted _ e, (λ e. not-admitted _ e, λ e. not-admitted _ e))))
     (λ c. search needs)
     (λ c. search needs)
-    (λ c. (search list-tells, (λ e. search start-judged, (λ e. search admitted-indexed, λ e. search admitted-marked)))))
+    (λ c. (search list-tells, (λ e. search start-judged, (λ e. search admitted-indexed, λ e. search admitted-gaps)))))

@@ -1,6 +1,6 @@
 use borrow.Author.Needs.{needs}
 use Rattle.rules.specs.Calls.Laws.{not-admitted}
-use Rattle.engine.proofs.Laws.{lengths-wrong, table-accepted, table-refused, accepted-indexed, accepted-marked}
+use Rattle.engine.proofs.Laws.{lengths-wrong, table-accepted, table-refused, accepted-indexed, accepted-gaps}
 use Rattle.engine.proofs.admit_start.Statement.{statement}
 use Rattle.engine.proofs.admit_start.Tie as tie
 
@@ -9,11 +9,11 @@ admit-start-spec =
     tie.close
     (tie.spec
     (λ c κs. search needs)
-    (λ c. (search lengths-wrong, (λ e. not-admitted _ e, λ e. not-admitted _ e)))
     (λ c κs. search needs)
     (λ c. search needs)
     (λ c. search needs)
-    (λ c. (search table-accepted, (λ e. search accepted-indexed, λ e. search accepted-marked)))
+    (λ c. (search table-accepted, (λ e. search accepted-indexed, λ e. search accepted-gaps)))
     (λ c. search needs)
     (λ c. search needs)
-    (λ c. (search table-refused, (λ e. not-admitted _ e, λ e. not-admitted _ e))))
+    (λ c. (search table-refused, (λ e. not-admitted _ e, λ e. not-admitted _ e)))
+    (λ c. (search lengths-wrong, (λ e. not-admitted _ e, λ e. not-admitted _ e))))

@@ -1,5 +1,5 @@
 use borrow.Author.Needs.{needs}
-use Rattle.flow.specs.Marks.Laws.{arrives}
+use Rattle.flow.specs.Gaps.Laws.{arrives}
 use Rattle.flow.proofs.arrive_at.Statement.{statement}
 use Rattle.flow.proofs.arrive_at.Tie as tie
 

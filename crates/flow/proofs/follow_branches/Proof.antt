@@ -5,17 +5,17 @@ use lib.ListN.{length}
 use borrow.Author.Needs.{needs}
 use Rattle.table.specs.Table.{tableOf}
 use Rattle.flow.specs.Flow.{branchesFollowed}
-use Rattle.flow.specs.Marks.{bits, marksOf}
+use Rattle.flow.specs.Gaps.{bits, gapsOf}
 use Rattle.flow.proofs.Ways.{branches-none, branches-more, branches-all}
 use Rattle.flow.proofs.follow_branches.Statement.{statement}
 use Rattle.flow.proofs.follow_branches.Tie as tie
 
 abbrev Inv-loop : tie.InvT-loop
-Inv-loop table index n m marks₀ f row count i₀ marks i =
-    (i ≤ count) × (length marks ≡ length marks₀) × (marksOf marks ≡ branchesFollowed (tableOf table) n (bits m) (marksOf marks₀) i)
+Inv-loop table index n m gaps₀ f row count i₀ gaps i =
+    (i ≤ count) × (length gaps ≡ length gaps₀) × (gapsOf gaps ≡ branchesFollowed (tableOf table) n (bits m) (gapsOf gaps₀) i)
 
 abbrev μ-loop : tie.MeasureT-loop
-μ-loop table index n m marks₀ f row count i₀ marks i = count - i
+μ-loop table index n m gaps₀ f row count i₀ gaps i = count - i
 
 pub follow-branches-spec : {M : Type 1} → statement M
 follow-branches-spec =

@@ -1,5 +1,5 @@
 use borrow.Author.Needs.{needs}
-use Rattle.flow.specs.Marks.Laws.{bit-room, past-within, past-beyond}
+use Rattle.flow.specs.Gaps.Laws.{bit-room, past-within, past-beyond}
 use Rattle.flow.proofs.past_write.Statement.{statement}
 use Rattle.flow.proofs.past_write.Tie as tie
 

@@ -21,16 +21,15 @@ use Rattle.loader.specs.Load.{accepted}
 use Rattle.loader_laws.specs.Yields.{loaded-small, loaded-accepted}
 use Rattle.state.specs.State.{State, maxThreads, stateLength, view, thread, inUse, isWaiting}
 use Rattle.rules.specs.Moves.{move}
-use Rattle.rules.specs.Calls.{startAdmission, startOn, startCall, stepAnswer, canStep, stepOn, stepCall, bench, giveOn, giveCall, takeOn, takeCall}
-use Rattle.rules.specs.Calls.Laws.{start-admits, step-answered, by-refused, by-answer, call-answer}
+use Rattle.rules.specs.Calls.{startAdmission, startOn, startCall, stepAnswer, canStep, stepOn, stepCall}
+use Rattle.rules.specs.Calls.Laws.{start-admits, step-answered, by-refused, by-answer}
 use Rattle.rules.specs.Seats.{seatAdmission, seatedStep, seatedGive, seatedTake, seatedRun}
-use Rattle.rules.specs.Seats.Laws.{seat-refused, seat-granted, seat-answer}
+use Rattle.rules.specs.Seats.Laws.{seat-refused, seat-granted}
 use Rattle.rules.specs.declared.Right.the-variants as Right
 use Rattle.rules.specs.declared.Admission.{Admission}
 use Rattle.rules.specs.declared.Admission.the-variants as Admission
 use Rattle.rules.specs.declared.Refusal.{Refusal}
 use Rattle.rules.specs.declared.Refusal.the-variants as Ground
-use Rattle.rules.specs.declared.Direction.the-variants.{Out, In}
 use Rattle.rules.specs.declared.Move.{Move}
 use Rattle.rules.specs.declared.Move.the-variants.{Ends, Calls, Waits, Goes, Creates, Spawns, Meets, LacksThread, LacksChannel}
 use Rattle.rules.specs.declared.Started.{Started}
@@ -48,8 +47,7 @@ use Rattle.engine.specs.Numbers.Laws.{ground-range}
 use Rattle.rules_laws.specs.Reading.Laws.{waiting-used}
 use Rattle.engine_laws.specs.Entry.{RightLengths, start-length-iff}
 use Rattle.engine_laws.specs.Seats.{seat-length-iff}
-use Rattle.engine_laws.specs.Bench.{give-met, take-met}
-use Rattle.rules_laws.specs.Chosen.{Chosen, chosen, partner-answers}
+use Rattle.rules_laws.specs.Chosen.{Chosen, chosen}
 use Rattle.rules_laws.specs.Frames.{elem, movers}
 use Rattle.engine_laws.specs.Movers.{ranMovers}
 use Rattle.engine_laws.specs.Buffers.{SoundBuffer}
@@ -66,6 +64,7 @@ use Rattle.guarantee.specs.SeatedClaim.{AtSeat, asked, afterSeat, afterS
 use Rattle.guarantee.specs.Through.{kept-left, refused-iff}
 use Rattle.guarantee.specs.SeatedProof.{collected-plainly, seat-sound, seats-sound, accepted-seated, collection-refused}
 use Rattle.guarantee.specs.Exported.{ground-signed, left, refusal, given-so, started-so, left-so, refused-shows, refused-so, load-so, table-so}
+use Rattle.guarantee.specs.NamedInNumbers.{give-waits, take-waits}
 use Rattle.guarantee.specs.InNumbers.{leftAll, leftFrom, isZero, ifDone, named, waitingIn, moved, movedAll, takes, NoTen, InNumbers}
 
 -- ---- the numbers of an answer
@@ -140,30 +139,6 @@ unfolding ifDone isZero runNumbers runFields inTurns
 run-moves (Ran.Done n r) who = refl
 run-moves (Ran.Refused r) who = rw (not-zero r)
 
--- the thread that a give or a take meets has a row
-module _ (table state rights : List ℕ) (seat p : ℕ) where
-  give-in : (v u : ℕ) → seatedGive table state rights seat p v .answer ≡ Given.Met u → u < maxThreads
-  unfolding seatedGive giveCall
-  give-in v u e =
-      let tb = tableOf table in
-      let s = view state in
-      let a = seat-answer table state rights seat (Right.Give p) Given.Refused (giveCall table state p v) (Given.Met u) (λ r h. clash cc) e in
-      let g : giveCall table state p v .answer ≡ Given.Met u = rw (seat-granted table state rights seat (Right.Give p) Given.Refused (giveCall table state p v) a) at e in
-      let f = call-answer Given.Refused table state (giveOn tb s p v) (Given.Met u) (λ r h i. clash cc) .0 g .1 in
-      let (l, j, h, i) = give-met tb s p v u f in
-      partner-answers tb s bench In p u j h .thread-in
-
-  take-in : (u v : ℕ) → seatedTake table state rights seat p .answer ≡ Taken.Met u v → u < maxThreads
-  unfolding seatedTake takeCall
-  take-in u v e =
-      let tb = tableOf table in
-      let s = view state in
-      let a = seat-answer table state rights seat (Right.Take p) Taken.Refused (takeCall table state p) (Taken.Met u v) (λ r h. clash cc) e in
-      let g : takeCall table state p .answer ≡ Taken.Met u v = rw (seat-granted table state rights seat (Right.Take p) Taken.Refused (takeCall table state p) a) at e in
-      let f = call-answer Taken.Refused table state (takeOn tb s p) (Taken.Met u v) (λ r h i. clash cc) .0 g .1 in
-      let (l, j, h, i, k) = take-met tb s p u v f in
-      partner-answers tb s bench Out p u j h .thread-in
-
 module _ (table : List ℕ) (ok : accepted table ≡ true) where
   module _ (state : List ℕ) (b : SoundBuffer table state) where
     -- without seats
@@ -191,8 +166,8 @@ module _ (table : List ℕ) (ok : accepted table ≡ true) where
       moved-so (step t) = step-so t (seatAdmission table state rights seat Right.StepAndRun) refl
       moved-so (give p v h) =
           ap (λ x. ifDone (giveNumbers (seatedGive table state rights seat p x .answer) .refusal) (named (giveNumbers (seatedGive table state rights seat p x .answer) .thread))) (given-so v h)
-          ∙ give-moves (seatedGive table state rights seat p v .answer) (λ u e. give-in table state rights seat p v u e)
-      moved-so (take p) = take-moves (seatedTake table state rights seat p .answer) (λ u v e. take-in table state rights seat p u v e)
+          ∙ give-moves (seatedGive table state rights seat p v .answer) (λ u e. give-waits table state rights seat p v u e .0)
+      moved-so (take p) = take-moves (seatedTake table state rights seat p .answer) (λ u v e. take-waits table state rights seat p u v e .0)
       moved-so (run n) = run-moves (seatedRun table state rights seat n .answer) (ranMovers (tableOf table) n (view state))
 
   module _ (fit : (i : ℕ) → getD table i 0 < 256) where
@@ -212,7 +187,7 @@ no-ten table state (k ∷ ks) h =
 
 -- ---- a collection of a sound buffer
 
-bits-few : (p : ℕ → Bool) (n : ℕ) → sumTo (λ t. bit (p t)) n ≤ n
+pub bits-few : (p : ℕ → Bool) (n : ℕ) → sumTo (λ t. bit (p t)) n ≤ n
 bits-few p zero = omega (arith, sum-none (λ t. bit (p t)))
 bits-few p (suc n) = omega (arith, sum-suc (λ t. bit (p t)) n, bits-few p n, bit-le (p n))
 

@@ -1,5 +1,5 @@
 use mathlib.Core.Bool.{false≢true}
-use Rattle.loader.specs.Verdict.Laws.{accept-length, accept-rest, accept-fault, sound-few, sound-indexed, sound-marks}
+use Rattle.loader.specs.Verdict.Laws.{accept-length, accept-rest, accept-fault, sound-few, sound-indexed, sound-gaps}
 use borrow.Author.Needs.{needs}
 use Rattle.loader.proofs.accept.Statement.{statement}
 use Rattle.loader.proofs.accept.Tie as tie
@@ -16,7 +16,7 @@ accept-spec =
     (λ c. search needs)
     (λ c. search needs)
     (λ c. search needs)
-    (λ c. (search accept-rest, (λ e. search sound-indexed, λ e. search sound-marks)))
+    (λ c. (search accept-rest, (λ e. search sound-indexed, λ e. search sound-gaps)))
     (λ c. search needs)
     (λ c. search needs)
     (λ c. (search accept-fault, (λ e. absurd (false≢true e), λ e. absurd (false≢true e)))))

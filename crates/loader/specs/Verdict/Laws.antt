@@ -19,7 +19,7 @@ use Rattle.table.specs.Form.Laws.{header-counts}
 use Rattle.table.specs.Index.{Indexed, indexOf}
 use Rattle.table.specs.Index.Laws.{long-whole}
 use Rattle.flow.specs.Flow.{flow}
-use Rattle.flow.specs.Marks.{marksOf}
+use Rattle.flow.specs.Gaps.{gapsOf}
 use Rattle.file.specs.File.{lineCount, notLines, malformed, fileTable, numberIn}
 use Rattle.file.specs.File.Laws.{rows-file}
 use Rattle.loader.specs.Verdict.{atFault, judgedRows, judged, verdict, isSound, restZero, acceptable}
@@ -130,8 +130,8 @@ module _ (tb : Table) where
   pub sound-indexed : (l : List ℕ) (v : Verdict) → (v ≡ Sound → Indexed tb l) → v ≡ Sound → Indexed tb l
   sound-indexed l v f e = f e
 
-  pub sound-marks : (l : List ℕ) (v : Verdict) → (v ≡ Sound → marksOf l ≡ flow tb) → v ≡ Sound → marksOf l ≡ flow tb
-  sound-marks l v f e = f e
+  pub sound-gaps : (l : List ℕ) (v : Verdict) → (v ≡ Sound → gapsOf l ≡ flow tb) → v ≡ Sound → gapsOf l ≡ flow tb
+  sound-gaps l v f e = f e
 
 -- the index of a table in a buffer of the right length
 pub indexed-is : (b l : List ℕ) (h : Bool) → h ≡ headerInRange (tableOf b) → not h ≡ false → l ≡ indexOf (tableOf b) → length b ≡ tableLength

@@ -8,7 +8,7 @@ use lib.Dec.{ltb, eqb}
 use Rattle.numbers.specs.Search.Laws.{caseB, contra}
 use Rattle.table.specs.Table.{Table}
 use Rattle.table.specs.Roles.{guardRole, actionRole, operand, operandRole, writes}
-use Rattle.flow.specs.Flow.{markCount, slotWritten}
+use Rattle.flow.specs.Flow.{gapCount, slotWritten}
 use Rattle.loader_laws.specs.Paths.{BranchWrites}
 
 -- a guard writes nothing
@@ -49,7 +49,7 @@ module _ (tb : Table) (r k : ℕ) where
   written-slot (suc (suc (suc (suc (suc j))))) h w q = absurd (let z : ⊥ = omega arith in z)
 
   -- below 17, which stands for no slot
-  pub writes-iff : k < markCount → (k ≡ slotWritten tb r) ↔ BranchWrites tb r k
+  pub writes-iff : k < gapCount → (k ≡ slotWritten tb r) ↔ BranchWrites tb r k
   unfolding slotWritten
   writes-iff h = (
     λ e. caseB (writes (operandRole tb r 2))

@@ -11,10 +11,10 @@ use Rattle.paths.proofs.arguments_written.Statement.{statement}
 use Rattle.paths.proofs.arguments_written.Tie as tie
 
 abbrev Inv-loop : tie.InvT-loop
-Inv-loop table marks row n count i₀ i = (i ≤ count) × (every (argumentWritten (tableOf table) row n) i ≡ true)
+Inv-loop table gaps row n count i₀ i = (i ≤ count) × (every (argumentWritten (tableOf table) row n) i ≡ true)
 
 abbrev μ-loop : tie.MeasureT-loop
-μ-loop table marks row n count i₀ i = count - i
+μ-loop table gaps row n count i₀ i = count - i
 
 pub arguments-written-spec : {M : Type 1} → statement M
 arguments-written-spec =

@@ -11,10 +11,10 @@ use Rattle.paths.proofs.first_reads_unwritten.Statement.{statement}
 use Rattle.paths.proofs.first_reads_unwritten.Tie as tie
 
 abbrev Inv-loop : tie.InvT-loop
-Inv-loop table index marks n row₀ row = (row ≤ n) × (first (readsUnwritten (tableOf table)) row ≡ row)
+Inv-loop table index gaps n row₀ row = (row ≤ n) × (first (readsUnwritten (tableOf table)) row ≡ row)
 
 abbrev μ-loop : tie.MeasureT-loop
-μ-loop table index marks n row₀ row = n - row
+μ-loop table index gaps n row₀ row = n - row
 
 pub first-reads-unwritten-spec : {M : Type 1} → statement M
 first-reads-unwritten-spec =

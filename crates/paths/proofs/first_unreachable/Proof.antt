@@ -10,10 +10,10 @@ use Rattle.paths.proofs.first_unreachable.Statement.{statement}
 use Rattle.paths.proofs.first_unreachable.Tie as tie
 
 abbrev Inv-loop : tie.InvT-loop
-Inv-loop table marks n row₀ row = (row ≤ n) × (first (unreachable (tableOf table)) row ≡ row)
+Inv-loop table gaps n row₀ row = (row ≤ n) × (first (unreachable (tableOf table)) row ≡ row)
 
 abbrev μ-loop : tie.MeasureT-loop
-μ-loop table marks n row₀ row = n - row
+μ-loop table gaps n row₀ row = n - row
 
 pub first-unreachable-spec : {M : Type 1} → statement M
 first-unreachable-spec =

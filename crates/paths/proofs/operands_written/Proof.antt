@@ -11,10 +11,10 @@ use Rattle.paths.proofs.operands_written.Statement.{statement}
 use Rattle.paths.proofs.operands_written.Tie as tie
 
 abbrev Inv-loop : tie.InvT-loop
-Inv-loop table marks row n k₀ k = (k ≤ 5) × (every (operandWritten (tableOf table) row n) k ≡ true)
+Inv-loop table gaps row n k₀ k = (k ≤ 5) × (every (operandWritten (tableOf table) row n) k ≡ true)
 
 abbrev μ-loop : tie.MeasureT-loop
-μ-loop table marks row n k₀ k = 5 - k
+μ-loop table gaps row n k₀ k = 5 - k
 
 pub operands-written-spec : {M : Type 1} → statement M
 operands-written-spec =

@@ -1,5 +1,6 @@
 use borrow.Author.Needs.{needs}
-use Rattle.recount.proofs.Ways.{add-in, add-out}
+use Rattle.recount.specs.Tally.Stamps.{added-out}
+use Rattle.recount.proofs.Ways.{add-in}
 use Rattle.recount.proofs.add.Statement.{statement}
 use Rattle.recount.proofs.add.Tie as tie
 
@@ -11,5 +12,5 @@ add-spec =
     (λ c κs. search needs)
     (λ c. search needs)
     (λ c. search needs)
-    (λ c. search (add-in, add-out))
-    (λ c. search (add-in, add-out)))
+    (λ c. search (add-in, added-out))
+    (λ c. search (add-in, added-out)))

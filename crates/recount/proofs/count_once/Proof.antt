@@ -1,5 +1,5 @@
 use borrow.Author.Needs.{needs}
-use Rattle.recount.proofs.Ways.{no-channel-added, again-added, once-added, no-channel-marked, again-marked, once-marked}
+use Rattle.recount.proofs.Ways.{no-channel-added, again-added, once-added, no-channel-stamped, again-stamped, once-stamped}
 use Rattle.recount.proofs.count_once.Statement.{statement}
 use Rattle.recount.proofs.count_once.Tie as tie
 
@@ -11,6 +11,6 @@ count-once-spec =
     (λ c. search needs)
     (λ c κs. search needs)
     (λ c κs. search needs)
-    (λ c. (search once-added, (search once-added, search once-marked)))
-    (λ c. (search again-added, (search again-added, search again-marked)))
-    (λ c. (search no-channel-added, (search no-channel-added, search no-channel-marked))))
+    (λ c. (search once-added, (search once-added, search once-stamped)))
+    (λ c. (search again-added, (search again-added, search again-stamped)))
+    (λ c. (search no-channel-added, (search no-channel-added, search no-channel-stamped))))

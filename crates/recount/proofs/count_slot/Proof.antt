@@ -1,5 +1,5 @@
 use borrow.Author.Needs.{needs}
-use Rattle.recount.specs.Tally.Marks.{counted-here, passed-more}
+use Rattle.recount.specs.Tally.Stamps.{counted-here, passed-more}
 use Rattle.recount.proofs.Ways.{slot-low}
 use Rattle.recount.proofs.count_slot.Statement.{statement}
 use Rattle.recount.proofs.count_slot.Tie as tie

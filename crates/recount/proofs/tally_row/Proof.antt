@@ -1,4 +1,4 @@
--- `recount::tally_row` meets its contract. The loop: the thread is counted at the channels of the slots before the k-th, and has left its mark there. Assumes nothing.
+-- `recount::tally_row` meets its contract. The loop: the thread is counted at the channels of the slots before the k-th, and has left its stamp there. Assumes nothing.
 use Prim.Native.Nat.{_≤_, _-_}
 use mathlib.Core.Path.{_≡_}
 use lib.ListN.{length}
@@ -7,20 +7,20 @@ use Rattle.table.specs.Table.{tableOf}
 use Rattle.state.specs.State.{stateOf, thread, maxChannels}
 use Rattle.holding.specs.Own.{ownOf}
 use Rattle.recount.specs.Tally.{addedTo, Passed}
-use Rattle.recount.specs.Tally.Marks.{passed-none, passed-all}
+use Rattle.recount.specs.Tally.Stamps.{passed-none, passed-all}
 use Rattle.recount.specs.Tally.Pass.{slots-none, slots-more, slots-all, still-long, types-there}
 use Rattle.recount.proofs.tally_row.Statement.{statement}
 use Rattle.recount.proofs.tally_row.Tie as tie
 
 abbrev Inv-loop : tie.InvT-loop
-Inv-loop table index state t marks₀ held₀ waiting₀ from n w k₀ marks held waiting k =
+Inv-loop table index state t stamps₀ held₀ waiting₀ from n w k₀ stamps held waiting k =
     (k ≤ n) × (length held ≡ maxChannels) × (length waiting ≡ maxChannels)
     × (held ≡ addedTo (ownOf (tableOf table) (thread (stateOf state) t)) 1 held₀ k)
     × (waiting ≡ addedTo (ownOf (tableOf table) (thread (stateOf state) t)) w waiting₀ k)
-    × Passed (tableOf table) (thread (stateOf state) t) t k marks
+    × Passed (tableOf table) (thread (stateOf state) t) t k stamps
 
 abbrev μ-loop : tie.MeasureT-loop
-μ-loop table index state t marks₀ held₀ waiting₀ from n w k₀ marks held waiting k = n - k
+μ-loop table index state t stamps₀ held₀ waiting₀ from n w k₀ stamps held waiting k = n - k
 
 pub tally-row-spec : {M : Type 1} → statement M
 tally-row-spec =

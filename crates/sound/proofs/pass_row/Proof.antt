@@ -1,5 +1,5 @@
 use borrow.Author.Needs.{needs}
-use Rattle.recount.specs.Tally.Marks.{fresh-later}
+use Rattle.recount.specs.Tally.Stamps.{fresh-later}
 use Rattle.recount.specs.Tally.Pass.{free-counted}
 use Rattle.sound.proofs.Ways.{row-free, in-use, row-used}
 use Rattle.sound.proofs.pass_row.Statement.{statement}

@@ -10,22 +10,22 @@ use Rattle.table.specs.Table.{tableOf}
 use Rattle.state.specs.State.{stateOf, thread, maxChannels}
 use Rattle.holding.specs.Own.{ownOf}
 use Rattle.recount.specs.Tally.{addedTo, Passed}
-use Rattle.recount.specs.Tally.Marks.{passed-none, passed-all}
+use Rattle.recount.specs.Tally.Stamps.{passed-none, passed-all}
 use Rattle.recount.specs.Tally.Pass.{slots-none, slots-more, slots-all, still-long}
 use Rattle.sound.specs.SoundRows.{slotSound}
 use Rattle.sound.proofs.pass_slots.Statement.{statement}
 use Rattle.sound.proofs.pass_slots.Tie as tie
 
 abbrev Inv-loop : tie.InvT-loop
-Inv-loop table index marks state t n from count seen₀ held₀ waiting₀ w passed₀ k₀ seen held waiting passed k =
+Inv-loop table index gaps state t n from count stamps₀ held₀ waiting₀ w passed₀ k₀ stamps held waiting passed k =
     (k ≤ count) × (passed ≡ every (slotSound (tableOf table) (stateOf state) (thread (stateOf state) t)) k)
     × (length held ≡ maxChannels) × (length waiting ≡ maxChannels)
     × (held ≡ addedTo (ownOf (tableOf table) (thread (stateOf state) t)) 1 held₀ k)
     × (waiting ≡ addedTo (ownOf (tableOf table) (thread (stateOf state) t)) w waiting₀ k)
-    × Passed (tableOf table) (thread (stateOf state) t) t k seen
+    × Passed (tableOf table) (thread (stateOf state) t) t k stamps
 
 abbrev μ-loop : tie.MeasureT-loop
-μ-loop table index marks state t n from count seen₀ held₀ waiting₀ w passed₀ k₀ seen held waiting passed k = count - k
+μ-loop table index gaps state t n from count stamps₀ held₀ waiting₀ w passed₀ k₀ stamps held waiting passed k = count - k
 
 pub pass-slots-spec : {M : Type 1} → statement M
 pass-slots-spec =

@@ -1,5 +1,5 @@
 use borrow.Author.Needs.{needs}
-use Rattle.sound.proofs.Ways.{slots}
+use Rattle.sound.proofs.Ways.{slots, slot-empty}
 use Rattle.sound.proofs.slot_sound.Statement.{statement}
 use Rattle.sound.proofs.slot_sound.Tie as tie
 
@@ -15,5 +15,5 @@ slot-sound-spec =
     (λ c κs. search needs)
     (λ c. search slots)
     (λ c κs. search needs)
-    (λ c. search slots)
+    (λ c. slot-empty _ _ _ _ _ _ _ (c .has-gap .ensures) (search) (search) (c .before .before .before .slot .result) (search) (search) (search needs) _ (c .before .before .before .before .before .cell-of .result) (search) (c .before .before .before .before .before .cell-of .ensures .0) (search) (search))
     (λ c. search slots))

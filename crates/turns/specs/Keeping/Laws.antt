@@ -27,8 +27,8 @@ use Rattle.rules.specs.declared.Move.{Move}
 use Rattle.rules.specs.declared.Move.the-variants.{Calls, Waits, Goes, Spawns, Meets}
 use Rattle.call_rows.specs.CalledRow.{callKeeps}
 use Rattle.meetings.specs.Sides.{Facing}
-use Rattle.program.specs.Assigning.{goneStoring, Carries}
-use Rattle.program.specs.Assigning.Laws.{gone-storing, goes-assigns}
+use Rattle.program.specs.HandedOn.{goneStoring, Carries}
+use Rattle.program.specs.HandedOn.Laws.{gone-storing, goes-assigns}
 use Rattle.rules_laws.specs.Granted.{Granted}
 use Rattle.rules_laws.specs.Guards.{assigning}
 use Rattle.rules_laws.specs.Decided.{spawns-other}
@@ -218,7 +218,7 @@ module _ (tb : Table) (b : List ℕ) (u j v : ℕ) (s₁ s₂ : State) where
       minusOne (weighs-less (thread (stateOf b) u) row (a .waits) (metBy-ready tb (thread (stateOf b) u) j v))))
 
 -- r is the number of ports, as it was read
-pub at-port : (tb : Table) (s : State) (d : Direction) (p u j r : ℕ) (x : Partner) → r ≡ ports tb → p < r → x ≡ partnerOf tb s bench d p → x ≡ At u j
-    → AtPort tb s u j
+pub at-port : (tb : Table) (s : State) (u j : ℕ) (x : Partner) → x ≡ At u j → (d : Direction) (p : ℕ) → x ≡ partnerOf tb s bench d p
+    → (r : ℕ) → r ≡ ports tb → p < r → AtPort tb s u j
 unfolding AtPort
-at-port tb s d p u j r x q l e f = (d, p, (rw (← q) l), sym e ∙ f)
+at-port tb s u j x f d p e r q l = (d, p, (rw (← q) l), sym e ∙ f)

@@ -14,7 +14,7 @@ use Rattle.rules.specs.declared.Act.{Act}
 use Rattle.rules.specs.declared.Act.the-variants.{Tau, Meeting, New, Spawn, Assignment}
 use Rattle.rules.specs.declared.Move.{Move}
 use Rattle.rules.specs.declared.Move.the-variants.{Goes}
-use Rattle.program.specs.Assigning.{goneStoring, Assigns, Carries}
+use Rattle.program.specs.HandedOn.{goneStoring, Assigns, Carries}
 
 -- what is assigned counts for an assignment alone
 gone-alike : (a : Act) (row : List ℕ) (n k : ℕ) (v w : Checked) → (a ≡ Assignment → v ≡ w) → gone a row n k v ≡ gone a row n k w

@@ -1,4 +1,4 @@
--- `flow::mark_flow` meets its contract. The loop: the nodes below n have been followed. Assumes nothing.
+-- `flow::find_gaps` meets its contract. The loop: the nodes below n have been followed. Assumes nothing.
 use Prim.Native.Nat.{_≤_, _-_}
 use native.Mathlib.Omega.{arith}
 use mathlib.Core.Path.{_≡_}
@@ -6,20 +6,20 @@ use lib.ListN.{length}
 use borrow.Author.Needs.{needs}
 use Rattle.table.specs.Table.{tableOf}
 use Rattle.flow.specs.Flow.{flowTo}
-use Rattle.flow.specs.Marks.{marksOf}
+use Rattle.flow.specs.Gaps.{gapsOf}
 use Rattle.flow.proofs.Ways.{flow-none, flow-all}
-use Rattle.flow.proofs.mark_flow.Statement.{statement}
-use Rattle.flow.proofs.mark_flow.Tie as tie
+use Rattle.flow.proofs.find_gaps.Statement.{statement}
+use Rattle.flow.proofs.find_gaps.Tie as tie
 
 abbrev Inv-loop : tie.InvT-loop
-Inv-loop table index marks₀ count n₀ marks n =
-    (n ≤ count) × (length marks ≡ length marks₀) × (marksOf marks ≡ flowTo (tableOf table) n)
+Inv-loop table index gaps₀ count n₀ gaps n =
+    (n ≤ count) × (length gaps ≡ length gaps₀) × (gapsOf gaps ≡ flowTo (tableOf table) n)
 
 abbrev μ-loop : tie.MeasureT-loop
-μ-loop table index marks₀ count n₀ marks n = count - n
+μ-loop table index gaps₀ count n₀ gaps n = count - n
 
-pub mark-flow-spec : {M : Type 1} → statement M
-mark-flow-spec =
+pub find-gaps-spec : {M : Type 1} → statement M
+find-gaps-spec =
     tie.close
     (tie.spec
     Inv-loop
