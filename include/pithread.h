@@ -175,9 +175,10 @@ enum {
     /* The procedure does not keep to the rental-shop profile: 16 and 17, from pithread_profile. It
      * is a right one all the same, and can be started. */
 
-    /* A call goes to a definition of a lower number, or to its own definition, which has a spawn. */
+    /* The profile forbids a call: one to a definition of a lower number, or to its own definition,
+     * which has a spawn. */
     PITHREAD_FORBIDDEN_CALL = 16,
-    /* The thread bound of definition 0 is above 64. */
+    /* There can be more threads than thread rows: the thread bound of definition 0 is above 64. */
     PITHREAD_MANY_THREADS = 17
 };
 

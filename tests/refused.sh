@@ -2,7 +2,7 @@
 # The files in examples/refused. Each is refused with the ground and the line that the table
 # `expected` there gives: those with a ground from 1 to 7 by loading, and their mended forms load; those with
 # 16 or 17 load and are refused by the check for the profile, which their mended forms pass. Each of these
-# grounds comes. The programs are those that PITHREAD_LISTING and PITHREAD_PROCEDURE name; without them, the
+# grounds comes. The programs are those that PITHREAD_LISTING and PITHREAD_WORKBENCH name; without them, the
 # ones in target/bin and tests/target.
 set -euo pipefail
 root=$(cd "$(dirname "$0")/.." && pwd)
@@ -16,7 +16,7 @@ expected() {
 }
 
 program=${PITHREAD_LISTING:-$root/target/bin/listing}
-procedure=${PITHREAD_PROCEDURE:-$root/tests/target/release/procedure}
+workbench=${PITHREAD_WORKBENCH:-$root/tests/target/release/workbench}
 
 # first_line FILE: of what the listing program prints.
 first_line() {
@@ -39,7 +39,7 @@ accepted() {
 # profiled STATUS TEXT NAME: the check for the profile ends with this status, and has this text in what it prints or says.
 profiled() {
     local status=0 text
-    text=$("$procedure" profile "$folder/$3.txt" 2>&1) || status=$?
+    text=$("$workbench" profile "$folder/$3.txt" 2>&1) || status=$?
     echo "$text"
     [ "$status" -eq "$1" ] && [[ "$text" == *"$2"* ]]
 }

@@ -1,11 +1,15 @@
-//! What the programs share: the words on a command line, reading and printing, and how a program ends.
+//! What a program for people is made of: the words on a command line, reading and printing, and how it ends.
+
+mod input;
+mod output;
+
+pub use input::{other_than_file, read};
+pub use output::print;
 
 use std::ffi::OsStr;
 use std::fmt::Display;
-use std::fs::File;
-use std::io::{self, Read, Write};
+use std::io::{self, Write};
 use std::ops::RangeInclusive;
-use std::path::Path;
 use std::process::ExitCode;
 use std::str::FromStr;
 
@@ -44,19 +48,4 @@ where
         let (least, most) = range.into_inner();
         Failure::Failed(format!("{word:?} is no number from {least} to {most}; {usage}"))
     })
-}
-
-/// Reads a file, but no further than one byte past the longest that can be accepted.
-pub fn read(path: &Path, most: usize) -> Result<Vec<u8>, Failure> {
-    let mut bytes = Vec::new();
-    let read = File::open(path).and_then(|file| file.take(most as u64 + 1).read_to_end(&mut bytes));
-    read.map_err(|error| Failure::Failed(format!("{path:?} cannot be read: {error}")))?;
-    Ok(bytes)
-}
-
-/// Prints to standard output.
-pub fn print(what: &str, bytes: &[u8]) -> Result<(), Failure> {
-    let mut out = io::stdout();
-    let printed = out.write_all(bytes).and_then(|()| out.flush());
-    printed.map_err(|error| Failure::Failed(format!("the {what} cannot be written: {error}")))
 }

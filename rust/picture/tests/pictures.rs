@@ -18,7 +18,7 @@ fn the_pictures_are_what_is_drawn_now() {
         let file = read(&format!("examples/{name}.txt"));
         let drawn = Picture::of_file(&format!("{name}.txt"), file.as_bytes(), steps).expect("it loads").svg();
         let path = format!("docs/pictures/{name}.svg");
-        let again = format!("picture examples/{name}.txt {steps} --svg >{path}");
+        let again = format!("./run draw examples/{name}.txt {steps} --svg >{path}");
         assert!(read(&path) == drawn, "{path} is another picture; {again} draws it anew");
     }
 }
@@ -27,7 +27,9 @@ fn the_pictures_are_what_is_drawn_now() {
 fn the_page_shows_every_picture_and_how_it_is_drawn() {
     let page = read("docs/PICTURES.md");
     for (name, steps) in PICTURES {
-        for words in [format!("(pictures/{name}.svg)"), format!("examples/{name}.txt {steps} --svg")] {
+        for words in
+            [format!("(pictures/{name}.svg)"), format!("./run draw examples/{name}.txt {steps} --svg")]
+        {
             assert!(page.contains(&words), "docs/PICTURES.md does not have {words}");
         }
     }

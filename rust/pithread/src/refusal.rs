@@ -20,7 +20,22 @@ use pithread_header::{
 /// assert_eq!(refusal, Refusal::FileLength);
 /// assert_eq!(refusal.number(), 1);
 /// ```
-#[derive(Clone, Copy, Debug, PartialEq, Eq, Hash)]
+///
+/// Both of its forms as text are its words, so that a program which ends with a refusal says what is wrong: Rust
+/// prints the debug form of an error that `main` answers.
+///
+/// ```
+/// fn main_of_a_program(file: &[u8]) -> Result<(), Box<dyn std::error::Error>> {
+///     let table = pithread::Table::load(file)?;
+///     println!("a file of {} bytes", table.write().len());
+///     Ok(())
+/// }
+///
+/// let error = main_of_a_program(b"no procedure").unwrap_err();
+/// let printed = "Error: ground 1: the file ends inside a line, or has more than 865 lines";
+/// assert_eq!(format!("Error: {error:?}"), printed);
+/// ```
+#[derive(Clone, Copy, PartialEq, Eq, Hash)]
 pub enum Refusal {
     /// 1: the file ends inside a line, or has more than 865 lines.
     FileLength,
@@ -121,15 +136,22 @@ impl Refusal {
         self.parts().1
     }
 
-    /// The number, the line at fault if one is named, and what is wrong in words.
+    /// What is wrong, in the words that the header has for the ground.
+    pub fn words(self) -> &'static str {
+        self.parts().2
+    }
+
+    /// The number, the line at fault if one is named, and what is wrong in words. They stand nowhere else.
     fn parts(self) -> (i32, Option<u32>, &'static str) {
         match self {
             Refusal::FileLength => {
                 (FILE_LENGTH, None, "the file ends inside a line, or has more than 865 lines")
             }
-            Refusal::Field { line } => {
-                (FIELD, Some(line), "a field is not a number of its form, or the newline is missing")
-            }
+            Refusal::Field { line } => (
+                FIELD,
+                Some(line),
+                "a field is not a number of its form, or a line does not end with a newline",
+            ),
             Refusal::Counts { line } => {
                 (COUNTS, Some(line), "the header and the lines that follow it do not agree")
             }
@@ -140,19 +162,25 @@ impl Refusal {
                 (TYPES, Some(line), "types do not agree, or the rule of the ports is broken")
             }
             Refusal::Read { line } => (READ, Some(line), "a slot is read that may not have been written"),
-            Refusal::Unreachable { line } => (UNREACHABLE, Some(line), "no path leads to this node"),
+            Refusal::Unreachable { line } => (UNREACHABLE, Some(line), "no path leads to a node"),
             Refusal::BufferLength => (BUFFER_LENGTH, None, "a buffer has the wrong length"),
             Refusal::Table => (TABLE, None, "no procedure file has this table"),
-            Refusal::State => (STATE, None, "the state is not a sound one for the table"),
-            Refusal::Thread => (THREAD, None, "there is no such thread, or it is not ready"),
-            Refusal::Port => (PORT, None, "there is no such port"),
-            Refusal::NoThreadRow => (NO_THREAD_ROW, None, "all thread rows are taken"),
-            Refusal::NoChannelRow => (NO_CHANNEL_ROW, None, "all channel rows are taken"),
-            Refusal::ShortBuffer => (SHORT_BUFFER, None, "the buffer is shorter than the file"),
+            Refusal::State => (STATE, None, "the state is not a sound one for this table"),
+            Refusal::Thread => (THREAD, None, "there is no such thread row, or its thread is not ready"),
+            Refusal::Port => (PORT, None, "the file has no such port"),
+            Refusal::NoThreadRow => {
+                (NO_THREAD_ROW, None, "the step would start a thread, and all 64 thread rows are taken")
+            }
+            Refusal::NoChannelRow => {
+                (NO_CHANNEL_ROW, None, "the step would make a channel, and all 128 channel rows are taken")
+            }
+            Refusal::ShortBuffer => {
+                (SHORT_BUFFER, None, "the buffer is shorter than the file that would be written")
+            }
             Refusal::ForbiddenCall => (FORBIDDEN_CALL, None, "the profile forbids a call"),
             Refusal::ManyThreads => (MANY_THREADS, None, "there can be more threads than thread rows"),
             Refusal::Rights => (RIGHTS, None, "a number of the list of rights is outside 0 to 3"),
-            Refusal::Seat => (SEAT, None, "there is no such seat, or it has not the right"),
+            Refusal::Seat => (SEAT, None, "there is no such seat, or it has not the right to this call"),
         }
     }
 }
@@ -165,6 +193,12 @@ impl fmt::Display for Refusal {
             write!(formatter, ", line {line}")?;
         }
         write!(formatter, ": {words}")
+    }
+}
+
+impl fmt::Debug for Refusal {
+    fn fmt(&self, formatter: &mut fmt::Formatter) -> fmt::Result {
+        fmt::Display::fmt(self, formatter)
     }
 }
 

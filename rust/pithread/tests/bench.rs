@@ -205,10 +205,13 @@ fn a_refusal_says_what_is_wrong() {
         refusal.to_string(),
         "ground 4, line 5: a number is outside its range, or an unused field is not 0"
     );
-    assert_eq!(Refusal::Port.to_string(), "ground 12: there is no such port");
+    assert_eq!(Refusal::Port.to_string(), "ground 12: the file has no such port");
     assert_eq!(Refusal::ForbiddenCall.to_string(), "ground 16: the profile forbids a call");
     assert_eq!(Refusal::ManyThreads.to_string(), "ground 17: there can be more threads than thread rows");
-    assert_eq!(Refusal::Seat.to_string(), "ground 19: there is no such seat, or it has not the right");
+    assert_eq!(
+        Refusal::Seat.to_string(),
+        "ground 19: there is no such seat, or it has not the right to this call"
+    );
 }
 
 #[test]

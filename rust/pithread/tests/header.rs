@@ -1,4 +1,7 @@
-//! The calls that the raw layer declares are those of the header, to the letter.
+//! The calls that the raw layer declares are those of the header, to the letter, and the words for a ground are the
+//! header's.
+
+use pithread::Refusal;
 
 const HEADER: &str = include_str!("../../../include/pithread.h");
 const RAW: &str = include_str!("../src/raw.rs");
@@ -50,4 +53,70 @@ fn calls_of_raw() -> Vec<String> {
 fn the_declarations_are_those_of_the_header() {
     assert_eq!(calls_of_raw(), calls_of_header());
     assert_eq!(calls_of_raw().len(), 9);
+}
+
+/// Every refusal, in the order of the numbers.
+const REFUSALS: [Refusal; 19] = [
+    Refusal::FileLength,
+    Refusal::Field { line: 1 },
+    Refusal::Counts { line: 1 },
+    Refusal::Range { line: 1 },
+    Refusal::Types { line: 1 },
+    Refusal::Read { line: 1 },
+    Refusal::Unreachable { line: 1 },
+    Refusal::BufferLength,
+    Refusal::Table,
+    Refusal::State,
+    Refusal::Thread,
+    Refusal::Port,
+    Refusal::NoThreadRow,
+    Refusal::NoChannelRow,
+    Refusal::ShortBuffer,
+    Refusal::ForbiddenCall,
+    Refusal::ManyThreads,
+    Refusal::Rights,
+    Refusal::Seat,
+];
+
+/// The comment of the header right before each ground, on one line, by the number of the ground.
+fn comments_of_grounds() -> Vec<(i32, String)> {
+    let (_, grounds) = HEADER.split_once("/* Grounds of a refusal").expect("the header has grounds");
+    let (grounds, _) = grounds.split_once("};").expect("they have an end");
+    let before = grounds.split(" = ").zip(grounds.split(" = ").skip(1));
+    let commented = before.filter_map(|(before, after)| {
+        let digits: String = after.chars().take_while(char::is_ascii_digit).collect();
+        let (_, comment) = before.rsplit_once("/* ").filter(|_| digits != "0")?;
+        let (comment, _) = comment.split_once("*/")?;
+        let words: Vec<&str> = comment.split_whitespace().filter(|word| *word != "*").collect();
+        Some((digits.parse().ok()?, words.join(" ")))
+    });
+    commented.collect()
+}
+
+/// The header may go on behind the words, after a stop, a comma or a colon.
+#[test]
+fn the_words_for_each_ground_are_those_of_the_header() {
+    let mut comments = comments_of_grounds();
+    comments.sort();
+    let numbers: Vec<i32> = comments.iter().map(|(number, _)| *number).collect();
+    assert_eq!(numbers, REFUSALS.map(Refusal::number));
+    assert_eq!(numbers, (1..=19).collect::<Vec<i32>>());
+    for (refusal, (_, comment)) in REFUSALS.iter().zip(&comments) {
+        let mut comment = comment.clone();
+        comment[..1].make_ascii_lowercase();
+        let rest = comment.strip_prefix(refusal.words());
+        let rest = rest.unwrap_or_else(|| panic!("{refusal} is in the header: {comment}"));
+        assert!(rest.starts_with(['.', ',', ':']), "{refusal} is in the header: {comment}");
+    }
+}
+
+/// A program whose `main` answers a refusal prints its debug form.
+#[test]
+fn both_forms_of_a_refusal_are_its_words() {
+    for refusal in REFUSALS {
+        let text = refusal.to_string();
+        assert_eq!(format!("{refusal:?}"), text);
+        assert_eq!(format!("{:?}", Box::<dyn std::error::Error>::from(refusal)), text);
+        assert!(text.ends_with(refusal.words()) && text.starts_with(&format!("ground {}", refusal.number())));
+    }
 }
