@@ -116,7 +116,7 @@ module _ (tb : Table) (s : State) (row : List ℕ) (k n from ty : ℕ)
       unfolding slotSound slotTyped slotFilled channelSlot
       slot-no-channel p = rw (← e, own, ← type-is, ne-eqb ty 0 o, ne-eqb v 4294967295 p, le-ltb v 128 q)
 
--- the mark that was read comes first: an answer that is no mark of this slot is refused there
+-- the gap that was read comes first: an answer that is no gap of this slot is refused there
 pub slot-empty : (tb : Table) (s : State) (row : List ℕ) (k n : ℕ) (ms : Gaps) (r : Bool) → r ≡ hasGap ms n k → ms ≡ flow tb → n ≡ standsAt row
     → (v : ℕ) → v ≡ slotOf row k → v ≡ 4294967295 → maxChannels ≤ v → (from ty : ℕ) → from ≡ typesOf tb row → ty ≡ at tb (from + k) Field.type → (ty ≡ 0 → ⊥)
     → k < ownRoom tb row → r ≡ slotSound tb s row k
