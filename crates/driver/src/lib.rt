@@ -1,6 +1,8 @@
 // Works a whole list of calls, which lies in a buffer, by the functions that C calls, and lays their answers into another buffer, from a state or from a
 // procedure file that it loads and starts; writes a table and loads it again; and starts a table that keeps to the rental-shop profile. What this ensures
 // follows from the contracts of those functions alone: a contract that says less, or something else, leaves it unproved.
+#![tactic(auto)]
+
 ghost use Rattle.std.specs.Prelude.{◌≡◌, cond, ltb, ◌<◌, set};
 ghost use Rattle.std.specs.Int.{w32};
 ghost use Rattle.std.proofs.Common.{of_z};
@@ -17,7 +19,7 @@ ghost use Rattle.driver.specs.Encoding.{pattern, pattern_small, call_by, part_of
 use interface::{ProfileAnswer, WriteAnswer};
 
 // The numbers of an answer in their order: the refusal, then those that the call has, then 0.
-#[derive(Drop)]
+#[derive(Clone, Copy)]
 pub struct Answer {
     pub refusal: i32,
     pub second: i32,
@@ -28,7 +30,7 @@ pub struct Answer {
 
 // How a file or a table began: the refusal, and the line at fault or 0.
 #[repr(C)]
-#[derive(Drop)]
+#[derive(Clone, Copy)]
 pub struct Opening {
     pub refusal: i32,
     pub line: i32,
@@ -219,8 +221,7 @@ fn put_answer(answers: &mut [u8], i: usize, answer: Answer)
 // Works the calls in `calls`, in turn, and lays their answers into `answers`, as far as it goes. A call is a record of 24 bytes, six words with the lowest
 // byte first: which call, its thread, port or number of steps, the number given, the seat, and where in `lists` its list of rights begins and how many
 // bytes it has; an answer is a record of twenty.
-#[unsafe(no_mangle)]
-pub extern "C" fn driver_work_list(
+pub fn driver_work_list(
     table: &[u8],
     state: &mut [u8],
     lists: &[u8],
@@ -238,8 +239,7 @@ pub extern "C" fn driver_work_list(
 }
 
 // Loads a file, starts it and works the calls in `calls`, as `driver_work_list` does. Answers the refusal and the line of the load or else those of the start.
-#[unsafe(no_mangle)]
-pub extern "C" fn driver_work_file(
+pub fn driver_work_file(
     file: &[u8],
     table: &mut [u8],
     state: &mut [u8],
@@ -262,8 +262,7 @@ pub extern "C" fn driver_work_file(
 }
 
 // Writes the file of a table, and loads what was written as the other table. Answers the refusal of the write or else that of the load.
-#[unsafe(no_mangle)]
-pub extern "C" fn driver_restore(table: &[u8], file: &mut [u8], other: &mut [u8]) -> i32
+pub fn driver_restore(table: &[u8], file: &mut [u8], other: &mut [u8]) -> i32
     ensures { restored_to result file.new other.new ≡ restored table.now file.old other.old }
 {
     let written = write(table, file);
@@ -276,8 +275,7 @@ pub extern "C" fn driver_restore(table: &[u8], file: &mut [u8], other: &mut [u8]
 }
 
 // Starts a table that keeps to the profile, and no other. Answers the refusal of the check or else that of the start.
-#[unsafe(no_mangle)]
-pub extern "C" fn driver_start_profiled(table: &[u8], state: &mut [u8]) -> i32
+pub fn driver_start_profiled(table: &[u8], state: &mut [u8]) -> i32
     ensures { begun_to result state.new ≡ begun table.now state.old }
 {
     let profiled = profile(table);

@@ -1,1 +1,2 @@
 pub mod ReadInput
+pub mod ListInput

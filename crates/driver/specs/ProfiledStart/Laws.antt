@@ -1,6 +1,6 @@
 -- The ways out of the function that starts what keeps to the profile, from what the exported functions ensure; and what is pledged where it answers 0. A number
 -- of an answer comes back by way of its pattern. Assumes nothing.
-use Rattle.std.specs.Prelude.{ℕ, ◌<◌, ◌≡◌, refl, true, List, get_or}
+use Rattle.std.specs.Prelude.{ℕ, ◌<◌, ◌≡◌, refl, List, get_or}
 use Rattle.std.proofs.Math.Path.{sym, ap}
 use Rattle.std.proofs.Common.{◌∙◌, SFits, to_z, of_z}
 use Rattle.std.proofs.Math.IntN.{pos}

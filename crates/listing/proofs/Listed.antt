@@ -1,0 +1,30 @@
+-- The bytes that were read are listed as all that the reader had. Assumes nothing.
+use Rattle.std.proofs.Common.{◌≡◌, ℕ, ◌<◌, ◌≤◌, List, [], ◌++◌, length, take, ap, sym, ◌∙◌, subst, arith, append-nil, take_all, None, Some}
+use Rattle.std.proofs.lemmas.List.{length-append, take-append-le}
+use Rattle.std.proofs.Math.Decide.{dec_lt}
+use Rattle.std.specs.declared.option.Option.{Option}
+use Rattle.std.specs.Io.KnownBytes.{Appends, Consumes, IsAtEnd}
+use Rattle.listing_text.specs.Listing.{listing}
+use Rattle.listing_laws.specs.Cut.{listing_cut}
+use Rattle.listing.specs.declared.Ended.TheVariants.{Printed}
+use Rattle.listing.specs.ListInput.{Lists}
+
+module _ (given left b : List ℕ) (n : ℕ) (e : given ≡ take n b ++ left) (within : n ≤ length b) (most : length b ≡ 63146) (ended : n < length b → left ≡ []) where
+  listed_whole : listing (take n b) ≡ listing given
+  listed_whole = go (dec_lt n (length b))
+    where
+      go : Dec (n < length b) → listing (take n b) ≡ listing given
+      go (yes h) = ap listing (sym (e ∙ ap (λ l. take n b ++ l) (ended h) ∙ append-nil (take n b)))
+      go (no h) =
+          let full : take n b ≡ b = take_all n b (omega (arith, h)) in
+          let all : given ≡ b ++ left = e ∙ ap (λ l. l ++ left) full in
+          let front : take 63146 given ≡ b = ap (take 63146) all ∙ take-append-le 63146 b left (omega (arith, most)) ∙ take_all 63146 b (omega (arith, most)) in
+          let long : 63145 < length given = omega (arith, ap length all, length-append b left, most) in
+          ap listing (full ∙ sym front) ∙ listing_cut given long
+
+-- what was printed of the bytes that were read is what the input is to be listed as
+pub printed_whole : (given left old new : Option (List ℕ)) (b : List ℕ) (n : ℕ) → Consumes given left (take n b) → n ≤ length b → length b ≡ 63146
+    → (n < length b → IsAtEnd left) → Appends old new (listing (take n b)) → Lists Printed given old new
+printed_whole None left old new b n e h m t p = tt
+printed_whole (Some xs) None old new b n e h m t p = absurd e
+printed_whole (Some xs) (Some ys) old new b n e h m t p = subst (Appends old new) (listed_whole xs ys b n e h m t) p
