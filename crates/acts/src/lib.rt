@@ -1,4 +1,6 @@
 // What a branch that is taken without a partner writes: alone, with a new channel, with a child.
+#![tactic(auto)]
+
 ghost use Rattle.std.specs.Prelude.{◌≡◌, ◌<◌};
 ghost use Rattle.std.specs.Int.{w32};
 ghost use Rattle.std.proofs.Common.{to_z};

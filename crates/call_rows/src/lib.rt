@@ -1,4 +1,6 @@
 // The row of a thread that makes a call: the slots with which it enters the definition, and whether the thread holds what it held.
+#![tactic(auto)]
+
 ghost use Rattle.std.specs.Prelude.{◌≡◌, ◌<◌, ◌≤◌, replicate};
 ghost use Rattle.numbers.specs.Search.{every, tabulate};
 ghost use Rattle.table.specs.Table.{table_of};

@@ -1,4 +1,6 @@
 // The calls on a state that has been admitted: step, give, take and run, with the grounds of their own.
+#![tactic(auto)]
+
 ghost use Rattle.std.specs.Prelude.{◌≡◌, true, ◌<◌};
 ghost use Rattle.table.specs.Table.{table_of};
 ghost use Rattle.table.specs.Index.{Indexed};
@@ -22,7 +24,7 @@ fn can_step(state: &[u32; state::WORDS], t: u32) -> bool
 }
 
 // How many turns went, why they ended, and the move of the last.
-#[derive(Drop)]
+#[derive(Clone, Copy)]
 struct Turns {
     went: u32,
     reason: Reason,
@@ -34,7 +36,7 @@ fn take_turns(table: &[u8], index: &[u32], state: &mut [u32; state::WORDS], t: u
     requires indexed { Indexed (table_of table.now) index.now }
     requires granted { Granted (table_of table.now) }
     requires sound { Sound (table_of table.now) (state_of state.old) }
-    requires t_value { t < max_threads → is_ready (thread (state_of state.old) t) ≡ true }
+    requires ready { t < max_threads → is_ready (thread (state_of state.old) t) ≡ true }
     ensures { TurnsOf (table_of table.now) n (state_of state.old) t result.went result.reason result.last (state_of state.new) }
 {
     let mut top = next_rows::rows_used(state);

@@ -1,4 +1,6 @@
 // The collector: it frees the rows of the threads that are not enabled.
+#![tactic(auto)]
+
 ghost use Rattle.std.specs.Prelude.{◌≡◌, ◌<◌};
 ghost use Rattle.numbers.specs.Count.{bit};
 ghost use Rattle.table.specs.Table.{table_of};
@@ -16,7 +18,7 @@ ghost use Rattle.collector.specs.Freeing.{leaves, freed_by};
 use rules::{Admission, Refusal, Right};
 
 // How many threads a collection took.
-#[derive(Drop)]
+#[derive(Clone, Copy)]
 pub enum Collected {
     Done(u32),
     Refused(Refusal),
@@ -35,7 +37,7 @@ fn take_thread(
     requires state_value { settled (table_of table.now) (state_of state.old) ≡ state_of state.old }
     ensures value { result ≡ bit (leaves (state_of state.old) marks.now t) }
     ensures state_after { state_of state.new ≡ freed_by (table_of table.now) (state_of state.old) marks.now t }
-    ensures state_after_2 { settled (table_of table.now) (state_of state.new) ≡ state_of state.new }
+    ensures stays_settled { settled (table_of table.now) (state_of state.new) ≡ state_of state.new }
 {
     if engine::status_of(state, t) == state::FREE {
         return 0;

@@ -1,4 +1,6 @@
 // Which move a ready thread makes: the choice of a branch, with the partner or the free row that the branch needs.
+#![tactic(auto)]
+
 ghost use Rattle.std.specs.Prelude.{◌≡◌, true, cond, ◌+◌, ◌≤◌};
 ghost use Rattle.std.specs.Int.{w32};
 ghost use Rattle.std.proofs.Common.{to_z};
@@ -22,7 +24,7 @@ use rules::{Act, Direction, Move, Partner};
 use table::field;
 
 // A move that is decided. Where a branch goes ahead alone, its row, and the number that it stores if it is an assignment.
-#[derive(Drop)]
+#[derive(Clone, Copy)]
 pub struct Decided {
     pub made: Move,
     pub row: usize,
@@ -115,7 +117,7 @@ fn act_move(
     requires used_below { UsedBelow (state_of state.now) top }
     requires apart { Apart (table_of table.now) (state_of state.now).threads }
     requires row_value { row ≡ branch_at (table_of table.now) (stands_at (thread (state_of state.now) t)) i }
-    requires t_value { printed_guard (table_of table.now) row (thread (state_of state.now) t) ≡ true }
+    requires guarded { printed_guard (table_of table.now) row (thread (state_of state.now) t) ≡ true }
     ensures made_value { result.made ≡ branch_move (table_of table.now) (state_of state.now) t i }
     ensures carries { Carries (table_of table.now) result.row result.number (state_of state.now) t result.made }
 {

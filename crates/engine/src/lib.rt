@@ -1,6 +1,8 @@
 // The calls of the engine: start, and at a seat step, give, take, run. Each judges its buffers first, and a call that is refused writes nothing. A layer above,
 // which works on the words of an admitted state, has the two parts of the admission, what it may ask of a thread, the release of a thread and the
 // writing of the words from here.
+#![tactic(auto)]
+
 ghost use Rattle.std.specs.Prelude.{◌≡◌, length, replicate};
 ghost use Rattle.numbers.specs.Bytes.{words as words_of};
 ghost use Rattle.table.specs.Table.{table_of, max_nodes};

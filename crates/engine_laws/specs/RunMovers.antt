@@ -1,6 +1,6 @@
 -- Who takes part in a run, turn by turn: in each turn those who take part in the step of the thread that is due, from the bytes that the turns before it leave.
 -- Of an accepted table and a buffer that holds a sound state. Assumes nothing.
-use Prim.Native.Nat.{ℕ, zero, suc, ◌<◌, ◌≤◌}
+use Prim.Native.Nat.{ℕ, zero, suc, ◌<◌}
 use Rattle.std.proofs.Common.{arith, ap}
 use Rattle.std.specs.Prelude.{◌≡◌, true, ltb, get_or}
 use Rattle.std.proofs.Math.Path.{refl}

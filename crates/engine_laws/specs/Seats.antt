@@ -15,7 +15,7 @@ use Rattle.loader.specs.Load.{accepted}
 use Rattle.rules.specs.Calls.{Outcome, outcome, and_then, lengths_right, start_admission}
 use Rattle.rules.specs.Seats.{rights_numbers, rights_length, right_in_range, rights_in_range, has_right, rights_admission, seat_admission, by_seat, at_seat}
 use Rattle.rules.specs.Seats.Laws.{state_unread, seat_refused}
-use Rattle.rules.specs.Seats.Entitled.{number_is}
+use Rattle.rules.proofs.Seats.Entitled.{number_is}
 use Rattle.rules.specs.declared.Right.{Right}
 use Rattle.rules.specs.declared.Refusal.{Refusal}
 use Rattle.rules.specs.declared.Refusal.TheVariants as Ground

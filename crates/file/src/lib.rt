@@ -1,4 +1,6 @@
 // Grounds 1 and 2: a file as lines of twelve fields and a newline, and the numbers of its lines, laid into a table.
+#![tactic(auto)]
+
 ghost use Rattle.std.specs.Prelude.{◌≡◌, true, ◌+◌, ◌*◌, ◌≤◌, ◌<◌, length, replicate};
 ghost use Rattle.numbers.specs.Bytes.{shorts};
 ghost use Rattle.numbers.specs.Laid.{laid};

@@ -1,5 +1,7 @@
 // Which slots a path may leave unwritten, over a loaded table. The gaps of a node are the bits of one number, so that a write clears a bit and two ways
 // to a node meet in one `|`.
+#![tactic(auto)]
+
 ghost use Rattle.std.specs.Prelude.{◌≡◌, ◌+◌, ◌-◌, ◌<◌, replicate};
 ghost use Rattle.table.specs.Table.{max_nodes, table_of, nodes, branch_row};
 ghost use Rattle.table.specs.Layout.{start, definition_of};

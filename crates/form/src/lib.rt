@@ -1,4 +1,6 @@
 // Ground 3 over a table: the header's counts are in range, each line has the kind that its place gives it, and the sizes of the blocks add up.
+#![tactic(auto)]
+
 ghost use Rattle.std.specs.Prelude.{◌≡◌, ◌<◌};
 ghost use Rattle.numbers.specs.Search.{first};
 ghost use Rattle.table.specs.Table.{table_of};

@@ -15,7 +15,8 @@ use Rattle.rules.specs.Calls.{Outcome, and_then, start_admission, admission, ste
 use Rattle.rules.specs.Calls.Laws.{call_refused}
 use Rattle.rules.specs.Seats.{rights_numbers, rights_length, rights_in_range, has_right, rights_admission, seat_admission, at_seat, seated_step, seated_give, seated_take, seated_run}
 use Rattle.rules.specs.Seats.Laws.{state_unread}
-use Rattle.rules.specs.Seats.Entitled.{Entitled, has_right_iff, lacks_right_iff}
+use Rattle.rules.specs.Seats.Entitled.{Entitled}
+use Rattle.rules.proofs.Seats.Entitled.{has_right_iff, lacks_right_iff}
 use Rattle.rules.specs.declared.Right.TheVariants as Right
 use Rattle.rules.specs.declared.Refusal.{Refusal}
 use Rattle.rules.specs.declared.Refusal.TheVariants as Ground

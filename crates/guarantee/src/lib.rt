@@ -1,1 +1,2 @@
 // This crate has no code: its specs/ hold the claim over every list of calls.
+#![tactic(auto)]

@@ -1,4 +1,6 @@
 // The channels that a thread's row holds, each once, and what the row adds to their counts of waiting holders.
+#![tactic(auto)]
+
 ghost use Rattle.std.specs.Prelude.{◌≡◌, true, ◌+◌, ◌≤◌, ◌<◌};
 ghost use Rattle.numbers.specs.Count.{bit};
 ghost use Rattle.table.specs.Table.{table_of};
@@ -112,7 +114,7 @@ fn own_room(table: &[u8], index: &[u32], status: u32, d: u32) -> u32
 }
 
 // Where the types of a thread's slots begin in the table, and how many slots it has: none where its row is free.
-#[derive(Drop)]
+#[derive(Clone, Copy)]
 pub struct Slots {
     pub from: usize,
     pub count: u32,

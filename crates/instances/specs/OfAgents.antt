@@ -4,15 +4,16 @@ use Rattle.std.proofs.Common.{arith, sym, ◌∙◌, ap, inl, inr, ⊎_elim, eqb
 use Rattle.std.proofs.Math.Option.{some}
 use Rattle.numbers.specs.Count.{bit, count}
 use Rattle.numbers.specs.Search.Laws.{contra}
-use Rattle.marking.specs.Enabled.Laws.{or_elim}
+use Rattle.marking.proofs.Enabled.Laws.{or_elim}
 use Rattle.published.specs.Syntax.{Process, end, choice, nothing, branch, wait, always, output, and_wait, waiting, some_wait, only_waits}
 use Rattle.published.specs.Agents.{◌∈◌, channel, number, Env, holds, Commitment, gives, takes, channel_of, Thread, thread, Channels, adding, Agent, agent, refers, mentions, knows, globalrc, Commits}
 use Rattle.published.specs.Rules.{Rearranged, Acts, step, new, spawn, next, call, inert, send, out, recv, inn, more, Reclaims, reclaim, Sticks, stuck, Reduces, par, acts, reclaims, sticks, exchange, stays, goes, Reaches, Nothing}
 use Rattle.published.specs.ProductLaws.{in_left, in_right, in_either, in_rearranged}
 use Rattle.published.specs.Enabling.{active, Disabled}
 use Rattle.published.specs.Chain.{Chain, lemma_1}
-use Rattle.published.specs.Polarity.{Bare, proposition_2}
-use Rattle.published.specs.Cliques.{proposition_3, proposition_4, proposition_5}
+use Rattle.published.specs.Polarity.{Bare}
+use Rattle.published.proofs.Polarity.{proposition_2}
+use Rattle.published.proofs.Cliques.{proposition_3, proposition_4, proposition_5}
 use Rattle.published.specs.Printed.{waitrc, P, W, R, case_three, p_enabled, not_stuck}
 
 -- ---- threads: one that has come to its end, and one that alone knows the channel on which it waits (document 01's first case)

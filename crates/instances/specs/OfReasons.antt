@@ -34,7 +34,7 @@ use Rattle.examples.specs.Builders.{channel_with, state_of_rows}
 use Rattle.examples.specs.Tables.{spawner, maker}
 use Rattle.examples.specs.Computing.{running}
 use Rattle.examples.specs.Files.{in_order, table_for, table_holds, table_small, table_accepted, rows_granted, spawner_in_order, maker_in_order}
-use Rattle.published_laws.specs.Running.{run_done}
+use Rattle.published_laws.proofs.Running.{run_done}
 
 -- ---- states in which threads have entered a definition
 

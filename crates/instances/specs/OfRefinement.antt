@@ -29,16 +29,17 @@ use Rattle.published.specs.Choices.{commits}
 use Rattle.published.specs.Whole.{acted, WholeTurn, Is, UpTo}
 use Rattle.published.specs.Sole.{Sole}
 use Rattle.published.specs.Enabling.{Disabled}
-use Rattle.published.specs.Polarity.{our_proposition_2}
+use Rattle.published.proofs.Polarity.{our_proposition_2}
 use Rattle.published_laws.specs.Standing.{channels_of, printed_guard_of, guard_by, guard_of, prefix_of, sum_before, node_process, unrolled, process_at, body_of, for_numbers, OurRules, ready_thread, committed, commitments_from, waiting_thread, thread_of, threads_of, agent_of}
 use Rattle.published_laws.specs.Places.{rank}
 use Rattle.published_laws.specs.Products.{Bench}
 use Rattle.published_laws.specs.Benches.{ports_and, bench_is}
 use Rattle.published_laws.specs.Starting.{started_bare}
 use Rattle.published_laws.specs.Stepping.{Allowed, Plain}
-use Rattle.published_laws.specs.Conversely.{Settled, turn_conversely, turn_exactly}
-use Rattle.published_laws.specs.Wholly.{turn_whole}
-use Rattle.published_laws.specs.Taking.{taken_iff_disabled}
+use Rattle.published_laws.specs.Conversely.{Settled}
+use Rattle.published_laws.proofs.Conversely.{turn_conversely, turn_exactly}
+use Rattle.published_laws.proofs.Wholly.{turn_whole}
+use Rattle.published_laws.proofs.Taking.{taken_iff_disabled}
 use Rattle.published_laws.specs.Computation.{giving, bench_call}
 use Rattle.instances.specs.Parting.{table, accepts, small, held_table, state_after, bytes_after, bytes_sound, bytes_view}
 use Rattle.instances.specs.OfFiles.{rows_readable}

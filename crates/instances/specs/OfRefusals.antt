@@ -23,7 +23,8 @@ use Rattle.loader_laws.specs.Refused.Laws.{refused_iff}
 use Rattle.loader_laws.specs.Yields.{length_bytes}
 use Rattle.state.specs.State.{State, state_bytes, view, thread, is_ready, in_use, type_in}
 use Rattle.rules.specs.Sound.{sound}
-use Rattle.rules.specs.Seats.Entitled.{Entitled, lacks_right_iff, has_right_iff}
+use Rattle.rules.specs.Seats.Entitled.{Entitled}
+use Rattle.rules.proofs.Seats.Entitled.{lacks_right_iff, has_right_iff}
 use Rattle.rules.specs.declared.Right.{Right}
 use Rattle.rules.specs.declared.Right.TheVariants as Right
 use Rattle.rules.specs.declared.Given.TheVariants as Given

@@ -38,7 +38,7 @@ use Rattle.guarantee.specs.InNumbers.{moved}
 use Rattle.guarantee.specs.InNumbers.Proof.{moved_so}
 use Rattle.guarantee.specs.ReasonsInLists.{after_run}
 use Rattle.guarantee.specs.MoversInNumbers.{RunSteps, run_steps}
-use Rattle.published_laws.specs.Running.{run_done}
+use Rattle.published_laws.proofs.Running.{run_done}
 use Rattle.instances.specs.Seating.{full, full_long, full_in_range, full_steps}
 use Rattle.instances.specs.Parting as Parting
 use Rattle.instances.specs.Parting.{blank, blank_long}

@@ -2,12 +2,11 @@
 -- `profile_laws/specs/SeatedPledge.antt`): a trainee who may not feed a
 -- port is told the same of two states, and a leader is told them apart; a list with one number out of range is refused to everybody; and a list of calls
 -- at seats, whose collection the leader may make and the trainee not. Assumes nothing.
-use Rattle.std.specs.Prelude.{ℕ, ◌<◌, ◌≤◌, ◌≡◌, refl, ◌≢◌, true, List, [], ◌∷◌, map, length, get_or, pos}
+use Rattle.std.specs.Prelude.{ℕ, ◌<◌, ◌≡◌, refl, ◌≢◌, true, List, [], ◌∷◌, map, length, get_or, pos}
 use Rattle.std.proofs.Common.{arith, sym, ap, ◌∙◌, inr, eq-eqb}
 use Rattle.std.specs.Int.{w32}
 use Rattle.std.proofs.Math.Facts.{to_z_pos}
 use Rattle.numbers.specs.Bytes.{words}
-use Rattle.table.specs.Table.{table_of, ports}
 use Rattle.loader.specs.Load.{accepted}
 use Rattle.state.specs.State.{view, state_bytes}
 use Rattle.rules.specs.Seats.{rights_numbers, rights_length, seat_admission, seated_give}

@@ -1,4 +1,4 @@
--- Instances of document 02's S-4 (`published_laws/specs/Fitting.antt`, `Compared.antt`, `guarantee/specs/SumsInNumbers.antt`): the arithmetic at the ends of its
+-- Instances of document 02's S-4 (`published_laws/specs/Fitting.antt`, `proofs/Compared.antt`, `guarantee/proofs/SumsInNumbers.antt`): the arithmetic at the ends of its
 -- range, a counter that has one number left, and one at its end; and a thread with a difference and a sum before it, where both fit, and where the difference
 -- does not. Assumes nothing.
 use Rattle.std.specs.Prelude.{ℕ, zero, suc, ◌<◌, ◌≡◌, refl, ◌≢◌, true, false, List, [], ◌∷◌, length, get_or, pos, negsuc}
@@ -21,13 +21,15 @@ use Rattle.published.specs.Syntax.{end, waiting}
 use Rattle.published.specs.Agents as Agents
 use Rattle.published.specs.Agents.{refers, Thread}
 use Rattle.published.specs.Fired.{by_zeros, kind, apart, Fired}
-use Rattle.published.specs.Unchecked.{unchecked_guard, unchecked, unchecked_thread, unchecked_body, unchecked_rule, unchecked_fired, Halted, halted_only}
+use Rattle.published.specs.Unchecked.{unchecked_guard, unchecked, unchecked_thread, unchecked_body, unchecked_rule, unchecked_fired, Halted}
+use Rattle.published.proofs.Unchecked.{halted_only}
 use Rattle.published_laws.specs.Fitting.{residue, wrapped, TooFar, wrapped_value, guard_printed, value_wrapped}
 use Rattle.published_laws.specs.Standing.{printed_guard_of, expression_of, guard_by, guard_of, prefix_of, sum_before, node_process, unrolled, process_at, body_of, for_numbers, value_as, in_front, trimmed, slot_value, env_of, ready_thread, thread_of}
 use Rattle.published_laws.specs.Products.{Bench}
 use Rattle.published_laws.specs.Firing.{Tells}
 use Rattle.published_laws.specs.Benches.{ports_and, bench_is}
-use Rattle.published_laws.specs.Compared.{SumsFit, UncheckedStep, step_call_unchecked}
+use Rattle.published_laws.specs.Compared.{SumsFit, UncheckedStep}
+use Rattle.published_laws.proofs.Compared.{step_call_unchecked}
 use Rattle.rules.specs.Calls.{step_end, can_step, step_on, step_call}
 use Rattle.rules.specs.Seats.{seated_step}
 use Rattle.rules.specs.Seats.Laws.{seat_granted}
@@ -42,7 +44,8 @@ use Rattle.engine_laws.specs.Seats.{seat_admitted_iff}
 use Rattle.engine_laws.specs.SoundCalls.{right_lengths, call_made}
 use Rattle.interface.specs.Interface.{in_numbers, step_fields, step_numbers, step_result}
 use Rattle.interface.specs.declared.StepAnswer.{StepAnswer}
-use Rattle.guarantee.specs.SumsInNumbers.{ComesTo, Answered, stored_exactly}
+use Rattle.guarantee.specs.SumsInNumbers.{ComesTo, Answered}
+use Rattle.guarantee.proofs.SumsInNumbers.{stored_exactly}
 use Rattle.examples.specs.Builders.{header, of_numbers, definition, slot, ending, choice, receive, add, ready_at, waiting_at, channel_with, state_with}
 use Rattle.examples.specs.Tables.{counter, only_counter}
 use Rattle.examples.specs.Computing.{judging, running, testing}

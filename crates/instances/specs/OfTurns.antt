@@ -1,4 +1,4 @@
--- Theorems on turns at work (`published_laws/specs/Running.antt`, `Wholly.antt`): the turns of a run of five steps from the start of a file, whose they are and
+-- Theorems on turns at work (`published_laws/proofs/Running.antt`, `Wholly.antt`): the turns of a run of five steps from the start of a file, whose they are and
 -- what they end with, answers that would be wrong, and a collection after it. Assumes nothing.
 use Rattle.std.specs.Prelude.{ℕ, ◌≡◌, refl, true, List, [], ◌∷◌}
 use Rattle.std.proofs.Common.{arith, ◌∙◌, inl, inr, ⊎_elim}
@@ -36,9 +36,9 @@ use Rattle.published_laws.specs.Firing.{fired_by, TellsWith, Tells, next_had}
 use Rattle.published_laws.specs.Benches.{ports_and, bench_is}
 use Rattle.published_laws.specs.Reclaims.{those, freed_channels}
 use Rattle.published_laws.specs.Collecting.{taken_then, taken_of, freed_threads}
-use Rattle.published_laws.specs.Running.{run_done, run_call_reduced, collect_call_reduced, seated_collect_reduced}
+use Rattle.published_laws.proofs.Running.{run_done, run_call_reduced, collect_call_reduced, seated_collect_reduced}
 use Rattle.published_laws.specs.Stepping.{Plain}
-use Rattle.published_laws.specs.Wholly.{turn_whole}
+use Rattle.published_laws.proofs.Wholly.{turn_whole}
 use Rattle.instances.specs.Seating.{shop}
 use Rattle.instances.specs.OfSeats.{leader_collects}
 use Rattle.instances.specs.Parting.{tb, table, accepts, small, held_table, state_after, begun, begun_sound, begun_view, bytes_after, bytes_sound, bytes_view}
@@ -157,7 +157,7 @@ not_another G h = ⊎_elim (λ e. omega arith) (λ z. z) ((collects_these run_co
 pub not_nobody_taken : (cs : List ℕ) → ¬ Collects [] cs parting_agent collected_agent
 not_nobody_taken cs h = omega (arith, collects_many h, collects_many run_collected)
 
--- ---- the turn of thread 0 at the start, which makes a channel, is a whole turn: `Conversely.antt` speaks of it, and of those that give the channel another name
+-- ---- the turn of thread 0 at the start, which makes a channel, is a whole turn: `proofs/Conversely.antt` speaks of it, and of those that give the channel another name
 
 at_start : (is_ready (thread (started tb) 0) ≡ true) × (move tb (started tb) 0 ≡ Creates 0 1)
 unfolding running

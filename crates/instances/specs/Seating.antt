@@ -1,6 +1,6 @@
 -- Lists of rights for the instances of the theorems on seats: every seat may do everything; a shop with a leader at seat 0, a trainee at seat 1 and others, of
 -- which is said what each may do and what not (`rules/specs/Seats/Entitled.antt`); and one that is not in order. Assumes nothing.
-use Rattle.std.specs.Prelude.{ℕ, ◌+◌, ◌<◌, ◌≡◌, refl, Bool, true, false, List, [], ◌∷◌, ◌++◌, ◌⊎◌, ltb, leb, eqb, pos, length, get_or, replicate}
+use Rattle.std.specs.Prelude.{ℕ, ◌<◌, ◌≡◌, refl, Bool, true, false, List, [], ◌∷◌, ◌++◌, ◌⊎◌, ltb, leb, eqb, pos, length, get_or, replicate}
 use Rattle.std.proofs.Common.{arith, inl, inr, ⊎_elim, ltb-true, ltb-false, leb-true}
 use Rattle.std.proofs.Math.ListN.{get_or-eq_default}
 use Rattle.std.proofs.lemmas.Bool.{eqb-false}

@@ -1,5 +1,7 @@
 // The answers of the exported calls, in the numbers that C sees: the numbers of document 01 for what is answered, a record for each call, and the functions
 // that fill it. An unsigned number stands for the signed one of which it is the 32-bit pattern.
+#![tactic(auto)]
+
 ghost use Rattle.std.specs.Prelude.{◌≡◌, ◌≤◌};
 ghost use Rattle.loader.specs.Verdict.{ground_number};
 ghost use Rattle.loader.specs.Load.{refusal_number, line_number};
@@ -117,7 +119,7 @@ pub fn held_up_number(reason: Reason) -> u32
 
 // The answer of a load: the refusal, 0 for none, and the line at fault, 0 for none.
 #[repr(C)]
-#[derive(Drop)]
+#[derive(Clone, Copy)]
 pub struct LoadAnswer {
     pub refusal: i32,
     pub line: i32,
@@ -148,7 +150,7 @@ pub fn line_number(answer: Loaded) -> usize
 
 // The answer of a write: the refusal, 0 for none, and the bytes of the file, 0 where the call was refused.
 #[repr(C)]
-#[derive(Drop)]
+#[derive(Clone, Copy)]
 pub struct WriteAnswer {
     pub refusal: i32,
     pub bytes: i32,
@@ -181,7 +183,7 @@ pub fn bytes_number(answer: Written) -> usize
 
 // The answer of the check of a table: the refusal, 0 for none, and the threads, 0 where the call was refused.
 #[repr(C)]
-#[derive(Drop)]
+#[derive(Clone, Copy)]
 pub struct ProfileAnswer {
     pub refusal: i32,
     pub threads: i32,
@@ -215,13 +217,13 @@ pub fn threads_number(answer: Profiled) -> u32
 
 // The answers of the calls on a state. Each has the refusal, 0 for none, and then what was done, 0 where the call was refused.
 #[repr(C)]
-#[derive(Drop)]
+#[derive(Clone, Copy)]
 pub struct StartAnswer {
     pub refusal: i32,
 }
 
 #[repr(C)]
-#[derive(Drop)]
+#[derive(Clone, Copy)]
 pub struct StepAnswer {
     pub refusal: i32,
     pub node: i32,
@@ -231,14 +233,14 @@ pub struct StepAnswer {
 }
 
 #[repr(C)]
-#[derive(Drop)]
+#[derive(Clone, Copy)]
 pub struct GiveAnswer {
     pub refusal: i32,
     pub thread: i32,
 }
 
 #[repr(C)]
-#[derive(Drop)]
+#[derive(Clone, Copy)]
 pub struct TakeAnswer {
     pub refusal: i32,
     pub thread: i32,
@@ -246,7 +248,7 @@ pub struct TakeAnswer {
 }
 
 #[repr(C)]
-#[derive(Drop)]
+#[derive(Clone, Copy)]
 pub struct RunAnswer {
     pub refusal: i32,
     pub steps: i32,
@@ -255,7 +257,7 @@ pub struct RunAnswer {
 }
 
 #[repr(C)]
-#[derive(Drop)]
+#[derive(Clone, Copy)]
 pub struct CollectAnswer {
     pub refusal: i32,
     pub threads: i32,

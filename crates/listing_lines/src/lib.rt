@@ -1,4 +1,6 @@
 // The lines of a listing, laid into a buffer: numbers stand in columns of six characters, and a line ends in a newline.
+#![tactic(auto)]
+
 ghost use Rattle.std.specs.Prelude.{◌≡◌, not, [], ◌∷◌, ◌+◌, ◌*◌, ◌≤◌, length};
 ghost use Rattle.std.proofs.lemmas.List.Edits.{sets};
 ghost use Rattle.numbers.specs.Count.{bit};

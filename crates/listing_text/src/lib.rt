@@ -1,4 +1,6 @@
 // The listing of a procedure file, made in a buffer: the file is loaded, run and collected, and what came of it is printed in columns of six characters.
+#![tactic(auto)]
+
 ghost use Rattle.std.specs.Prelude.{◌≡◌, true, suc, ◌+◌, ◌*◌, ◌<◌, ◌≤◌, length, take, drop};
 ghost use Rattle.std.proofs.lemmas.List.Edits.{sets};
 ghost use Rattle.table.specs.Table.{table_of};
@@ -24,7 +26,7 @@ const STEP: usize = 37;
 pub const LONGEST: usize = 37900;
 
 // How a run ended: its steps, and why.
-#[derive(Drop)]
+#[derive(Clone, Copy)]
 struct Run {
     steps: u32,
     reason: Reason,
@@ -44,7 +46,7 @@ fn list_turn(
     requires i_lt_max_steps { i < max_steps }
     requires out_len { length out.old ≡ longest }
     ensures state_after { turned result (state_of state.new) ≡ take_turn (table_of table.now) (state_of state.old) }
-    ensures sound_2 { Sound (table_of table.now) (state_of state.new) }
+    ensures sound_after { Sound (table_of table.now) (state_of state.new) }
     ensures out_after { out.new ≡ sets out.old (past i) (shown_turn result (table_of table.now) i (state_of state.old)) }
 {
     let t = next_rows::next_ready(state, state::THREADS);
@@ -73,7 +75,7 @@ fn list_steps(table: &[u8], index: &[u32], state: &mut [u32; state::WORDS], out:
     requires sound { Sound (table_of table.now) (state_of state.old) }
     requires out_len { length out.old ≡ longest }
     ensures state_after { ended result (state_of state.new) ≡ course_of (table_of table.now) max_steps (state_of state.old) }
-    ensures sound_2 { Sound (table_of table.now) (state_of state.new) }
+    ensures sound_after { Sound (table_of table.now) (state_of state.new) }
     ensures steps_value { result.steps * 37 ≡ length (step_lines (table_of table.now) (state_of state.old)) }
     ensures out_after { out.new ≡ sets out.old 37 (step_lines (table_of table.now) (state_of state.old)) }
 {
@@ -122,7 +124,7 @@ fn list_end(
 
 // The listing of an accepted table: the heading, the run from the state with which the table starts, and what follows it. Answers its length.
 fn list_table(table: &[u8], out: &mut [u8]) -> usize
-    requires table_value { accepted table.now ≡ true }
+    requires accepted { accepted table.now ≡ true }
     requires out_len { length out.old ≡ longest }
     ensures value { result ≡ length (run_lines (table_of table.now)) }
     ensures out_after { out.new ≡ sets out.old 0 (run_lines (table_of table.now)) }

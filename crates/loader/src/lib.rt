@@ -1,4 +1,6 @@
 // Loading a procedure file: grounds 1 to 8, and ground 9 for a table that is handed in.
+#![tactic(auto)]
+
 ghost use Rattle.std.specs.Prelude.{◌≡◌, true, ◌≤◌, length, replicate};
 ghost use Rattle.numbers.specs.Search.{every};
 ghost use Rattle.table.specs.Table.{table_of, max_rows, max_nodes, line_total};
@@ -13,7 +15,7 @@ ghost use Rattle.loader.specs.Load.{Outcome, loaded, accepted, table_length};
 pub use flow::GAPS;
 
 // Why a file is refused. Ground 3 has its four tests apart, in their order: header, total, kind, sums.
-#[derive(Drop)]
+#[derive(Clone, Copy)]
 pub enum Ground {
     Lines,
     Field,
@@ -28,14 +30,14 @@ pub enum Ground {
 }
 
 // No fault, or the lowest ground and its first line, counted from 1 (0 for `Lines`).
-#[derive(Drop)]
+#[derive(Clone, Copy)]
 pub enum Verdict {
     Sound,
     Fault(Ground, usize),
 }
 
 // What loading answers.
-#[derive(Drop)]
+#[derive(Clone, Copy)]
 pub enum Loaded {
     Done,
     FileRefused(Ground, usize),

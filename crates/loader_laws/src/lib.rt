@@ -1,1 +1,2 @@
 // This crate has no code: its specs/ hold theorems on what loading accepts.
+#![tactic(auto)]

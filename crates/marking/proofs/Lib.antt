@@ -1,1 +1,3 @@
 pub mod Ways
+pub mod Enabled
+pub mod Marking

@@ -1,5 +1,4 @@
 -- Which threads are enabled, as Definition 1 of 002 has it, and the computed set of them.
-pub mod Laws
 use Rattle.std.specs.Prelude.{ℕ, zero, suc, ◌<◌, ◌≡◌, ◌≢◌, Bool, true, false, not, ◌&&◌, ◌||◌, List, ltb, eqb, get_or}
 use Rattle.numbers.specs.Search.{some, tabulate}
 use Rattle.table.specs.Table.{Table, ports}

@@ -1,6 +1,5 @@
--- The steps by which the code marks the enabled threads. These definitions serve the proofs alone: `Marking/Laws.antt` shows that the marks come to
+-- The steps by which the code marks the enabled threads. These definitions serve the proofs alone: `proofs/Marking/Laws.antt` shows that the marks come to
 -- `enabled_set`.
-pub mod Laws
 use Rattle.std.specs.Prelude.{ℕ, ◌<◌, ◌≡◌, Bool, true, false, not, ◌&&◌, ◌||◌, cond, List, ltb, length, get_or, set}
 use Rattle.numbers.specs.Count.{count}
 use Rattle.numbers.specs.Search.{some, tabulate}

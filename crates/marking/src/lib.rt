@@ -1,4 +1,6 @@
 // Marks the enabled threads of a state, in rounds over all threads. Which threads are enabled stands in specs/Enabled.antt.
+#![tactic(auto)]
+
 ghost use Rattle.std.specs.Prelude.{◌≡◌, true, false, ◌+◌, ◌≤◌, get_or, set, replicate};
 ghost use Rattle.numbers.specs.Count.{bit};
 ghost use Rattle.table.specs.Table.{table_of, ports};
@@ -79,7 +81,7 @@ fn round(
 ) -> bool
     requires indexed { Indexed (table_of table.now) index.now }
     requires marking { Marking (table_of table.now) (state_of state.now) marks.old known.old }
-    ensures marking_2 { Marking (table_of table.now) (state_of state.now) marks.new known.new }
+    ensures marking_after { Marking (table_of table.now) (state_of state.now) marks.new known.new }
     ensures result_bound { unmarked marks.new + bit result ≤ unmarked marks.old }
     ensures still { result ≡ false → Still (table_of table.now) (state_of state.now) marks.new known.new max_threads }
 {

@@ -1,4 +1,6 @@
 // What a meeting writes: the rows of the two threads that meet, and the row of a thread that the bench meets.
+#![tactic(auto)]
+
 ghost use Rattle.std.specs.Prelude.{◌≡◌, ◌≢◌, ◌<◌};
 ghost use Rattle.table.specs.Table.{table_of};
 ghost use Rattle.table.specs.Index.{Indexed};
@@ -71,7 +73,7 @@ pub fn write_meeting(
     requires indexed { Indexed (table_of table.now) index.now }
     requires t_lt_max_threads { t < max_threads }
     requires u_lt_max_threads { u < max_threads }
-    requires u_nonzero { u ≢ t }
+    requires distinct { u ≢ t }
     ensures { state_of state.new ≡ written (table_of table.now) (state_of state.old) t (Meets i u j) }
 {
     let given = value_by(table, index, state, u, j);
@@ -93,7 +95,7 @@ fn write_passed(
     requires indexed { Indexed (table_of table.now) index.now }
     requires t_lt_max_threads { t < max_threads }
     requires u_lt_max_threads { u < max_threads }
-    requires u_nonzero { u ≢ t }
+    requires distinct { u ≢ t }
     ensures { state_of state.new ≡ passed (table_of table.now) (state_of state.old) t send u receive }
 {
     let slot = table::cell_of(table, index, receive, field::B);
@@ -118,7 +120,7 @@ pub fn write_directed(
     requires indexed { Indexed (table_of table.now) index.now }
     requires t_lt_max_threads { t < max_threads }
     requires u_lt_max_threads { u < max_threads }
-    requires u_nonzero { u ≢ t }
+    requires distinct { u ≢ t }
     requires facing { Facing (table_of table.now) (state_of state.old) t i u j }
     ensures { state_of state.new ≡ written (table_of table.now) (state_of state.old) t (Meets i u j) }
 {

@@ -1,4 +1,6 @@
 // Which row comes next, going up from a mark and around the end: a free row of the threads or of the channels, and the thread whose turn it is.
+#![tactic(auto)]
+
 ghost use Rattle.std.specs.Prelude.{◌≡◌, ◌≤◌, ◌<◌};
 ghost use Rattle.state.specs.State.{max_threads, max_channels, state_of};
 ghost use Rattle.rules.specs.Moves.{first_from, one_up, is_free_thread, is_free_channel, free_thread, free_channel};

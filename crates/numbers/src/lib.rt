@@ -1,5 +1,7 @@
 // Numbers in buffers, and signed numbers by their patterns. Each function answers for every argument: a read past the end gives 0, and a write past
 // the end does nothing.
+#![tactic(auto)]
+
 ghost use Rattle.std.specs.Prelude.{◌≡◌, ◌<◌, [], ◌∷◌, ◌+ℤ◌, ◌-ℤ◌, slice_index, slice_set};
 ghost use Rattle.std.specs.Int.{w32};
 ghost use Rattle.std.proofs.Common.{to_z, of_z};
@@ -115,7 +117,7 @@ pub fn below(x: u32, y: u32) -> bool
 }
 
 // What a sum or a difference comes to: just this number, or one that does not fit into 32 signed bits.
-#[derive(Drop)]
+#[derive(Clone, Copy)]
 pub enum Checked {
     Exact(i32),
     Overflow,

@@ -1,4 +1,6 @@
 // What a thread offers by a branch, and the search for the partner that answers an offer.
+#![tactic(auto)]
+
 ghost use Rattle.std.specs.Prelude.{◌≡◌, true, ◌+◌, ◌≤◌, ◌<◌};
 ghost use Rattle.table.specs.Table.{table_of, node_row, branch_row};
 ghost use Rattle.table.specs.Layout.{start};
@@ -18,7 +20,7 @@ use rules::{Act, Direction, Partner};
 use table::{Part, field};
 
 // What a branch offers on one channel: nothing, to send or to receive.
-#[derive(Drop)]
+#[derive(Clone, Copy)]
 pub enum Offer {
     Nothing,
     Of(Direction),
@@ -71,7 +73,7 @@ fn is_same(d: Direction, e: Direction) -> bool
 }
 
 // What a branch is to a search for an offer: it offers what is looked for, it offers what the asker itself offers on the channel, or neither.
-#[derive(Drop)]
+#[derive(Clone, Copy)]
 enum Seen {
     Answers,
     Competes,
@@ -114,7 +116,7 @@ fn branches_asked(
     requires indexed { Indexed (table_of table.now) index.now }
     requires nodes_value { nodes ≡ node_row (table_of table.now) }
     requires nodes_bound { nodes ≤ 196608 }
-    requires u_value { is_waiting (thread (state_of state.now) u) ≡ true }
+    requires waits { is_waiting (thread (state_of state.now) u) ≡ true }
     ensures { result ≡ tried (table_of table.now) (state_of state.now) t u }
 {
     if u == t {

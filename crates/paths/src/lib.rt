@@ -1,4 +1,6 @@
 // Grounds 6 and 7 over a loaded table, by the gaps of its flow: what a row reads has been written on every path to it, and some path leads to each node.
+#![tactic(auto)]
+
 ghost use Rattle.std.specs.Prelude.{◌≡◌, ◌<◌};
 ghost use Rattle.numbers.specs.Search.{every, first};
 ghost use Rattle.table.specs.Table.{table_of};

@@ -1,6 +1,5 @@
 -- How the code finds bounds: capped at one more than there are rows, each kept once it is found; and how it marks the definitions that have a spawn.
 pub mod Calls
-pub mod Bounds
 use Rattle.std.specs.Prelude.{ℕ, suc, ◌+◌, ◌*◌, ◌-◌, ◌<◌, min, ◌≡◌, cond, List, ◌⊎◌, eqb, length, get_or, set}
 use Rattle.numbers.specs.Count.{bit}
 use Rattle.numbers.specs.Search.{some}

@@ -2,4 +2,3 @@ pub mod Profile
 pub mod Equations
 pub mod Rising
 pub mod Finding
-pub mod Answers

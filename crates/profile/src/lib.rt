@@ -1,4 +1,6 @@
 // The rental-shop profile (document 02, S-3): whether a procedure can run out of thread rows, told from its table alone. Grounds 8, 9, 16 and 17.
+#![tactic(auto)]
+
 ghost use Rattle.std.specs.Prelude.{◌≡◌, true, ◌+◌, ◌≤◌, ◌<◌, max, replicate, set};
 ghost use Rattle.table.specs.Table.{max_definitions, table_of, definitions, nodes};
 ghost use Rattle.table.specs.Layout.{branch_count};
@@ -18,7 +20,7 @@ const SPAWN: u32 = 4;
 const ABOVE: u32 = state::THREADS + 1;
 
 // What the check of a table answers: how many threads its procedure can come to have, or why it does not pass.
-#[derive(Drop)]
+#[derive(Clone, Copy)]
 pub enum Profiled {
     Passes(u32),
     WrongLength,
@@ -28,7 +30,7 @@ pub enum Profiled {
 }
 
 // What the bound of a node rests on: nothing, which makes it 1; another definition, which the node calls; or its branches.
-#[derive(Drop)]
+#[derive(Clone, Copy)]
 enum Onward {
     Nowhere,
     Definition(u32),
@@ -174,7 +176,7 @@ fn keep(kept: &mut [u32], n: u32, bound: u32) -> u32
 }
 
 // The bound of branch i of node n: that of its next node and, for a spawn, that of its child besides.
-#[cycle(branch_bound_choice_bound_definition_bound_node_bound)]
+#[cycle(bounds)]
 fn branch_bound(table: &[u8], index: &[u32], kept: &mut [u32], n: u32, i: u32) -> u32
     requires indexed { Indexed (table_of table.now) index.now }
     requires rising { Rising (table_of table.now) }
@@ -182,7 +184,7 @@ fn branch_bound(table: &[u8], index: &[u32], kept: &mut [u32], n: u32, i: u32) -
     requires n_bound { n < nodes (table_of table.now) }
     requires i_bound { i < branch_count (table_of table.now) n }
     ensures value { result ≡ capped (branch_bound (table_of table.now) n i) }
-    ensures kept_2 { Kept (table_of table.now) kept.new }
+    ensures still_kept { Kept (table_of table.now) kept.new }
 {
     let row = program::branch_at(table, index, n, i);
     let next = node_bound(table, index, kept, program::next_of(table, index, n, row));
@@ -194,14 +196,14 @@ fn branch_bound(table: &[u8], index: &[u32], kept: &mut [u32], n: u32, i: u32) -
 }
 
 // The bound of a choice: the largest over its branches.
-#[cycle(branch_bound_choice_bound_definition_bound_node_bound)]
+#[cycle(bounds)]
 fn choice_bound(table: &[u8], index: &[u32], kept: &mut [u32], n: u32) -> u32
     requires indexed { Indexed (table_of table.now) index.now }
     requires rising { Rising (table_of table.now) }
     requires kept { Kept (table_of table.now) kept.old }
     requires n_bound { n < nodes (table_of table.now) }
     ensures value { result ≡ capped (largest (branch_bound (table_of table.now) n) (branch_count (table_of table.now) n)) }
-    ensures kept_2 { Kept (table_of table.now) kept.new }
+    ensures still_kept { Kept (table_of table.now) kept.new }
 {
     let count = table::branch_count_of(table, index, n);
     let mut most: u32 = 0;
@@ -212,28 +214,28 @@ fn choice_bound(table: &[u8], index: &[u32], kept: &mut [u32], n: u32) -> u32
 }
 
 // The bound of a definition: that of its first node.
-#[cycle(branch_bound_choice_bound_definition_bound_node_bound)]
+#[cycle(bounds)]
 fn definition_bound(table: &[u8], index: &[u32], kept: &mut [u32], d: u32) -> u32
     requires indexed { Indexed (table_of table.now) index.now }
     requires rising { Rising (table_of table.now) }
     requires kept { Kept (table_of table.now) kept.old }
     requires d_bound { d < definitions (table_of table.now) }
     ensures value { result ≡ capped (definition_bound (table_of table.now) d) }
-    ensures kept_2 { Kept (table_of table.now) kept.new }
+    ensures still_kept { Kept (table_of table.now) kept.new }
 {
     let first = table::start_of(table, index, Part::Nodes, d);
     node_bound(table, index, kept, first)
 }
 
 // The bound of node n: the one that is kept, or else the one that is found from the nodes to which it leads, which is then kept.
-#[cycle(branch_bound_choice_bound_definition_bound_node_bound)]
+#[cycle(bounds)]
 fn node_bound(table: &[u8], index: &[u32], kept: &mut [u32], n: u32) -> u32
     requires indexed { Indexed (table_of table.now) index.now }
     requires rising { Rising (table_of table.now) }
     requires kept { Kept (table_of table.now) kept.old }
     requires n_bound { n < nodes (table_of table.now) }
     ensures value { result ≡ capped (node_bound (table_of table.now) n) }
-    ensures kept_2 { Kept (table_of table.now) kept.new }
+    ensures still_kept { Kept (table_of table.now) kept.new }
 {
     let found = numbers::cell_at(kept, n as usize);
     if found != 0 {
@@ -269,7 +271,7 @@ fn thread_bound(table: &[u8], index: &[u32]) -> u32
 
 // Grounds 16 and 17, of an accepted table.
 fn judge(table: &[u8], index: &[u32]) -> Profiled
-    requires table_value { accepted table.now ≡ true }
+    requires accepted { accepted table.now ≡ true }
     requires indexed { Indexed (table_of table.now) index.now }
     ensures { result ≡ profile_of (table_of table.now) }
 {

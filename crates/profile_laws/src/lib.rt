@@ -1,1 +1,2 @@
 // This crate has no code: its specs/ hold theorems on the rental-shop profile.
+#![tactic(auto)]

@@ -1,4 +1,6 @@
 // What a table says of the node at which a thread stands, read with the thread's slots.
+#![tactic(auto)]
+
 ghost use Rattle.std.specs.Prelude.{◌≡◌, ◌+◌, ◌≤◌, ◌<◌};
 ghost use Rattle.table.specs.Table.{table_of, definitions, slot_row};
 ghost use Rattle.table.specs.Layout.{start, definition_of};

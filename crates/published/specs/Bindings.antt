@@ -4,7 +4,7 @@ use Rattle.std.proofs.Common.{arith, ap, ⊎_elim, eqb-true, eq-eqb}
 use Rattle.std.proofs.Math.Option.{Option, none, some}
 use Rattle.numbers.specs.Search.Laws.{contra}
 use Rattle.numbers.specs.Tests.{clash}
-use Rattle.marking.specs.Enabled.Laws.{or_elim, or_second}
+use Rattle.marking.proofs.Enabled.Laws.{or_elim, or_second}
 use Rattle.published.specs.Agents.{Value, channel, number, Env, look, bind, refers, mentions, Thread, knows}
 
 -- ---- a binding

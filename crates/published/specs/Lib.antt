@@ -10,12 +10,9 @@ pub mod ProductLaws
 pub mod Orders
 pub mod Polarity
 pub mod Chain
-pub mod Cliques
 pub mod Choices
 pub mod Whole
-pub mod NoFreer
-pub mod SettledTurns
 pub mod Sole
+pub mod Cliques
 pub mod Collections
 pub mod Printed
-pub mod AgentExamples

@@ -23,6 +23,7 @@ module _ (t : Thread) where
 
   -- a thread stands at some place in every order, and the rest is in another order
   found : {A B A' : List Thread} → Rearranged A B → More t A A' → (B' : List Thread) × More t B B' × Rearranged A' B'
+  found none_left m = elim m [ ]
   found (same_first {t = u} {A = A} {B = B} r) here = (B, here, r)
   found (same_first {t = u} r) (behind m) = let (B', n, h) = found r m in (u ∷ B', behind n, same_first h)
   found (swapped {t = v} {u = u} {A = A}) here = (u ∷ A, behind here, same_order (u ∷ A))
@@ -33,9 +34,9 @@ module _ (t : Thread) where
       let (C', o, k) = found s n in
       (C', o, twice h k)
 
-  taken : {B B' : List Thread} → More t (t ∷ B) B' → Rearranged B' B
-  taken (here {A}) = same_order A
-  taken (behind m) = turned_back (more_first m)
+  taken : {u : Thread} {B B' : List Thread} → More t (u ∷ B) B' → u ≡ t → Rearranged B' B
+  taken (here {A}) e = same_order A
+  taken (behind m) e = rw e (turned_back (more_first m))
 
   pub cancelled : (A B : List Thread) → Rearranged (t ∷ A) (t ∷ B) → Rearranged A B
-  cancelled A B r = let (B', n, h) = found r here in twice h (taken n)
+  cancelled A B r = let (B', n, h) = found r here in twice h (taken n refl)

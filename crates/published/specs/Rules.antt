@@ -158,7 +158,7 @@ zeroed true none = some (number 0)
 zeroed true (some v) = some v
 zeroed false o = o
 
--- forNumbers says which variables of each definition are for numbers
+-- `for_numbers` says which variables of each definition are for numbers
 module _ (def : ℕ → Process) (for_numbers : ℕ → ℕ → Bool) where
   pub data Ours : Agent → Agent → Type 0 where
     -- ḡ = false: Δ ⊢ [Γ; δ] : [g] P + Σ Qᵢ ∥ B → Δ ⊢ [Γ; δ] : Σ Qᵢ + wait ∥ B

@@ -1,15 +1,12 @@
--- Whole turns of a thread by 002's rules, and what two of them from one agent may differ in. Assumes nothing.
+-- Whole turns of a thread by 002's rules, and what two of them from one agent may differ in.
 use Rattle.std.specs.Prelude.{ℕ, suc, ◌≡◌, ◌⊎◌, Bool, true, false}
-use Rattle.std.proofs.Math.Path.{refl, ap}
-use Rattle.std.proofs.Common.{sym, ◌∙◌}
-use Rattle.std.proofs.Math.Logic.{inl, inr}
 use mathlib.Core.List.{List, [], ◌∷◌, map}
 use Rattle.std.proofs.Math.Option.{some}
-use Rattle.published.specs.Syntax.{Process, end, choice, invoke, Sum, nothing, branch, wait, Prefix, tau, output, input, new_channel, new_thread, assign, waits, waiting}
+use Rattle.published.specs.Syntax.{Process, choice, invoke, Sum, nothing, branch, wait, Prefix, tau, output, input, new_channel, new_thread, assign, waits, waiting}
 use Rattle.published.specs.Agents.{◌∈◌, Value, channel, Env, look, holds, Commitment, gives, takes, Thread, thread, Channels, Agent, agent}
-use Rattle.published.specs.Rules.{Rearranged, Acts, step, new, spawn, next, call, inert, send, out, recv, inn, more, Nothing, Run, last, pass, Turn, zeroed}
-use Rattle.published.specs.Fired.{Rule, by_inert, by_call, by_step, by_new, by_spawn, by_send, by_recv, by_passing, by_assigns, by_zeros, kind, apart, Fired, fired, behind, nothing_fires, firing, Ends, ActsBy, TurnBy}
-use Rattle.published.specs.Choices.{commits, ByAction, ByCommitment, ByPrefix, BySum, ByProcess, Of, acts_of, InProcess}
+use Rattle.published.specs.Rules.{Rearranged, Acts, Nothing, zeroed}
+use Rattle.published.specs.Fired.{Rule, by_inert, by_call, by_step, by_new, by_spawn, by_send, by_recv, by_passing, by_assigns, by_zeros}
+use Rattle.published.specs.Choices.{commits, ByAction, InProcess}
 
 -- ---- whole turns
 
@@ -67,7 +64,7 @@ branches nothing = 0
 branches (branch g α P Q) = suc (branches Q)
 branches (wait Q) = branches Q
 
--- forNumbers says which variables of each definition are for numbers, as in `Ours`
+-- `for_numbers` says which variables of each definition are for numbers, as in `Ours`
 module _ (def : ℕ → Process) (for_numbers : ℕ → ℕ → Bool) where
   -- two ends, T and T', of a turn of thread t from the agent A
   pub data UpTo (A : Agent) (t : Thread) (T T' : Agent) : Type 0 where
@@ -92,57 +89,7 @@ module _ (def : ℕ → Process) where
   unfoldable pub Onward : Agent → Agent → Type 0
   Onward T C = ((first_waits T.threads ≡ true) × (C ≡ T)) ⊎ Whole def T C
 
-  pub whole_of : {A C : Agent} → Whole def A C
-      → Of def A.channels A.threads false C ⊎ ((T : Agent) × Of def A.channels A.threads true T × Onward T C)
-  unfolding Onward
-  whole_of (acted r e) = inl (rw e at (acts_of def r))
-  whole_of (rested {A} {T} r e w) = inr (T, rw e at (acts_of def r), inl (w, refl))
-  whole_of (passed {A} {T} r e w) = inr (T, rw e at (acts_of def r), inr w)
-
--- ---- a whole turn is a turn
-
-module _ (Δ : Channels) (Γ : List Commitment) (δ : Env) (B : List Thread) where
-  -- (out) and (in) change the first thread alone
-  prefix_alone : (α : Prefix) (P : Process) (Q : Sum) (T : Agent) → ByCommitment Δ Γ δ B α P Q T → (t : Thread) × (T ≡ agent Δ (t ∷ B))
-  unfolding ByCommitment
-  prefix_alone tau P Q T a = absurd a
-  prefix_alone (output c v) P Q T (ĉ, e, f, q) = (_, q)
-  prefix_alone (input c x) P Q T (ĉ, e, f, q) = (_, q)
-  prefix_alone (new_channel c) P Q T a = absurd a
-  prefix_alone (new_thread R) P Q T a = absurd a
-  prefix_alone (assign x e) P Q T a = absurd a
-
-  sum_alone : (Q : Sum) (T : Agent) → BySum Δ Γ δ B true Q T → (t : Thread) × (T ≡ agent Δ (t ∷ B))
-  unfolding BySum ByPrefix
-  sum_alone nothing T a = absurd a
-  sum_alone (branch g α P Q) T (inl (f, a)) = sum_alone Q T a
-  sum_alone (branch g α P Q) T (inr (f, a)) = prefix_alone α P Q T a
-  sum_alone (wait Q) T a = absurd a
-
-  process_alone : (def : ℕ → Process) (P : Process) (T : Agent) → ByProcess Δ Γ δ B def true P T → (t : Thread) × (T ≡ agent Δ (t ∷ B))
-  unfolding ByProcess
-  process_alone def end T a = absurd a
-  process_alone def (choice Q) T a = sum_alone Q T a
-  process_alone def (invoke D vs) T a = absurd a
-
-module _ (def : ℕ → Process) where
-  passes_on : (Δ : Channels) (A : List Thread) (T C : Agent) → Of def Δ A true T → Acts def Nothing (agent Δ A) T → Run def Nothing T C
-      → Run def Nothing (agent Δ A) C
-  unfolding Of
-  passes_on Δ [] T C h r w = absurd h
-  passes_on Δ (t ∷ B) T C h r w =
-      let (t', q) = process_alone Δ t.commitments t.env B def t.process T h in
-      pass (rw q at r) (rw q at w)
-
-  whole_run : {A C : Agent} → Whole def A C → Run def Nothing A C
-  whole_run (acted r e) = last r
-  whole_run (rested r e w) = last r
-  whole_run (passed {A} {T} {C} r e w) = passes_on A.channels A.threads T C (rw e at (acts_of def r)) r (whole_run w)
-
-  pub whole_turn : {A : Agent} {t : Thread} {T : Agent} → WholeTurn def A t T → Turn def Nothing A t T
-  whole_turn h = record { others = h.others; brought = h.brought; product = h.product; run = whole_run h.whole; put_back = h.put_back }
-
--- ---- a turn that ends with an action is whole, as is one that ends with (out) or (in) at Σ wait
+-- ---- the rules that pass over a branch
 
 -- (out) and (in)
 unfoldable pub passing : Rule → Bool
@@ -156,63 +103,3 @@ passing (by_recv t k) = false
 passing by_passing = true
 passing by_assigns = false
 passing by_zeros = false
-
-module _ (def : ℕ → Process) where
-  commits_passing : {A T : Agent} (r : Acts def Nothing A T) → commits def r ≡ passing (firing def Nothing nothing_fires r).rule
-  unfolding commits firing passing behind Nothing
-  commits_passing (step g) = refl
-  commits_passing (new ĉ g f) = refl
-  commits_passing (spawn g) = refl
-  commits_passing (next g r) = commits_passing r
-  commits_passing (call ws e) = refl
-  commits_passing inert = refl
-  commits_passing (send ĉ x w g c i v) = refl
-  commits_passing (out ĉ g c f) = refl
-  commits_passing (recv ĉ v w g c i e) = refl
-  commits_passing (inn ĉ g c f) = refl
-  commits_passing (more m) = absurd m
-
-  -- zeros is no rule of 002
-  never_zeros : {A T : Agent} (r : Acts def Nothing A T) → (firing def Nothing nothing_fires r).rule ≡ by_zeros → ⊥
-  unfolding firing behind Nothing kind
-  never_zeros (step g) e = apart e refl
-  never_zeros (new ĉ g f) e = apart e refl
-  never_zeros (spawn g) e = apart e refl
-  never_zeros (next g r) e = never_zeros r e
-  never_zeros (call ws q) e = apart e refl
-  never_zeros inert e = apart e refl
-  never_zeros (send ĉ x w g c i v) e = apart e refl
-  never_zeros (out ĉ g c f) e = apart e refl
-  never_zeros (recv ĉ v w g c i q) e = apart e refl
-  never_zeros (inn ĉ g c f) e = apart e refl
-  never_zeros (more m) e = absurd m
-
-  ends_otherwise : {A T : Agent} (w : Run def Nothing A T) (f : Fired) → Ends def Nothing nothing_fires w f → f.rule ≡ by_zeros → ⊥
-  unfolding Ends behind
-  ends_otherwise (last r) f e z = never_zeros r (ap (λ (x : Fired). x.rule) e ∙ z)
-  ends_otherwise (pass r w) f (inl (g, p, e, q)) z = ends_otherwise w g e (sym (ap (λ (x : Fired). x.rule) q) ∙ z)
-  ends_otherwise (pass r w) f (inr (p, e, q)) z = ends_otherwise w (fired 0 by_zeros) e refl
-
-  run_whole : {A T : Agent} (w : Run def Nothing A T) (f : Fired) → Ends def Nothing nothing_fires w f → passing f.rule ≡ false → Whole def A T
-  unfolding Ends behind passing
-  run_whole (last r) f e z = acted r (commits_passing r ∙ ap (λ (x : Fired). passing x.rule) e ∙ z)
-  run_whole (pass r w) f (inl (g, p, e, q)) z =
-      passed r (commits_passing r ∙ ap passing p) (run_whole w g e (sym (ap (λ (x : Fired). passing x.rule) q) ∙ z))
-  run_whole (pass r w) f (inr (p, e, q)) z = absurd (ends_otherwise w (fired 0 by_zeros) e refl)
-
-  pub action_whole : {A : Agent} {t : Thread} {f : Fired} {T : Agent} → TurnBy def Nothing nothing_fires A t f T → passing f.rule ≡ false → WholeTurn def A t T
-  action_whole {f = f} h z = record {
-    others = h.turn.others;
-    brought = h.turn.brought;
-    product = h.turn.product;
-    whole = run_whole h.turn.run f h.ends z;
-    put_back = h.turn.put_back;
-  }
-
-  pub passed_so : {A T C : Agent} → ActsBy def Nothing nothing_fires (fired 0 by_passing) A T → Whole def T C → Whole def A C
-  unfolding passing
-  passed_so (r, e) w = passed r (commits_passing r ∙ ap (λ (x : Fired). passing x.rule) e) w
-
-  pub rested_so : {A T : Agent} → ActsBy def Nothing nothing_fires (fired 0 by_passing) A T → first_waits T.threads ≡ true → Whole def A T
-  unfolding passing
-  rested_so (r, e) w = rested r (commits_passing r ∙ ap (λ (x : Fired). passing x.rule) e) w

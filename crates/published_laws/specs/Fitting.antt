@@ -1,5 +1,5 @@
 -- Document 02's S-4 in whole numbers: a guard counts as true just where the file's guard is true and the branch has no sum or difference that is out of
--- range. And its comparison: where all sums of a choice fit, guards and values are those of the papers; of steps: `Compared.antt`. Assumes
+-- range. And its comparison: where all sums of a choice fit, guards and values are those of the papers; of steps: `proofs/Compared.antt`. Assumes
 -- nothing but that the table is accepted.
 use Rattle.std.specs.Prelude.{ℕ, ◌-◌, ◌%◌, ◌≤◌, ◌<◌, ◌≡◌, ◌⊎◌, ◌↔◌, true, false, cond, List, leb, eqb, ℤ, pos, negsuc, ◌+ℤ◌, ◌-ℤ◌, get_or}
 use Rattle.std.proofs.Common.{arith, sym, ◌∙◌, ap, inl, inr, to_z}

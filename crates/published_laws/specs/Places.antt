@@ -9,7 +9,7 @@ use mathlib.Core.List.{List, [], ◌∷◌}
 use Rattle.std.proofs.Math.ListN.{length}
 use Rattle.numbers.specs.Search.Laws.{case_b, contra}
 use Rattle.table.specs.Table.{Table}
-use Rattle.state.specs.State.{in_use}
+use Rattle.state.specs.State.{State, in_use}
 use Rattle.published.specs.Agents.{nth}
 use Rattle.published_laws.specs.Standing.{thread_of, threads_of}
 
@@ -18,6 +18,10 @@ unfoldable pub rank : List (List ℕ) → ℕ → ℕ
 rank [] t = 0
 rank (row ∷ rows) zero = 0
 rank (row ∷ rows) (suc t) = cond (in_use row) (suc (rank rows t)) (rank rows t)
+
+-- the place of thread t of a state in its product with the bench, which comes first
+abbrev pub place_of : State → ℕ → ℕ
+place_of s t = suc (rank s.threads t)
 
 rank_later : (row : List ℕ) (rows : List (List ℕ)) (t : ℕ) → in_use row ≡ true → rank (row ∷ rows) (suc t) ≡ suc (rank rows t)
 unfolding rank

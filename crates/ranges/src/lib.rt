@@ -1,5 +1,7 @@
 // Ground 4 over a table whose counts ground 3 has passed: fields out of their range. A row is tested by its kind. Its node and its definition are looked
 // up once and handed down.
+#![tactic(auto)]
+
 ghost use Rattle.std.specs.Prelude.{◌≡◌, ◌≤◌};
 ghost use Rattle.numbers.specs.Search.{every, first};
 ghost use Rattle.table.specs.Table.{table_of};

@@ -1,5 +1,7 @@
 // How many threads hold each channel, and how many of those wait, by one pass over the thread rows. A channel keeps the stamp of the thread that was counted at it
 // last, so that one look tells whether a thread which holds it by several slots has been counted.
+#![tactic(auto)]
+
 ghost use Rattle.std.specs.Prelude.{◌≡◌, ◌+◌, ◌%◌, ◌≤◌, ◌<◌, length, get_or, replicate};
 ghost use Rattle.numbers.specs.Count.{bit};
 ghost use Rattle.numbers.specs.Search.{tabulate};
@@ -88,7 +90,7 @@ pub fn count_slot(
     requires waiting_len { length waiting.old ≡ max_channels }
     ensures held_after { held.new ≡ added held.old (own_of (table_of table.now) (thread (state_of state.now) t) k) 1 }
     ensures waiting_after { waiting.new ≡ added waiting.old (own_of (table_of table.now) (thread (state_of state.now) t) k) w }
-    ensures passed_2 { Passed (table_of table.now) (thread (state_of state.now) t) t (k + 1) stamps.new }
+    ensures passed_after { Passed (table_of table.now) (thread (state_of state.now) t) t (k + 1) stamps.new }
 {
     let c = holding::channel_at(table, index, from, state, t, k);
     count_once(c, t as u8 + 1, w, stamps, held, waiting);
@@ -112,7 +114,7 @@ fn tally_row(
     ensures held_after { held.new ≡ row_added (table_of table.now) (thread (state_of state.now) t) 1 held.old }
     ensures waiting_after { waiting.new
         ≡ row_added (table_of table.now) (thread (state_of state.now) t) (bit (is_waiting (thread (state_of state.now) t))) waiting.old }
-    ensures fresh_2 { Fresh (t + 1) stamps.new }
+    ensures fresh_after { Fresh (t + 1) stamps.new }
 {
     let slots = holding::slots_of(table, index, state, t);
     let from = slots.from;

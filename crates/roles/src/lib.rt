@@ -1,4 +1,6 @@
 // What the operands of a branch are: the role that each guard and each action gives to each of its fields.
+#![tactic(auto)]
+
 ghost use Rattle.std.specs.Prelude.{◌≡◌, cond, eqb, ◌<◌};
 ghost use Rattle.table.specs.Table.{table_of};
 ghost use Rattle.table.specs.Roles.{guard_role, action_role, operand_count, operand_place, operand, operand_role, reads, writes};

@@ -1,7 +1,7 @@
 -- The calls of the engine, each on a state and then on buffers: their grounds in order, their answers, and what they leave. `Seats.antt` has them as they are
 -- made at a seat.
 pub mod Laws
-use Rattle.std.specs.Prelude.{ℕ, zero, suc, Bool, not, ◌&&◌, cond, List, ltb, eqb, length}
+use Rattle.std.specs.Prelude.{ℕ, zero, suc, Bool, ◌&&◌, cond, List, ltb, eqb, length}
 use Rattle.table.specs.Table.{Table, table_of, ports}
 use Rattle.loader.specs.Load.{table_length, accepted}
 use Rattle.state.specs.Words as Word
@@ -19,7 +19,6 @@ use Rattle.rules.specs.declared.Refusal.{Refusal}
 use Rattle.rules.specs.declared.Refusal.TheVariants as Ground
 use Rattle.rules.specs.declared.Admission.{Admission}
 use Rattle.rules.specs.declared.Admission.TheVariants as Admission
-use Rattle.rules.specs.declared.Deed.{Deed}
 use Rattle.rules.specs.declared.Deed.TheVariants.{Ended, Called, Waited, Took, TookWith}
 use Rattle.rules.specs.declared.Started.{Started}
 use Rattle.rules.specs.declared.Started.TheVariants as Started

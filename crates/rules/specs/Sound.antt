@@ -1,5 +1,5 @@
 -- The states that are sound for a table: one test for each thing that document 01 asks of a sound state, in its order.
-use Rattle.std.specs.Prelude.{ℕ, ◌+◌, Bool, true, false, not, ◌&&◌, ◌||◌, cond, List, ltb, leb, eqb, get_or}
+use Rattle.std.specs.Prelude.{ℕ, Bool, not, ◌&&◌, ◌||◌, cond, List, ltb, leb, eqb, get_or}
 use Rattle.numbers.specs.Search.{every}
 use Rattle.table.specs.Table.{Table, nodes, ports, slot_count}
 use Rattle.table.specs.Layout.{definition_of, branch_count, slot_type}

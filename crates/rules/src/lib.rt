@@ -1,14 +1,15 @@
 // The names of the moves and of the answers. What they mean is in specs/; this crate has no code besides.
+#![tactic(auto)]
 
 // The two sides of a meeting.
-#[derive(Drop)]
+#[derive(Clone, Copy)]
 pub enum Direction {
     Out,
     In,
 }
 
 // What a branch does. A meeting is a send (`Out`) or a receive (`In`); an assignment sets a slot to a constant, a sum or a difference.
-#[derive(Drop)]
+#[derive(Clone, Copy)]
 pub enum Act {
     Tau,
     Meeting(Direction),
@@ -18,14 +19,14 @@ pub enum Act {
 }
 
 // The waiting thread and the branch of it that offer what was looked for.
-#[derive(Drop)]
+#[derive(Clone, Copy)]
 pub enum Partner {
     Nobody,
     At(u32, u32),
 }
 
 // What a ready thread does. Each branch that is taken comes with its number.
-#[derive(Drop)]
+#[derive(Clone, Copy)]
 pub enum Move {
     Ends,
     Calls,
@@ -39,7 +40,7 @@ pub enum Move {
 }
 
 // Why a call of the engine is refused.
-#[derive(Drop)]
+#[derive(Clone, Copy)]
 pub enum Refusal {
     Length,
     Table,
@@ -53,7 +54,7 @@ pub enum Refusal {
 }
 
 // What a call asks of the seat at which it is made: a take and a give with their port, a step or a run, a collection.
-#[derive(Drop)]
+#[derive(Clone, Copy)]
 pub enum Right {
     Take(u32),
     Give(u32),
@@ -62,21 +63,21 @@ pub enum Right {
 }
 
 // Whether a call may go on to its own grounds.
-#[derive(Drop)]
+#[derive(Clone, Copy)]
 pub enum Admission {
     Admitted,
     Refused(Refusal),
 }
 
 // What a start answers.
-#[derive(Drop)]
+#[derive(Clone, Copy)]
 pub enum Started {
     Done,
     Refused(Refusal),
 }
 
 // What a step did: a branch alone, or a branch with the thread that it met or made.
-#[derive(Drop)]
+#[derive(Clone, Copy)]
 pub enum Deed {
     Ended,
     Called,
@@ -86,14 +87,14 @@ pub enum Deed {
 }
 
 // The node from which the step was made, and what it did.
-#[derive(Drop)]
+#[derive(Clone, Copy)]
 pub enum Stepped {
     Done(u32, Deed),
     Refused(Refusal),
 }
 
 // The thread that was met.
-#[derive(Drop)]
+#[derive(Clone, Copy)]
 pub enum Given {
     Met(u32),
     Nobody,
@@ -101,7 +102,7 @@ pub enum Given {
 }
 
 // The thread that was met and its number.
-#[derive(Drop)]
+#[derive(Clone, Copy)]
 pub enum Taken {
     Met(u32, u32),
     Nobody,
@@ -109,7 +110,7 @@ pub enum Taken {
 }
 
 // Why a run ended; where a row was lacking, with the thread held up.
-#[derive(Drop)]
+#[derive(Clone, Copy)]
 pub enum Reason {
     AllDone,
     NoneReady,
@@ -118,14 +119,14 @@ pub enum Reason {
 }
 
 // What one turn of a run came to.
-#[derive(Drop)]
+#[derive(Clone, Copy)]
 pub enum Turn {
     Went,
     Stopped(Reason),
 }
 
 // How many steps were made, and why they ended.
-#[derive(Drop)]
+#[derive(Clone, Copy)]
 pub enum Ran {
     Done(u32, Reason),
     Refused(Refusal),

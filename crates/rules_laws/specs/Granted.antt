@@ -1,5 +1,5 @@
 -- What an accepted table grants to the engine: all that its theorems use of loading. Nodes are counted over the whole file.
-use Rattle.std.specs.Prelude.{ℕ, ◌≤◌, ◌<◌, ◌≡◌, ◌⊎◌, ◌≢◌, true, false}
+use Rattle.std.specs.Prelude.{ℕ, ◌≤◌, ◌<◌, ◌≡◌, ◌⊎◌, ◌≢◌, false}
 use Rattle.numbers.specs.Rows.{at}
 use Rattle.table.specs.Table.{Table, max_ports, max_nodes, definitions, nodes, ports, carried, parameters, slot_count}
 use Rattle.table.specs.Layout.{start, branch_count, definition_of, slot_type}

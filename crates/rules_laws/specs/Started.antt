@@ -1,18 +1,17 @@
 -- The state with which a file starts is sound. Assumes nothing but what the table grants.
 use Prim.Native.Nat.{ℕ, zero, suc, ◌<◌}
 use Rattle.std.proofs.Common.{arith, ap, ltb-true, ltb-false, lt-ltb}
-use Rattle.std.specs.Prelude.{◌≡◌, false, ltb, length, get_or, replicate}
+use Rattle.std.specs.Prelude.{◌≡◌, false, ltb, length, get_or}
 use Rattle.std.proofs.Math.Path.{refl}
-use mathlib.Core.List.{[], ◌∷◌}
+use mathlib.Core.List.{[]}
 use Rattle.std.proofs.lemmas.List.{length-replicate, get_or-replicate}
 use Rattle.std.proofs.Math.ListN.{get_or-eq_default}
 use Rattle.numbers.specs.Rows.{at}
-use Rattle.numbers.specs.Search.{tabulate}
 use Rattle.numbers.specs.Search.Laws.{case_b, contra, get_d_tabulate, length_tabulate}
 use Rattle.table.specs.Table.{Table, ports, parameters}
 use Rattle.table.specs.Layout.{start}
 use Rattle.table.specs.declared.Part.TheVariants.{Nodes}
-use Rattle.state.specs.State.{State, max_threads, max_channels, thread, channel, is_waiting, type_in}
+use Rattle.state.specs.State.{max_threads, max_channels, thread, channel, is_waiting, type_in}
 use Rattle.rules.specs.Start.{free_row, entered, port_row, opening, started}
 use Rattle.rules_laws.specs.Granted.{Granted}
 use Rattle.rules_laws.specs.Shape.{Shaped}

@@ -1,4 +1,6 @@
 // What a seat may do by a list of rights: grounds 18 and 19. It reads the list and nothing else.
+#![tactic(auto)]
+
 ghost use Rattle.std.specs.Prelude.{◌≡◌};
 ghost use Rattle.rules.specs.Seats.{right_at, rights_in_range, grants_first, grants_second, grants, has_right, rights_admission};
 

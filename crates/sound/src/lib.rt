@@ -1,4 +1,6 @@
 // Ground 10: whether a state is sound for a table. Each thread row is passed once, for its own tests and for the counts, and once more for its offers where it waits.
+#![tactic(auto)]
+
 ghost use Rattle.std.specs.Prelude.{◌≡◌, ◌&&◌, ◌+◌, ◌≤◌, ◌<◌, ltb, leb, length, replicate};
 ghost use Rattle.numbers.specs.Count.{bit};
 ghost use Rattle.numbers.specs.Search.{every, tabulate};
@@ -93,7 +95,7 @@ fn pass_slots(
     ensures value { result ≡ every (slot_sound (table_of table.now) (state_of state.now) (thread (state_of state.now) t)) count }
     ensures held_after { held.new ≡ row_added (table_of table.now) (thread (state_of state.now) t) 1 held.old }
     ensures waiting_after { waiting.new ≡ row_added (table_of table.now) (thread (state_of state.now) t) (bit (is_waiting (thread (state_of state.now) t))) waiting.old }
-    ensures fresh_2 { Fresh (t + 1) stamps.new }
+    ensures fresh_after { Fresh (t + 1) stamps.new }
 {
     let w = holding::weight(state, t);
     let mut passed = true;
@@ -168,7 +170,7 @@ fn pass_row(
     ensures value { result ≡ row_sound (table_of table.now) (state_of state.now) (thread (state_of state.now) t) }
     ensures held_after { held.new ≡ row_added (table_of table.now) (thread (state_of state.now) t) 1 held.old }
     ensures waiting_after { waiting.new ≡ row_added (table_of table.now) (thread (state_of state.now) t) (bit (is_waiting (thread (state_of state.now) t))) waiting.old }
-    ensures fresh_2 { Fresh (t + 1) stamps.new }
+    ensures fresh_after { Fresh (t + 1) stamps.new }
 {
     let status = state::thread_word(state, t as usize, state::STATUS);
     if status == state::FREE {

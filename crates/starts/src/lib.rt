@@ -1,4 +1,6 @@
 // The state with which a file starts. Nothing of the old state is read.
+#![tactic(auto)]
+
 ghost use Rattle.std.specs.Prelude.{◌≡◌, [], ◌∷◌, ◌<◌, replicate};
 ghost use Rattle.table.specs.Table.{table_of};
 ghost use Rattle.table.specs.Index.{Indexed};

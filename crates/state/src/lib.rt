@@ -1,4 +1,6 @@
 // The words of a state, and the buffers that hold them. Each look-up answers for every place: a read outside gives 0, a write outside does nothing.
+#![tactic(auto)]
+
 ghost use Rattle.std.specs.Prelude.{◌≡◌, length, get_or, set};
 ghost use Rattle.numbers.specs.Bytes.{words};
 ghost use Rattle.numbers.specs.Rows.{at};

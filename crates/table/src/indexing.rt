@@ -21,7 +21,7 @@ fn start_at(index: &[u32], part: Part, i: u32) -> u32
 
 // The first block that ends past x, where none below `from` does.
 fn seek(table: &[u8], index: &[u32], part: Part, from: u32, x: u32) -> u32
-    requires table_value { header_in_range (table_of table.now) ≡ true }
+    requires header { header_in_range (table_of table.now) ≡ true }
     requires starts { Starts (table_of table.now) part index.now }
     requires from_bound { from ≤ blocks (table_of table.now) part }
     requires from_value { first (ends_past (table_of table.now) part x) from ≡ from }
@@ -40,7 +40,7 @@ fn seek(table: &[u8], index: &[u32], part: Part, from: u32, x: u32) -> u32
 
 // A part's starts are laid behind what the index has already.
 fn lay_starts(table: &[u8], index: &mut [u32], part: Part)
-    requires table_value { header_in_range (table_of table.now) ≡ true }
+    requires header { header_in_range (table_of table.now) ≡ true }
     requires index_value { index.old ≡ laid (entry (table_of table.now)) (starts_from part) index_length }
     ensures { index.new ≡ laid (entry (table_of table.now)) (starts_from part + starts_room part) index_length }
 {
@@ -55,8 +55,8 @@ fn lay_starts(table: &[u8], index: &mut [u32], part: Part)
 
 // A part's owners are laid behind what the index has already, all starts among it.
 fn lay_owners(table: &[u8], index: &mut [u32], part: Part)
-    requires table_value { header_in_range (table_of table.now) ≡ true }
-    requires part_nonzero { 0 < owners_room part }
+    requires header { header_in_range (table_of table.now) ≡ true }
+    requires has_owners { 0 < owners_room part }
     requires index_value { index.old ≡ laid (entry (table_of table.now)) (owners_from part) index_length }
     ensures { index.new ≡ laid (entry (table_of table.now)) (owners_from part + owners_room part) index_length }
 {
@@ -82,7 +82,7 @@ fn lay_rows(table: &[u8], index: &mut [u32])
 
 // The index of a table whose header is in range, into a slice of zeros.
 pub fn fill_index(table: &[u8], index: &mut [u32])
-    requires table_value { header_in_range (table_of table.now) ≡ true }
+    requires header { header_in_range (table_of table.now) ≡ true }
     requires index_value { index.old ≡ replicate index_length 0 }
     ensures { index.new ≡ index_of (table_of table.now) }
 {

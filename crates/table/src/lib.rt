@@ -1,5 +1,7 @@
 // Reading a loaded table: its numbers, the rows of each kind of line, how its blocks lie, and all of that by the table's index. Rows and numbers are
 // counted from 0.
+#![tactic(auto)]
+
 ghost use Rattle.std.specs.Prelude.{◌≡◌, ◌+◌, ◌-◌, ◌≤◌, ◌<◌};
 ghost use Rattle.numbers.specs.Rows.{at};
 ghost use Rattle.table.specs.Table.{table_of, definition_row, slot_row, node_row, branch_row, line_total, parameters, slot_count, node_count};
@@ -56,7 +58,7 @@ pub const NODE_ROW: usize = 805;
 pub const BRANCH_ROW: usize = 806;
 
 // The lines that come in blocks: the slots and the nodes of each definition, the branches of each choice.
-#[derive(Drop)]
+#[derive(Clone, Copy)]
 pub enum Part {
     Slots,
     Nodes,
@@ -64,7 +66,7 @@ pub enum Part {
 }
 
 // What an operand of a branch is.
-#[derive(Drop)]
+#[derive(Clone, Copy)]
 pub enum Role {
     Unused,
     Constant,
@@ -282,7 +284,7 @@ pub fn start_within(table: &[u8], index: &[u32], part: Part, i: u32) -> u32
 // The block that x stands in; 0 past the part's lines.
 pub fn owner_of(table: &[u8], index: &[u32], part: Part, x: usize) -> u32
     requires indexed { Indexed (table_of table.now) index.now }
-    requires part_nonzero { 0 < owners_room part }
+    requires has_owners { 0 < owners_room part }
     ensures value { result ≡ owner (table_of table.now) part x }
     ensures upper_bound { result ≤ blocks (table_of table.now) part }
 {

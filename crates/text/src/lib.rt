@@ -1,4 +1,6 @@
 // The fields of a procedure file: where they stand, the numbers that they print, and how they are printed.
+#![tactic(auto)]
+
 ghost use Rattle.std.specs.Prelude.{◌≡◌, ◌+◌, ◌*◌, ◌<◌, ◌≤◌, length};
 ghost use Rattle.std.proofs.lemmas.List.Edits.{sets};
 ghost use Rattle.text.specs.Text.{text, line_length, field_of, figure_of, size_from, has_minus, same, read_number};
@@ -11,7 +13,7 @@ pub const LINE: usize = 73;
 pub const FIELD: usize = 6;
 
 // What a field holds.
-#[derive(Drop)]
+#[derive(Clone, Copy)]
 pub enum Reading {
     Value(u16),
     Wrong,

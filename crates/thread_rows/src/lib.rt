@@ -1,4 +1,6 @@
 // The row of a thread, written in part or as a whole. Whoever calls these functions settles the channel rows.
+#![tactic(auto)]
+
 ghost use Rattle.std.specs.Prelude.{◌≡◌, ◌∷◌, ◌<◌, replicate};
 ghost use Rattle.state.specs.State.{max_threads, state_of, thread, stands_at, slots_of, row_slots, with_thread};
 ghost use Rattle.rules.specs.Start.{free_row};

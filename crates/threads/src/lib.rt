@@ -1,5 +1,7 @@
 // What a layer above the engine asks of one thread of a state, by its words: its status, its offers on channels that are marked, the channels that it
 // holds; and its release.
+#![tactic(auto)]
+
 ghost use Rattle.std.specs.Prelude.{◌≡◌, true, ◌<◌};
 ghost use Rattle.table.specs.Table.{table_of, ports};
 ghost use Rattle.table.specs.Index.{Indexed};
@@ -107,7 +109,7 @@ pub fn release(table: &[u8], index: &[u32], words: &mut [u32; state::WORDS], t: 
     requires t_lt_max_threads { t < max_threads }
     requires words_value { settled (table_of table.now) (state_of words.old) ≡ state_of words.old }
     ensures words_after { state_of words.new ≡ settled (table_of table.now) (with_thread (state_of words.old) t free_row) }
-    ensures words_after_2 { settled (table_of table.now) (state_of words.new) ≡ state_of words.new }
+    ensures stays_settled { settled (table_of table.now) (state_of words.new) ≡ state_of words.new }
 {
     let mut old = [0u8; holding::LIST];
     let waits = upkeep::note_held(table, index, words, t, &mut old);

@@ -1,5 +1,7 @@
 // A thread's turn: its move is decided and made, and the turn moves past it. A move that is made leaves the channel rows settled but for the counts of waiting
 // holders, which a call settles at its end.
+#![tactic(auto)]
+
 ghost use Rattle.std.specs.Prelude.{◌≡◌, true, ◌≢◌, ◌<◌};
 ghost use Rattle.table.specs.Table.{table_of};
 ghost use Rattle.table.specs.Index.{Indexed};
@@ -25,7 +27,7 @@ use table::field;
 const CHANNELS: usize = state::CHANNELS as usize;
 
 // What a turn came to, the move that was decided, and a number from which on no thread row is in use after it.
-#[derive(Drop)]
+#[derive(Clone, Copy)]
 pub struct Round {
     pub turn: Turn,
     pub decided: Move,
@@ -50,7 +52,7 @@ fn make_call(table: &[u8], index: &[u32], state: &mut [u32; state::WORDS], t: u3
     requires indexed { Indexed (table_of table.now) index.now }
     requires counted { Counted (table_of table.now) (state_of state.old) }
     requires t_lt_max_threads { t < max_threads }
-    requires t_value { is_ready (thread (state_of state.old) t) ≡ true }
+    requires ready { is_ready (thread (state_of state.old) t) ≡ true }
     ensures { MoveMade (table_of table.now) (state_of state.old) t Calls (state_of state.new) }
 {
     let mut slots = [0u32; thread_rows::SLOTS];
@@ -91,7 +93,7 @@ fn make_child(table: &[u8], index: &[u32], state: &mut [u32; state::WORDS], t: u
     requires counted { Counted (table_of table.now) (state_of state.old) }
     requires t_lt_max_threads { t < max_threads }
     requires u_lt_max_threads { u < max_threads }
-    requires u_nonzero { u ≢ t }
+    requires distinct { u ≢ t }
     ensures { MoveMade (table_of table.now) (state_of state.old) t (Spawns i u) (state_of state.new) }
 {
     let mut old = [0u8; holding::LIST];
@@ -171,7 +173,7 @@ fn make_move(
 )
     requires running { Running (table_of table.now) index.now (state_of state.old) }
     requires t_lt_max_threads { t < max_threads }
-    requires t_value { is_ready (thread (state_of state.old) t) ≡ true }
+    requires ready { is_ready (thread (state_of state.old) t) ≡ true }
     requires m_value { m ≡ move (table_of table.now) (state_of state.old) t }
     requires carries { Carries (table_of table.now) row v (state_of state.old) t m }
     ensures { MoveMade (table_of table.now) (state_of state.old) t m (state_of state.new) }
@@ -287,7 +289,7 @@ pub fn turn_of(
     requires running { Running (table_of table.now) index.now (state_of state.old) }
     requires used_below { UsedBelow (state_of state.old) top }
     requires t_lt_max_threads { t < max_threads }
-    requires t_value { is_ready (thread (state_of state.old) t) ≡ true }
+    requires ready { is_ready (thread (state_of state.old) t) ≡ true }
     ensures { TurnTaken (table_of table.now) index.now (state_of state.old) t result (state_of state.new) }
 {
     let d = decision::decide(table, index, state, t, top);

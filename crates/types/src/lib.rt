@@ -1,4 +1,6 @@
 // Ground 5 over a table whose fields are in range: types that disagree. A row is tested by its kind. Its definition is looked up once and handed down.
+#![tactic(auto)]
+
 ghost use Rattle.std.specs.Prelude.{◌≡◌};
 ghost use Rattle.numbers.specs.Search.{every, first};
 ghost use Rattle.table.specs.Table.{table_of, carried};

@@ -1,5 +1,7 @@
 // The channel rows of a state kept in step with the thread rows that a move writes. Before the writes the channels of each row that will change are
 // noted; after them every new row is entered and then every old one left, so that no channel is freed that a new row holds.
+#![tactic(auto)]
+
 ghost use Rattle.std.specs.Prelude.{◌≡◌, ◌≤◌, ◌<◌};
 ghost use Rattle.numbers.specs.Count.{bit};
 ghost use Rattle.table.specs.Table.{table_of};

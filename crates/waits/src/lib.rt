@@ -1,5 +1,7 @@
 // Whether every waiting thread waits rightly: at a choice of which no branch could go ahead. One pass over the waiting threads notes at each channel
 // who waits to send and who waits to receive on it; two threads that could meet then stand at one channel.
+#![tactic(auto)]
+
 ghost use Rattle.std.specs.Prelude.{◌≡◌, true, ◌+◌, ◌<◌, get_or, set, replicate};
 ghost use Rattle.numbers.specs.Search.{every};
 ghost use Rattle.table.specs.Table.{table_of};
@@ -85,7 +87,7 @@ fn note_branches(
     requires indexed { Indexed (table_of table.now) index.now }
     requires t_lt_max_threads { t < max_threads }
     requires n_value { n ≡ stands_at (thread (state_of state.now) t) }
-    requires t_value { status (thread (state_of state.now) t) ≡ 2 }
+    requires waits { status (thread (state_of state.now) t) ≡ 2 }
     requires senders_value { senders.old ≡ notes (table_of table.now) (state_of state.now) Out t }
     requires receivers_value { receivers.old ≡ notes (table_of table.now) (state_of state.now) In t }
     ensures value { result ≡ all_held (table_of table.now) (state_of state.now) t }

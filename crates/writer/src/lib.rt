@@ -1,4 +1,6 @@
 // Writing a procedure file (document 02, S-1): the printed form of a table, laid into the caller's buffer. Grounds 8, 9 and 15.
+#![tactic(auto)]
+
 ghost use Rattle.std.specs.Prelude.{◌≡◌, [], ◌+◌, ◌*◌, ◌≤◌, ◌<◌, length, get_or, take};
 ghost use Rattle.std.proofs.lemmas.List.Edits.{sets};
 ghost use Rattle.text.specs.Text.{line_length, line_text, file_text};
@@ -7,7 +9,7 @@ ghost use Rattle.table.specs.Index.{Indexed};
 ghost use Rattle.writer.specs.Write.{Outcome, write_call};
 
 // What a write answers: how many bytes the file has, or why there is none.
-#[derive(Drop)]
+#[derive(Clone, Copy)]
 pub enum Written {
     Done(usize),
     WrongLength,

@@ -1,7 +1,7 @@
 -- Theorems on the call that writes, for every table, every buffer and every length: each ground exactly when it is due; what is written loads to the table, byte
 -- for byte; the table of a file that loads is written as that file, but for the file of no bytes, which is written as the three lines for which it stands; the
 -- bytes behind the file stay, and a refused call leaves every byte. Assumes nothing.
-use Rattle.std.specs.Prelude.{ℕ, ◌+◌, ◌*◌, ◌≤◌, ◌<◌, ◌≡◌, refl, ◌↔◌, ◌≢◌, ◌⊎◌, true, false, leb, eqb, length, take, drop}
+use Rattle.std.specs.Prelude.{ℕ, ◌*◌, ◌≤◌, ◌<◌, ◌≡◌, refl, ◌↔◌, ◌≢◌, ◌⊎◌, true, false, leb, eqb, length, take, drop}
 use Rattle.std.proofs.Common.{arith, sym, ◌∙◌, ap, length-append, length-drop, take_at, drop_at}
 use mathlib.Core.List.{List, [], ◌++◌}
 use borrow.Author.Tests.{eqb-true, eq-eqb, leb-true, leb-false, le-leb, lt-leb}

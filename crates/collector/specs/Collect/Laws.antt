@@ -15,7 +15,7 @@ use Rattle.state.specs.State.{State, max_threads, thread, in_use, with_channels}
 use Rattle.rules.specs.Holding.{settled}
 use Rattle.rules.specs.Start.{free_row}
 use Rattle.marking.specs.Enabled.{nobody, Enabled, enabled_set}
-use Rattle.marking.specs.Enabled.Laws.{enabled_in, enabled_iff}
+use Rattle.marking.proofs.Enabled.Laws.{enabled_in, enabled_iff}
 use Rattle.collector.specs.Collect.{taken, remaining, collected, taken_count}
 
 sum_cong : (f g : ℕ → ℕ) (n : ℕ) → ((i : ℕ) → i < n → f i ≡ g i) → sum_to f n ≡ sum_to g n

@@ -12,7 +12,7 @@ use Rattle.state.specs.State.{thread}
 use Rattle.rules.specs.Calls.{Outcome, outcome, admission}
 use Rattle.rules.specs.Seats.{seat_admission, at_seat, seated_step, seated_give, seated_take, seated_run}
 use Rattle.rules.specs.Seats.Laws.{seat_refused, seat_granted}
-use Rattle.rules.specs.Seats.Entitled.{has_right_iff}
+use Rattle.rules.proofs.Seats.Entitled.{has_right_iff}
 use Rattle.rules.specs.declared.Right.{Right}
 use Rattle.rules.specs.declared.Refusal.{Refusal}
 use Rattle.rules.specs.declared.Refusal.TheVariants as Ground

@@ -1,4 +1,4 @@
-use Rattle.loader.specs.Load.Laws.{answers}
+use Rattle.loader.proofs.Outcomes.{answers}
 use borrow.Author.Rules.{rules}
 use Rattle.loader.proofs.load.Statement.{statement}
 use Rattle.loader.proofs.load.Tie as tie

@@ -94,5 +94,3 @@ module _ (file t t' : List ℕ) (v : Verdict) (e : v ≡ verdict (procedure_text
         → ((i : ℕ) → Fits w8 (get_or t' i 0)) → outcome Done t' ≡ loaded file t
     unfolding loaded after_verdict
     load_done b a k m n f = rw (← e, h, eq-eqb (length t) table_length m, ← k h, ← a, table_bytes_lem t' (n ∙ m) f)
-
-pub ruleset answers = (load_refused, load_length, load_done)

@@ -21,7 +21,6 @@ use Rattle.loader_laws.specs.Paths.Laws.{written_iff}
 use Rattle.loader_laws.specs.Grounds.{Formed, node_kind_lem, branch_kind, node_row_lem, branch_row_of, node_of_lem, branch_below, operand_slot, reads_named, edges}
 use Rattle.loader_laws.specs.Written.{argument_slot, unreachable_iff, call_iff, branch_iff}
 use Rattle.loader_laws.specs.Refused.{ReadsUnwritten, NotReached}
-use Rattle.loader_laws.specs.Refused.Numbers.{not_all}
 use Rattle.loader_laws.specs.Refused.Form.{Says}
 
 module _ (tb : Table) (g : Formed tb) where

@@ -1,6 +1,6 @@
 use native.Mathlib.Omega.{arith}
 use borrow.Author.Rules.{rules}
-use Rattle.profile.specs.Finding.Bounds.{capped_low, capped_high}
+use Rattle.profile.proofs.Finding.Bounds.{capped_low, capped_high}
 use Rattle.profile.proofs.joint.Statement.{statement}
 use Rattle.profile.proofs.joint.Tie as tie
 

@@ -1,4 +1,4 @@
-use Rattle.profile.specs.Answers.{call_forbidden, threads_few, threads_many, grants, rises}
+use Rattle.profile.proofs.Answers.{call_forbidden, threads_few, threads_many, grants, rises}
 use borrow.Author.Rules.{rules}
 use Rattle.profile.proofs.judge.Statement.{statement}
 use Rattle.profile.proofs.judge.Tie as tie

@@ -1,5 +1,5 @@
 use borrow.Author.Rules.{rules}
-use Rattle.profile.specs.Finding.Bounds.{onward_choice, onward_end, onward_own, onward_call}
+use Rattle.profile.proofs.Finding.Bounds.{onward_choice, onward_end, onward_own, onward_call}
 use Rattle.profile.proofs.onward_of.Statement.{statement}
 use Rattle.profile.proofs.onward_of.Tie as tie
 

@@ -1,4 +1,4 @@
-use Rattle.profile.specs.Answers.{length_wrong, table_wrong, table_right, is_accepted, indexed}
+use Rattle.profile.proofs.Answers.{length_wrong, table_wrong, table_right, is_accepted, indexed}
 use borrow.Author.Rules.{rules}
 use Rattle.profile.proofs.profile.Statement.{statement}
 use Rattle.profile.proofs.profile.Tie as tie

@@ -5,7 +5,6 @@ use Rattle.std.proofs.Math.Path.{refl, sym, ap}
 use Rattle.std.proofs.Common.{◌∙◌, inl, inr, eqb-true}
 use Rattle.std.proofs.Math.ListN.{length}
 use Rattle.numbers.specs.Rows.{at}
-use Rattle.table.specs.Fields as Field
 use Rattle.table.specs.Table.{Table, ports, carried}
 use Rattle.table.specs.Layout.{branch_count, definition_of, slot_type}
 use Rattle.state.specs.State.{max_threads, minus_one, State, state_of, thread, stands_at, in_use, is_ready, type_in, with_thread, with_channels}

@@ -98,15 +98,24 @@ module _ (tb : Table) (s : State) (d : Direction) (t : ℕ) where
   unfolding who_to
   no_branch_noted = tabulate_cong 128 (who tb s d t) (who_to tb s d t 0) (λ c h. rw (some_zero (offers_at tb (thread s t) d c)))
 
+  offers_by_branch : (c : ℕ) → c < max_channels → is_waiting (thread s t) ≡ true
+      → offers tb (thread s t) d c ≡ some (offers_at tb (thread s t) d c) (branch_count tb (stands_at (thread s t)))
+  unfolding offers
+  offers_by_branch c h w = rw (lt-ltb c 128 h, w)
+
   pub branches_noted : is_waiting (thread s t) ≡ true
       → tabulate max_channels (who_to tb s d t (branch_count tb (stands_at (thread s t)))) ≡ tabulate max_channels (who tb s d (suc t))
-  unfolding who_to who note_of offers
-  branches_noted w = tabulate_cong 128 (who_to tb s d t (branch_count tb (stands_at (thread s t)))) (who tb s d (suc t)) (λ c h. rw (lt-ltb c 128 h, w))
+  unfolding who_to who note_of
+  branches_noted w = tabulate_cong 128 (who_to tb s d t (branch_count tb (stands_at (thread s t)))) (who tb s d (suc t)) (λ c h. rw (offers_by_branch c h w))
 
   -- a thread that does not wait offers nothing
+  offers_nothing : (c : ℕ) → c < max_channels → is_waiting (thread s t) ≡ false → offers tb (thread s t) d c ≡ false
+  unfolding offers
+  offers_nothing c h w = rw (lt-ltb c 128 h, w)
+
   pub none_noted : is_waiting (thread s t) ≡ false → tabulate max_channels (who tb s d t) ≡ tabulate max_channels (who tb s d (suc t))
-  unfolding who note_of offers
-  none_noted w = tabulate_cong 128 (who tb s d t) (who tb s d (suc t)) (λ c h. rw (lt-ltb c 128 h, w))
+  unfolding who note_of
+  none_noted w = tabulate_cong 128 (who tb s d t) (who tb s d (suc t)) (λ c h. rw (offers_nothing c h w))
 
 -- before the first thread
 pub none_yet : (tb : Table) (s : State) (d : Direction) → replicate max_channels 0 ≡ tabulate max_channels (who tb s d 0)

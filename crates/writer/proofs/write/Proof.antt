@@ -1,4 +1,5 @@
-use Rattle.writer.specs.Write.Laws.{indexed, few, length_fits, answers}
+use Rattle.writer.specs.Write.Laws.{indexed, few, length_fits}
+use Rattle.writer.proofs.Outcomes.{answers}
 use borrow.Author.Rules.{rules}
 use Rattle.writer.proofs.write.Statement.{statement}
 use Rattle.writer.proofs.write.Tie as tie

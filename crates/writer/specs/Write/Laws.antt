@@ -129,8 +129,6 @@ module _ (t b : List ℕ) where
             let fits : length (printed_form (table_of t)) ≤ length b = omega (arith, long_file) in
             rw (eq-eqb (length t) table_length long, told, le-leb (length (printed_form (table_of t))) (length b) fits, e, f, sets_front b (printed_form (table_of t)) fits, long_file)
 
-pub ruleset answers = (length_wrong, table_wrong, buffer_short, file_laid)
-
 -- no file is longer than 865 lines
 pub bytes_few : (t b : List ℕ) → bytes_number (write_call t b).answer ≤ 63145
 unfolding write_call laid_into bytes_number

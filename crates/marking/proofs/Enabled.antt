@@ -1,0 +1,2 @@
+-- The set of enabled threads.
+pub mod Laws

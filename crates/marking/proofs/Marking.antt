@@ -1,0 +1,2 @@
+-- The marks.
+pub mod Laws

@@ -1,0 +1,2 @@
+-- How the code finds bounds.
+pub mod Bounds

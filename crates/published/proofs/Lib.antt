@@ -1,0 +1,10 @@
+pub mod Stands
+pub mod Unchecked
+pub mod Polarity
+pub mod Cliques
+pub mod Choices
+pub mod Whole
+pub mod NoFreer
+pub mod SettledTurns
+pub mod Sole
+pub mod AgentExamples

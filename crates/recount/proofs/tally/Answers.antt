@@ -1,0 +1,16 @@
+use borrow.Author.Rules.{rules}
+use Rattle.recount.specs.Tally.Stamps.{fresh_zeros}
+use Rattle.recount.specs.Tally.Pass.{zeros_long, rows_none, rows_held, rows_more, row_long, all_held_lem, all_waiting}
+use Rattle.recount.proofs.tally.Goals as goal
+
+pub loop-t-init : goal.loop-t-init
+loop-t-init c = (search rules, search zeros_long, search zeros_long, search fresh_zeros, search rows_none, search rows_none)
+
+pub loop-t-preserved : goal.loop-t-preserved
+loop-t-preserved c = (search rules, search row_long, search row_long, search, search rows_held, search rows_more)
+
+pub returns-clause-held_after : goal.returns-clause-held_after
+returns-clause-held_after c = search all_held_lem
+
+pub returns-clause-waiting_after : goal.returns-clause-waiting_after
+returns-clause-waiting_after c = search all_waiting

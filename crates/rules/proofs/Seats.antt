@@ -1,0 +1,2 @@
+-- The list of rights.
+pub mod Entitled
