@@ -16,7 +16,7 @@ fn main() {
     };
     let archive = folder.join(format!("lib{name}.a"));
     if !archive.exists() {
-        println!("cargo:warning={} is not there: rt staticlib {name} writes it", archive.display());
+        println!("cargo:warning={} is not there: tests/build.sh {name} writes it", archive.display());
     }
     println!("cargo:rerun-if-env-changed=PITHREAD_LIB");
     println!("cargo:rerun-if-changed={}", folder.display());

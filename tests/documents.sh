@@ -23,7 +23,7 @@ function_is_there() {
         crate='*'
     fi
     # shellcheck disable=SC2086 # the star stands for any crate
-    grep -qE "fn $name\(" crates/$crate/src/*.rt
+    grep -qE "fn $name[(<]" crates/$crate/src/*.rt
 }
 
 wrong_answer_is_there() {
@@ -147,7 +147,7 @@ hour_holds() {
 
 # The arrows of crates.txt between crates of ours, and those of the picture: who uses, and what is used.
 arrows_listed() {
-    awk -F: '!/^#/ { ours[$1]; list[$1] = $2 }
+    awk -F: '!/^#/ { sub(/ .*/, "", $1); ours[$1]; list[$1] = $2 }
         END { for (user in list) { n = split(list[user], used, " "); for (i = 1; i <= n; i++) if (used[i] in ours) print user, used[i] } }' crates.txt
 }
 
@@ -178,7 +178,7 @@ crates_told() {
             echo "docs/ARCHITECTURE.md does not say what $crate is"
             all=1
         }
-    done < <(sed -nE 's/^([a-z_]+):.*/\1/p' crates.txt)
+    done < <(sed -nE 's/^([a-z_]+)( staticlib)?:.*/\1/p' crates.txt)
     return "$all"
 }
 

@@ -5,21 +5,22 @@
 set -euo pipefail
 root=$(cd "$(dirname "$0")/.." && pwd)
 source "$root/tests/counted.sh"
+source "$root/tests/copies.sh"
 cd "$root"
 
 scratch=$(mktemp -d)
 trap 'rm -rf "$scratch"' EXIT
 
-# The crates as they are, with these edits in the place of their own, and what has been proved of them already.
-cp -r crates crates.txt "$scratch"
-[ ! -d target ] || cp -r target "$scratch"
-rm -rf "$scratch"/crates/*/must-fail
+# The crates as they are, with these edits in the place of their own.
+copy_crates "$scratch"
 crates=("$@")
 if [ $# -eq 0 ]; then
     mapfile -t crates < <(ls tests/edits)
 fi
+edits=()
 for crate in "${crates[@]}"; do
     cp -r "tests/edits/$crate" "$scratch/crates/$crate/must-fail"
+    edits+=("tests/edits/$crate"/*.edit)
 done
 
 all_refused() {
@@ -28,4 +29,4 @@ all_refused() {
 
 check "the edits of ${crates[*]} are refused" all_refused
 close_checks
-"$root/tests/refusals.sh" "$scratch"
+"$root/tests/refusals.sh" "${edits[@]}"

@@ -9,35 +9,39 @@ scratch=$(mktemp -d)
 log=$scratch/log
 trap 'rm -rf "$scratch"' EXIT
 
-proved() {
-    (cd "$scratch" && rt check) >"$log" 2>&1
+passes() {
+    (cd "$scratch" && rt ci) >"$log" 2>&1
 }
 
-# The check has to fail, and to name this file.
+# The gate has to fail, and to name this file.
 refused() {
     local file=$1
-    if proved; then
+    if passes; then
         return 1
     fi
-    grep -q "crates.txt lists.*$file" "$log"
+    grep -q "^rt: no check reads .*$file: " "$log"
 }
 
 echo 'one:' >"$scratch/crates.txt"
 mkdir -p "$scratch/crates/one/src"
 cat >"$scratch/crates/one/src/lib.rt" <<'SOURCE'
-ghost use mathlib.Core.Path.{_≡_};
+// A number.
+#![tactic(auto)]
+
+ghost use Rattle.std.specs.Prelude.{◌≡◌};
 
 pub fn seven() -> u32
-    ensures { λ r. ⌜ r ≡ 7 ⌝ }
+    ensures { result ≡ 7 }
 {
     7
 }
 SOURCE
 
-check "the crate is proved as it is" proved
+check "the crate passes as it is" passes
 
-cp -r "$scratch/crates/one" "$scratch/crates/unlisted"
-check "a crate that is not listed is refused" refused crates/unlisted/src
+mkdir "$scratch/crates/unlisted"
+cp -r "$scratch/crates/one/src" "$scratch/crates/unlisted"
+check "a crate that is not listed is refused" refused crates/unlisted/src/lib.rt
 rm -r "$scratch/crates/unlisted"
 
 for file in loose.rt crates/loose.rt crates/one/loose.rt loose.antt crates/loose.antt crates/one/loose.antt; do
@@ -46,7 +50,7 @@ for file in loose.rt crates/loose.rt crates/one/loose.rt loose.antt crates/loose
     rm "$scratch/$file"
 done
 
-check "the crate is proved again" proved
+check "the crate passes again" passes
 
 # uncalled FOLDER: no function of its crates is left that neither an exported function nor a program comes to call; those
 # that are left are named.
@@ -69,7 +73,7 @@ fn handed_on() -> u32 {
     seven()
 }
 
-#[no_mangle]
+#[unsafe(no_mangle)]
 pub extern "C" fn exported() -> u32 {
     handed_on()
 }

@@ -74,22 +74,30 @@ document_holds() {
 
 # A folder with ./run in which the prover and cargo only note what they are asked for and make the file that is due.
 make_copy() {
-    mkdir -p "$1/crates" "$1/tools" "$1/target/bin" "$1/target/staticlib" "$1/tests/target/release"
+    mkdir -p "$1/crates/pithread_c/out" "$1/crates/listing/out" "$1/tools" "$1/tests/target/release"
     cp run test "$1"
-    cp tests/tools.sh "$1/tests"
-    printf '# NAME: the crates that it uses\none:\nother: one\npithread: one other\nlisting: one io\nthird: one\n' >"$1/crates.txt"
+    cp tests/tools.sh tests/build.sh "$1/tests"
+    printf '# NAME: the crates that it uses\none:\nother: one\npithread: one other\npithread_c staticlib: pithread\nlisting: one\nthird: one\n' >"$1/crates.txt"
     cat >"$1/tools/rt" <<'END'
 #!/bin/sh
-echo "rt $*" >>asked
+crate=$(basename "$PWD")
+echo "rt $* in $crate" >>../../asked
 case $1 in
-check) printf '#!/bin/sh\n' >target/bin/listing && chmod +x target/bin/listing ;;
-staticlib) echo archive >target/staticlib/libpithread.a ;;
+run) printf '#!/bin/sh\n' >out/listing && chmod +x out/listing ;;
+lib) echo archive >"out/lib$crate.a" ;;
 esac
-echo "rt: one proved (1 s)"
-echo "a line that is not passed on"
-echo "rt: third proved (1 s)"
-echo "rt: other proved (unchanged since it was last proved)"
-echo "rt: $2 proved (2 s)"
+echo "rt: chose --jobs 2 for one"
+echo "fn one::first: proved"
+echo "crate one: modules loaded=0 checked=1"
+echo "logic=proved functions=1"
+echo "rt: something that is passed on"
+echo "crate third: modules loaded=0 checked=1"
+echo "logic=proved functions=1"
+echo "rt: other: begins with what a check kept"
+echo "crate other: modules loaded=1 checked=0"
+echo "logic=proved functions=1"
+echo "crate $crate: modules loaded=0 checked=1"
+echo "logic=proved functions=1"
 END
     cat >"$1/tools/cargo" <<'END'
 #!/bin/sh
@@ -116,11 +124,11 @@ asks_for_table() {
 # What was said in the copy of the last build: crates that it rests on, counted, and the time that it took.
 tells_progress() {
     local said=$scratch/copy/said
-    diff - <(grep '^rt: ' "$said") <<'END' && grep -Eqx 'the archive is built; it took [0-9]+ min [0-9]+ s' "$said"
-rt: one proved (1 s), 1 of 3 crates
-rt: third proved (1 s)
-rt: other proved (unchanged since it was last proved), 2 of 3 crates
-rt: pithread proved (2 s), 3 of 3 crates
+    diff - <(grep -E '^rt: | is proved, ' "$said") <<'END' && grep -Eqx 'the archive is built; it took [0-9]+ min [0-9]+ s' "$said"
+one is proved, 1 of at most 4 crates
+rt: something that is passed on
+other is proved, 2 of at most 4 crates
+pithread_c is proved, 3 of at most 4 crates
 END
 }
 
@@ -275,12 +283,12 @@ check "./test without valgrind" lacks 1 "valgrind" "rt cargo cc awk" test
 check "./test, with a tool missing, ends with what it counted" grep -qx "0 passed, 1 failed" "$scratch/copy/printed"
 PITHREAD_LIB=$scratch check "no archive is made beside one that is named" asks_for_table "cargo build"
 unset PITHREAD_LIB
-check "the archive is made first" asks_for_table "rt staticlib pithread,cargo build"
+check "the archive is made first" asks_for_table "rt lib in pithread_c,cargo build"
 check "crates are counted, and the time is told" tells_progress
 check "the archive is made once" asks_for_table "cargo build"
 touch -d '-1 hour' "$archive"
-check "the archive is made again where a source is younger" asks_for_table "rt staticlib pithread,cargo build"
-check "the listing program is made" asks "rt check listing,cargo build" "crates.txt" crates.txt
+check "the archive is made again where a source is younger" asks_for_table "rt lib in pithread_c,cargo build"
+check "the listing program is made" asks "rt run in listing,cargo build" "crates.txt" crates.txt
 check "the listing program is made once" asks "cargo build" "list crates.txt" list crates.txt
 rm "$archive"
 check "a prover that fails" cannot_build

@@ -2,6 +2,20 @@
 # call. A name in front of a bracket is taken for a call: of the crate with which its path begins, of the file's own, or of
 # one from which the file has it by `use`. What a crate hands on by `pub use` is called where it stands.
 
+# note_use(TEXT): the names that a `use` brings in, each by the crate with which its path begins.
+function note_use(text, handed_on, from, names, n, i) {
+    handed_on = text ~ /^ *pub /
+    sub(/^ *(pub )?use +/, "", text)
+    from = text
+    sub(/::.*/, "", from)
+    gsub(/[{},;:]/, " ", text)
+    n = split(text, names, " ")
+    for (i = 2; i <= n; i++) {
+        origin[FILENAME, names[i]] = from
+        if (handed_on) calls[crate "::" names[i]] = " " from "::" names[i]
+    }
+}
+
 FNR == 1 {
     split(FILENAME, part, "/")
     crate = part[2]
@@ -10,11 +24,16 @@ FNR == 1 {
 
 { sub(/\/\/.*/, "") }
 
-/^ *(pub )?use [a-z0-9_]+::[a-z0-9_]+;/ {
-    split($NF, path, "::")
-    sub(/;/, "", path[2])
-    origin[FILENAME, path[2]] = path[1]
-    if (/pub use/) calls[crate "::" path[2]] = " " path[1] "::" path[2]
+# An item that begins with `use` may go over several lines.
+/^ *(pub )?use / { item = " " }
+
+item {
+    item = item $0
+    if (/;/) {
+        note_use(item)
+        item = ""
+    }
+    next
 }
 
 /^ *(pub )?(extern "C" )?fn / {

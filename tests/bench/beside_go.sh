@@ -1,7 +1,7 @@
 #!/usr/bin/env bash
 # A rendezvous of the engine beside one of Go: two loads, each in a long run of the archive and between
 # two goroutines over unbuffered channels. The programs run in turn, some rounds, and a figure is the
-# median of its rounds. Needs Go, and the archive that `rt staticlib pithread` writes.
+# median of its rounds. Needs Go, and the archive that `tests/build.sh pithread` writes.
 set -euo pipefail
 root=$(cd "$(dirname "$0")/../.." && pwd)
 rounds=${1:-5}

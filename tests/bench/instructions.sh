@@ -1,7 +1,7 @@
 #!/usr/bin/env bash
 # The instructions of one call, counted by callgrind, on both sides. A call is made once and three times, and half of the
 # difference is printed, so that what comes before and after the calls does not count; the copy of the state, some hundred
-# instructions, does. Needs valgrind, and the archive that `rt staticlib pithread` writes.
+# instructions, does. Needs valgrind, and the archive that `tests/build.sh pithread` writes.
 #
 # table: a write into no bytes, which is refused once the table has been judged; refuse: a step of a seat without the
 # right, which is refused behind the table and the list of rights; judge: a step of thread 64, which is refused once

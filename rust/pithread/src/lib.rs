@@ -1,7 +1,7 @@
 //! An engine for test benches: it loads procedure files and runs their threads.
 //!
 //! The engine is written and proved in another language; this crate is `include/pithread.h` for a program
-//! in Rust. `rt staticlib pithread` writes the archive that it links, `libpithread.a`. The environment
+//! in Rust. `tests/build.sh pithread` writes the archive that it links, `libpithread.a`. The environment
 //! variable `PITHREAD_LIB` names its folder if it is not `target/staticlib` of the repository.
 //!
 //! ```

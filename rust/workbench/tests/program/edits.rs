@@ -153,4 +153,6 @@ fn a_table_is_replaced_where_it_stands() {
     let file = fs::read(example("units.txt")).expect("an example");
     assert!(write(&table) == with(&file, 55, 4, 5));
     assert_eq!(fs::read_dir(&folder).expect("the folder").count(), 2, "nothing else is left there");
+    // The prover takes no repository with a link in it, wherever it stands.
+    fs::remove_file(&link).expect("the link is removed");
 }
