@@ -17,14 +17,14 @@ colour() {
 
 boxes() {
     local crate
-    sed -nE 's/^([a-z_]+):.*/\1/p' crates.txt | while read -r crate; do
+    sed -nE 's/^([a-z_]+)( staticlib)?:.*/\1/p' crates.txt | while read -r crate; do
         echo "$crate [fillcolor=\"$(colour "$crate")\"];"
     done
 }
 
 # The kit's libraries have no box.
 arrows() {
-    awk -F: '!/^#/ { n = split($2, uses, " "); for (i = 1; i <= n; i++) print uses[i], $1 }' crates.txt |
+    awk -F: '!/^#/ { sub(/ .*/, "", $1); n = split($2, uses, " "); for (i = 1; i <= n; i++) print uses[i], $1 }' crates.txt |
         while read -r used user; do
             [ ! -d "crates/$used" ] || echo "$user -> $used;"
         done

@@ -5,8 +5,8 @@ usage: python3 tools/respell.py [FOLDER]     once, at the top of a tree that por
 
 A definition keeps its plain name: `freeThread` is `free_thread` then, as the function that it describes. Where a lemma would
 fall together with a definition, or with a name of the library, the lemma has `_lem` behind it. Types, records, modules, functions of src/, exported names,
-and names that a library has too, stay as they are. In comments and in pages only what stands between backquotes is turned;
-of an edit only the texts.
+and names that a library has too, stay as they are. A constructor or a field that falls together with a definition has `_lem` as a
+lemma does. In comments only what stands between backquotes is turned. Edits and pages are turned by hand.
 """
 
 import collections
