@@ -1,6 +1,7 @@
 # awk -f tests/exports.awk crates/NAME/src/lib.rt crates/NAME_c/src/lib.rt: holds what C calls to the library behind it. Each export has the
 # parameters, the result and the clauses of the function of its name in the library, word for word, and its body is the call of that one with
-# the same arguments. What differs is named. Clauses mean the same in both, since both files import the same names from the same places.
+# the same arguments; and each function of the library whose name begins with NAME_ is exported. What differs is named. Clauses mean the same
+# in both, since both files import the same names from the same places.
 
 FNR == 1 { file++ }
 
@@ -91,6 +92,13 @@ END {
     for (last in imported) if (origin[1, last] != origin[2, last]) {
         print last " is imported from elsewhere than in " library
         some = 1
+    }
+    for (key in heads) {
+        split(key, at, SUBSEP)
+        if (at[1] == 1 && index(at[2], library "_") == 1 && !((2, at[2]) in heads)) {
+            print at[2] " is not exported"
+            some = 1
+        }
     }
     if (!count) print "no export is there"
     exit some || !count

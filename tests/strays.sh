@@ -32,6 +32,8 @@ check "an export with another clause is found" strayed_export '≡ profile_resul
     'pithread_profile has other parameters or clauses than in pithread'
 check "an export that calls otherwise is found" strayed_export 'pithread_run(table, state, rights, seat, n)' 'pithread_run(table, state, rights, 0, n)' \
     'pithread_run does not just call pithread::pithread_run'
+check "a function that is not exported is found" strayed_export 'pub extern "C" fn pithread_profile' 'extern "C" fn pithread_profile' \
+    'pithread_profile is not exported'
 check "an export that imports another definition is found" strayed_export 'result as answered}' 'in_numbers as answered}' \
     'answered is imported from elsewhere than in pithread'
 
