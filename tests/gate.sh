@@ -61,7 +61,8 @@ uncalled() {
     return "$status"
 }
 
-# The small crate's function has no caller, and has to be named; by way of another one that is exported it has.
+# The small crate's function and the method of its type have no caller, and have to be named; by way of another one that is
+# exported they have.
 named() {
     ! uncalled "$scratch" && grep -qx "$1" "$log"
 }
@@ -69,8 +70,19 @@ named() {
 check "a function without a caller is named" named one::seven
 cat >>"$scratch/crates/one/src/lib.rt" <<'SOURCE'
 
+struct Eight {}
+
+impl Eight {
+    fn eight(&self) -> u32 {
+        8
+    }
+}
+SOURCE
+check "a method without a caller is named" named one::eight
+cat >>"$scratch/crates/one/src/lib.rt" <<'SOURCE'
+
 fn handed_on() -> u32 {
-    seven()
+    seven() + Eight {}.eight()
 }
 
 #[unsafe(no_mangle)]

@@ -100,7 +100,7 @@ change '    LoadAnswer {
 cat >"$proofs/pithread_load/Answers.antt" <<'PROOF'
 use Rattle.std.proofs.Common.{ℕ, ◌≤◌, ◌≡◌, List, pos, sym, ◌∙◌, w32, to_z, ne_eqb}
 use Rattle.loader.specs.Load.{outcome, loaded, refusal_number, line_number}
-use Rattle.loader.specs.declared.Loaded.{Loaded}
+use Rattle.loader.specs.Answers.{Loaded}
 use Rattle.interface.specs.Interface.{loaded_to, numbered, load_result}
 use Rattle.pithread.specs.Strayed.{strayed_load}
 use Rattle.pithread.proofs.Answered.{line_fits, load_answered}
@@ -136,7 +136,7 @@ cat >"$proofs/pithread_start/Answers.antt" <<'PROOF'
 use Rattle.std.proofs.Common.{ℕ, ◌≡◌, List, ap, ◌∙◌, set}
 use Rattle.numbers.specs.Bytes.{words}
 use Rattle.rules.specs.Calls.{Outcome, outcome, start_call}
-use Rattle.rules.specs.declared.Started.{Started}
+use Rattle.rules.specs.Answers.{Started}
 use Rattle.interface.specs.Interface.{start_numbers, start_result, in_numbers}
 use Rattle.interface.specs.declared.StartAnswer.{StartAnswer}
 use Rattle.pithread.proofs.pithread_start.Goals as goal
@@ -169,13 +169,13 @@ change 'engine::run(table, state, rights, seat, n)' 'engine::run(table, state, r
 change "answered result state.new ≡ step_result $all thread" "result ≡ (step_result $all thread).answer"
 change '    interface::step_numbers(engine::step(table, state, rights, seat, thread))' \
     '    let answer = interface::step_numbers(engine::step(table, state, rights, seat, thread));
-    engine::run(table, state, rights, seat, 1);
+    let _ = engine::run(table, state, rights, seat, 1);
     answer'
 cat >"$proofs/pithread_step/Answers.antt" <<'PROOF'
 use Rattle.std.proofs.Common.{ℕ, ◌≡◌, List, ap, ◌∙◌}
 use Rattle.rules.specs.Calls.{Outcome, outcome}
 use Rattle.rules.specs.Seats.{seated_step}
-use Rattle.rules.specs.declared.Stepped.{Stepped}
+use Rattle.rules.specs.Answers.{Stepped}
 use Rattle.interface.specs.Interface.{step_numbers, step_result, in_numbers}
 use Rattle.interface.specs.declared.StepAnswer.{StepAnswer}
 use Rattle.pithread.proofs.pithread_step.Goals as goal
@@ -192,13 +192,13 @@ PROOF
 # A collection that always says that it took nobody: the contract says nothing of the answer.
 change "answered result state.new ≡ collect_result $all" "state.new ≡ (collect_result $all).state"
 change '    interface::collect_numbers(collector::collect(table, state, rights, seat))' \
-    '    collector::collect(table, state, rights, seat);
-    interface::collect_numbers(collector::Collected::Done(0))'
+    '    let _ = collector::collect(table, state, rights, seat);
+    interface::collect_numbers(Ok(0))'
 cat >"$proofs/pithread_collect/Answers.antt" <<'PROOF'
 use Rattle.std.proofs.Common.{ℕ, ◌≡◌, List, ap}
 use Rattle.rules.specs.Calls.{Outcome, outcome}
 use Rattle.collector.specs.Collect.{seated_collect}
-use Rattle.collector.specs.declared.Collected.{Collected}
+use Rattle.collector.specs.Answers.{Collected}
 use Rattle.interface.specs.Interface.{collect_result, in_numbers}
 use Rattle.pithread.proofs.pithread_collect.Goals as goal
 
@@ -218,7 +218,7 @@ change '    let refusal = interface::write_refusal(answer);' \
 cat >"$proofs/pithread_write/Answers.antt" <<'PROOF'
 use Rattle.std.proofs.Common.{ℕ, ◌≤◌, ◌≡◌, List, ap, w32, to_z}
 use Rattle.writer.specs.Write.{outcome, write_call, refusal_number, bytes_number}
-use Rattle.writer.specs.declared.Written.{Written}
+use Rattle.writer.specs.Answers.{Written}
 use Rattle.interface.specs.Interface.{WriteResult, write_result}
 use Rattle.interface.specs.declared.WriteAnswer.{WriteAnswer}
 use Rattle.pithread.proofs.Answered.{written_fits, write_answered}
@@ -238,7 +238,7 @@ PROOF
 # A check that passes every table, with one thread: the contract says nothing.
 change '
     ensures { result ≡ profile_result table.now }' ''
-change 'interface::profile_numbers(profile::profile(table))' 'interface::profile_numbers(profile::Profiled::Passes(1))'
+change 'interface::profile_numbers(profile::profile(table))' 'interface::profile_numbers(Ok(1))'
 
 check "the calls themselves are proved with them" proved
 check "the driver is refused with other contracts" refused

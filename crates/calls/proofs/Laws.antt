@@ -1,4 +1,7 @@
 -- One law for each way out of the calls. Assumes nothing.
+use Rattle.std.specs.declared.ops.ControlFlow.TheVariants.{Continue}
+use Rattle.std.specs.Prelude.{Err, None, Ok, Some}
+use Rattle.rules.specs.Answers.{Given, Partner, Ran, Stepped, Taken, Turn}
 use Prim.Native.Nat.{ℕ, ◌+◌, ◌-◌, ◌<◌, ◌≤◌}
 use native.Mathlib.Omega.{arith}
 use mathlib.Core.Path.{◌≡◌, refl, sym, ◌∙◌, ap}
@@ -17,22 +20,10 @@ use Rattle.rules.specs.Offers.{partner_of}
 use Rattle.rules.specs.Moves.{one_up, move, written, perform, typed, spawned_by, value_by, met_by_bench}
 use Rattle.rules.specs.Calls.{afterwards, step_answer, step_end, can_step, step_on, bench, given_to, give_on, taken_from, take_on, Course, course, is_ready_thread, next_ready, past_turn, turn_by, turned, turn_end, course_of, run_on}
 use Rattle.rules.specs.declared.Direction.TheVariants.{Out, In}
-use Rattle.rules.specs.declared.Partner.{Partner}
-use Rattle.rules.specs.declared.Partner.TheVariants as Partner
 use Rattle.rules.specs.declared.Move.{Move}
 use Rattle.rules.specs.declared.Move.TheVariants.{Ends, Calls, Waits, Goes, Creates, Spawns, Meets, LacksThread, LacksChannel}
 use Rattle.rules.specs.declared.Refusal.TheVariants.{Thread, Port}
-use Rattle.rules.specs.declared.Stepped.{Stepped}
-use Rattle.rules.specs.declared.Stepped.TheVariants as Stepped
-use Rattle.rules.specs.declared.Given.{Given}
-use Rattle.rules.specs.declared.Given.TheVariants as Given
-use Rattle.rules.specs.declared.Taken.{Taken}
-use Rattle.rules.specs.declared.Taken.TheVariants as Taken
 use Rattle.rules.specs.declared.Reason.{Reason}
-use Rattle.rules.specs.declared.Turn.{Turn}
-use Rattle.rules.specs.declared.Turn.TheVariants.{Went}
-use Rattle.rules.specs.declared.Ran.{Ran}
-use Rattle.rules.specs.declared.Ran.TheVariants as Ran
 use Rattle.rules_laws.specs.Soundness.{Sound}
 use Rattle.rules_laws.specs.Soundness.Laws.{sound_settled}
 use Rattle.turns.specs.declared.Round.{Round}
@@ -136,37 +127,37 @@ module _ (s s₁ : State) (tb : Table) (ok : Sound tb s) (t : ℕ) where
       let y : s₁ ≡ settled tb s₃ = f ∙ rw (w, q, weighed_mark tb (stands_at (thread s t)) t s₂ 2 v m, ← z) (sym (settled_mark tb s₂ v)) in
       step_answered n m a x (turned_back i v r s₂ s₃ e l y w g) p d q j k
 
-pub step_refused : (tb : Table) (s : State) (t : ℕ) (x : Bool) → x ≡ can_step s t → x ≡ false → afterwards (Stepped.Refused Thread) s ≡ step_on tb s t
+pub step_refused : (tb : Table) (s : State) (t : ℕ) (x : Bool) → x ≡ can_step s t → x ≡ false → afterwards (Err Thread) s ≡ step_on tb s t
 unfolding step_on
 step_refused tb s t x e f = rw (← e, f)
 
 -- ---- give and take: p is the port, n the number of ports
 
 module _ (tb : Table) (s : State) (p n : ℕ) (e : n ≡ at tb 0 6) where
-  pub give_refused : (v : ℕ) → n ≤ p → afterwards (Given.Refused Port) s ≡ give_on tb s p v
+  pub give_refused : (v : ℕ) → n ≤ p → afterwards (Err Port) s ≡ give_on tb s p v
   unfolding give_on
   give_refused v h = rw (le-ltb p (at tb 0 6) (omega arith))
 
-  pub take_refused : n ≤ p → afterwards (Taken.Refused Port) s ≡ take_on tb s p
+  pub take_refused : n ≤ p → afterwards (Err Port) s ≡ take_on tb s p
   unfolding take_on
   take_refused h = rw (le-ltb p (at tb 0 6) (omega arith))
 
   module _ (h : p < n) (x : Partner) where
-    pub give_nobody : (v : ℕ) → x ≡ partner_of tb s bench In p → x ≡ Partner.Nobody → afterwards Given.Nobody s ≡ give_on tb s p v
+    pub give_nobody : (v : ℕ) → x ≡ partner_of tb s bench In p → x ≡ None → afterwards (Ok None) s ≡ give_on tb s p v
     unfolding give_on given_to
     give_nobody v f g = rw (lt-ltb p (at tb 0 6) (omega arith), ← f, g)
 
-    pub take_nobody : x ≡ partner_of tb s bench Out p → x ≡ Partner.Nobody → afterwards Taken.Nobody s ≡ take_on tb s p
+    pub take_nobody : x ≡ partner_of tb s bench Out p → x ≡ None → afterwards (Ok None) s ≡ take_on tb s p
     unfolding take_on taken_from
     take_nobody f g = rw (lt-ltb p (at tb 0 6) (omega arith), ← f, g)
 
-    module _ (s₁ : State) (u j : ℕ) (g : x ≡ Partner.At u j) where
-      pub give_met : (v : ℕ) → s₁ ≡ met_by_bench tb s u j v → x ≡ partner_of tb s bench In p → afterwards (Given.Met u) s₁ ≡ give_on tb s p v
+    module _ (s₁ : State) (u j : ℕ) (g : x ≡ Some (u, j)) where
+      pub give_met : (v : ℕ) → s₁ ≡ met_by_bench tb s u j v → x ≡ partner_of tb s bench In p → afterwards (Ok (Some u)) s₁ ≡ give_on tb s p v
       unfolding give_on given_to
       give_met v i f = rw (lt-ltb p (at tb 0 6) (omega arith), ← f, g) (ap (afterwards _) i)
 
       pub take_met : (v : ℕ) → s₁ ≡ met_by_bench tb s u j 0 → v ≡ value_by tb (thread s u) j → x ≡ partner_of tb s bench Out p
-          → afterwards (Taken.Met u v) s₁ ≡ take_on tb s p
+          → afterwards (Ok (Some (u, v))) s₁ ≡ take_on tb s p
       unfolding take_on taken_from
       take_met v i q f = rw (lt-ltb p (at tb 0 6) (omega arith), ← f, g, q) (ap (afterwards _) i)
 
@@ -179,7 +170,7 @@ module _ (tb : Table) (s₀ : State) (t₀ : ℕ) where
   pub followed_none : (m : Move) → Followed 0 s₀ t₀ m
   followed_none m = (λ e. (refl, refl), λ e. absurd (omega arith))
 
-  module _ (i : ℕ) (s : State) (t : ℕ) (m : Move) (f : Followed i s t m) (index : List ℕ) (r : Round) (s₁ : State) (a : TurnTaken tb index s t r s₁) (ok : Sound tb s₀) where
+  module _ (i : ℕ) (s : State) (t : ℕ) (m : Move) (f : Followed i s t m) (r : Round) (s₁ : State) (a : TurnTaken tb s t r s₁) (ok : Sound tb s₀) where
     first_is : i ≡ 0 → OneTurn tb s₀ t₀ r.decided s₁
     first_is z =
         let (p, q) = f.0 z in
@@ -208,7 +199,7 @@ module _ (tb : Table) (s : State) (ok : Sound tb s) where
 -- the next turn, in a state whose counts of waiting holders are still to be settled
 pub course_goes_on : (tb : Table) (n : ℕ) (s : State) (t i : ℕ) (s₁ s₂ : State) (u v : ℕ) (w : Turn)
     → course_by tb n s t ≡ after i (course_by tb (n - i) (settled tb s₁) u) → i < n
-    → turned w (settled tb s₂) ≡ turn_end tb (settled tb s₁) u (turn_by u (move tb (settled tb s₁) u)) → u < max_threads → w ≡ Went → v ≡ next_ready s₂
+    → turned w (settled tb s₂) ≡ turn_end tb (settled tb s₁) u (turn_by u (move tb (settled tb s₁) u)) → u < max_threads → w ≡ Continue tt → v ≡ next_ready s₂
     → course_by tb n s t ≡ after (i + 1) (course_by tb (n - (i + 1)) (settled tb s₂) v)
 unfolding next_ready is_ready_thread settled with_channels
 course_goes_on tb n s t i s₁ s₂ u v w f h e l g j = course_more tb n s t i (settled tb s₁) u f h w (settled tb s₂) e l v g j
@@ -216,7 +207,7 @@ course_goes_on tb n s t i s₁ s₂ u v w f h e l g j = course_more tb n s t i (
 -- ---- run
 
 pub run_done : (tb : Table) (s s₁ s₂ : State) (n i t : ℕ) (r : Reason) → course i r (settled tb s₁) ≡ course_by tb n s t → s₂ ≡ settled tb s₁ → t ≡ next_ready s
-    → afterwards (Ran.Done i r) s₂ ≡ run_on tb s n
+    → afterwards (Ok (i, r)) s₂ ≡ run_on tb s n
 unfolding run_on
 run_done tb s s₁ s₂ n i t r e g f =
     let k : course_of tb n s ≡ course i r s₂ = sym (rw g (e ∙ rw f (course_by_lem tb n s))) in

@@ -1,4 +1,6 @@
 -- A run seen from a step in its midst. Assumes nothing.
+use Rattle.std.specs.declared.ops.ControlFlow.TheVariants.{Break, Continue}
+use Rattle.rules.specs.Answers.{Turn}
 use Prim.Native.Nat.{ℕ, zero, suc, ◌+◌, ◌-◌, ◌<◌, ◌≤◌}
 use native.Mathlib.Omega.{arith}
 use Rattle.std.specs.Prelude.{◌≡◌, cond, ltb}
@@ -12,8 +14,6 @@ use Rattle.rules.specs.Calls.{Course, course, one_more, onward, next_ready, turn
 use Rattle.rules.specs.declared.Move.{Move}
 use Rattle.rules.specs.declared.Reason.{Reason}
 use Rattle.rules.specs.declared.Reason.TheVariants.{AllDone, NoneReady}
-use Rattle.rules.specs.declared.Turn.{Turn}
-use Rattle.rules.specs.declared.Turn.TheVariants.{Went, Stopped}
 use Rattle.turns.specs.Counted.{Counted}
 use Rattle.turns.specs.Weights.{weighed_after}
 
@@ -24,7 +24,7 @@ after i k = course (i + k.steps) k.reason k.state
 module _ (tb : Table) where
   -- thread t's turn; the number past the last thread says that nobody is ready
   unfoldable pub turn_at : State → ℕ → Turned
-  turn_at s t = cond (ltb t max_threads) (turn_end tb s t (turn_by t (move tb s t))) (turned (Stopped NoneReady) s)
+  turn_at s t = cond (ltb t max_threads) (turn_end tb s t (turn_by t (move tb s t))) (turned (Break NoneReady) s)
 
   -- at most n steps, the first of them thread t's
   unfoldable pub course_by : ℕ → State → ℕ → Course
@@ -55,7 +55,7 @@ module _ (tb : Table) (n : ℕ) (s : State) (t : ℕ) where
     pub course_nobody : max_threads ≤ u → course i NoneReady s₁ ≡ course_by tb n s t
     unfolding after onward turn_at
     course_nobody l =
-        let k : course_by tb (n - i) s₁ u ≡ course 0 NoneReady s₁ = step_on_lem (turned (Stopped NoneReady) s₁) (rw (le-ltb u 64 l)) in
+        let k : course_by tb (n - i) s₁ u ≡ course 0 NoneReady s₁ = step_on_lem (turned (Break NoneReady) s₁) (rw (le-ltb u 64 l)) in
         let x : i + 0 ≡ i = omega arith in
         sym (f ∙ rw (k, x))
 
@@ -65,7 +65,7 @@ module _ (tb : Table) (n : ℕ) (s : State) (t : ℕ) where
       here = rw (lt-ltb u 64 l) e
 
       -- a turn that went
-      pub course_more : (v : ℕ) → w ≡ Went → v ≡ next_ready s₂ → course_by tb n s t ≡ after (i + 1) (course_by tb (n - (i + 1)) s₂ v)
+      pub course_more : (v : ℕ) → w ≡ Continue tt → v ≡ next_ready s₂ → course_by tb n s t ≡ after (i + 1) (course_by tb (n - (i + 1)) s₂ v)
       unfolding after onward one_more
       course_more v g j =
           let k : course_by tb (n - i) s₁ u ≡ one_more (course_of tb (n - (i + 1)) s₂) = step_on_lem (turned w s₂) here ∙ rw g in
@@ -73,7 +73,7 @@ module _ (tb : Table) (n : ℕ) (s : State) (t : ℕ) where
           f ∙ rw (k, j, course_by_lem tb (n - (i + 1)) s₂, x)
 
       -- a turn that stopped
-      pub course_stopped : (r : Reason) → w ≡ Stopped r → course i r s₂ ≡ course_by tb n s t
+      pub course_stopped : (r : Reason) → w ≡ Break r → course i r s₂ ≡ course_by tb n s t
       unfolding after onward
       course_stopped r g =
           let k : course_by tb (n - i) s₁ u ≡ course 0 r s₂ = step_on_lem (turned w s₂) here ∙ rw g in
@@ -104,5 +104,5 @@ pub record TurnsOf (tb : Table) (n : ℕ) (s : State) (t went : ℕ) (reason : R
 -- a turn after which no more steps are asked for
 pub last_turn : (tb : Table) (w : Turn) (x : State) → (onward w x (course_of tb 0)).state ≡ x
 unfolding onward one_more course_of
-last_turn tb Went x = refl
-last_turn tb (Stopped r) x = refl
+last_turn tb (Continue tt) x = refl
+last_turn tb (Break r) x = refl

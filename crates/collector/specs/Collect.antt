@@ -1,6 +1,7 @@
 -- What a collection does: the threads that are not enabled are freed, and the channel rows settled.
 pub mod Laws
-use Rattle.std.specs.Prelude.{ℕ, Bool, false, not, ◌&&◌, cond, List, get_or}
+use Rattle.collector.specs.Answers.{Collected}
+use Rattle.std.specs.Prelude.{ℕ, Bool, false, not, ◌&&◌, cond, List, get_or, Err, Ok}
 use Rattle.numbers.specs.Count.{bit}
 use Rattle.numbers.specs.Search.{sum_to, tabulate}
 use Rattle.table.specs.Table.{Table, table_of}
@@ -11,8 +12,6 @@ use Rattle.rules.specs.Calls.{Outcome, After, afterwards, on_buffers}
 use Rattle.rules.specs.Seats.{at_seat}
 use Rattle.rules.specs.declared.Right.TheVariants as Right
 use Rattle.marking.specs.Enabled.{nobody, enabled_set}
-use Rattle.collector.specs.declared.Collected.{Collected}
-use Rattle.collector.specs.declared.Collected.TheVariants as Collected
 
 module _ (tb : Table) (s : State) where
   -- a thread is taken if it is not enabled (002: disabled)
@@ -32,11 +31,11 @@ module _ (tb : Table) (s : State) where
 
 -- ---- the call: grounds 8, 9 and 10; a collection has none of its own
 unfoldable pub collect_on : Table → State → After Collected
-collect_on tb s = afterwards (Collected.Done (taken_count tb s)) (collected tb s)
+collect_on tb s = afterwards (Ok (taken_count tb s)) (collected tb s)
 
 unfoldable pub collect_call : List ℕ → List ℕ → Outcome Collected
-collect_call table state = on_buffers Collected.Refused table state (collect_on (table_of table) (view state))
+collect_call table state = on_buffers Err table state (collect_on (table_of table) (view state))
 
 -- made at a seat, which has to have the right to collect (document 02, S-6)
 unfoldable pub seated_collect : List ℕ → List ℕ → List ℕ → ℕ → Outcome Collected
-seated_collect table state rights seat = at_seat table state rights seat Collected.Refused Right.Collect (collect_call table state)
+seated_collect table state rights seat = at_seat table state rights seat Err Right.Collect (collect_call table state)

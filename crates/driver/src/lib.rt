@@ -3,7 +3,7 @@
 // follows from the contracts of those functions alone: a contract that says less, or something else, leaves it unproved.
 #![tactic(auto)]
 
-ghost use Rattle.std.specs.Prelude.{◌≡◌, cond, ltb, ◌<◌, set};
+ghost use Rattle.std.specs.Prelude.{◌≡◌, ◌<◌, set};
 ghost use Rattle.std.specs.Int.{w32};
 ghost use Rattle.std.proofs.Common.{of_z};
 ghost use Rattle.numbers.specs.Bytes.{words};
@@ -164,22 +164,13 @@ fn work_call(
     }
 }
 
-// The lesser of two numbers.
-fn least(a: usize, b: usize) -> usize
-    ensures { result ≡ cond (ltb a b) a b }
-{
-    if a < b {
-        return a;
-    }
-    b
-}
-
 // The n bytes of `lists` from a place on, or as many of them as there are.
+#[tactic(auto, using(crate::specs::Encoding::Laws::part_is))]
 fn part_of(lists: &[u8], from: u32, n: u32) -> &[u8]
     ensures { result.now ≡ part_of lists.now from n }
 {
-    let at = least(from as usize, lists.len());
-    let end = least(at + n as usize, lists.len());
+    let at = lists.len().min(from as usize);
+    let end = lists.len().min(at + n as usize);
     &lists[at..end]
 }
 

@@ -1,5 +1,5 @@
 -- Which buffers a call admits: grounds 8, 9 and 10, and grounds 8 and 9 for start. Assumes nothing.
-use Rattle.std.specs.Prelude.{ℕ, ◌≡◌, ◌↔◌, Bool, true, false, ◌||◌, List, eqb, length}
+use Rattle.std.specs.Prelude.{ℕ, ◌≡◌, ◌↔◌, Bool, true, false, ◌||◌, List, eqb, length, Err, Ok}
 use borrow.Author.Tests.{eqb-true, eq-eqb}
 use Rattle.numbers.specs.Search.Laws.{case_b, contra}
 use Rattle.numbers.specs.Tests.{and_left, and_right, clash}
@@ -11,7 +11,6 @@ use Rattle.rules.specs.Calls.{After, and_then, lengths_right, start_admission, a
 use Rattle.rules.specs.Calls.Laws.{call_answer, call_refusal}
 use Rattle.rules.specs.declared.Refusal.{Refusal}
 use Rattle.rules.specs.declared.Refusal.TheVariants as Ground
-use Rattle.rules.specs.declared.Admission.TheVariants as Admission
 use Rattle.engine.specs.Numbers.{refusal_number}
 
 -- both buffers have their lengths: 20760 bytes for a table, 6156 for a state
@@ -20,7 +19,7 @@ RightLengths table state = (length table ≡ table_length) × (length state ≡ 
 
 -- none of the three grounds refuses the buffers
 abbrev pub Admitted : List ℕ → List ℕ → Type 0
-Admitted table state = admission table state ≡ Admission.Admitted
+Admitted table state = admission table state ≡ Ok tt
 
 -- grounds 8, 9 and 10, which a call is asked before its own
 unfoldable pub at_entry : Refusal → Bool
@@ -36,10 +35,10 @@ module _ (table state : List ℕ) where
 
   -- ---- the ways of an admission
   data Entry : Type 0 where
-    wrong : (¬ RightLengths table state) → admission table state ≡ Admission.Refused Ground.Length → Entry
-    other : RightLengths table state → accepted table ≡ false → admission table state ≡ Admission.Refused Ground.Table → Entry
+    wrong : (¬ RightLengths table state) → admission table state ≡ Err Ground.Length → Entry
+    other : RightLengths table state → accepted table ≡ false → admission table state ≡ Err Ground.Table → Entry
     unsound : RightLengths table state → accepted table ≡ true → sound (table_of table) (view state) ≡ false
-        → admission table state ≡ Admission.Refused Ground.State → Entry
+        → admission table state ≡ Err Ground.State → Entry
     passes : RightLengths table state → accepted table ≡ true → sound (table_of table) (view state) ≡ true → Admitted table state → Entry
 
   entry : Entry
@@ -50,19 +49,19 @@ module _ (table state : List ℕ) where
       (λ a. other h a (rw (l, a))))
       (λ l. wrong (λ h. contra (lengths_iff.1 h) l) (rw l))
 
-  length_entry : Entry → (admission table state ≡ Admission.Refused Ground.Length) ↔ (¬ RightLengths table state)
+  length_entry : Entry → (admission table state ≡ Err Ground.Length) ↔ (¬ RightLengths table state)
   length_entry (wrong l e) = (λ f. l, λ f. e)
   length_entry (other l a e) = (λ f. clash cc, λ f. absurd (f l))
   length_entry (unsound l a s e) = (λ f. clash cc, λ f. absurd (f l))
   length_entry (passes l a s e) = (λ f. clash cc, λ f. absurd (f l))
 
-  table_entry : Entry → (admission table state ≡ Admission.Refused Ground.Table) ↔ (RightLengths table state × (accepted table ≡ false))
+  table_entry : Entry → (admission table state ≡ Err Ground.Table) ↔ (RightLengths table state × (accepted table ≡ false))
   table_entry (wrong l e) = (λ f. clash cc, λ f. absurd (l f.0))
   table_entry (other l a e) = (λ f. (l, a), λ f. e)
   table_entry (unsound l a s e) = (λ f. clash cc, λ f. contra a f.1)
   table_entry (passes l a s e) = (λ f. clash cc, λ f. contra a f.1)
 
-  state_entry : Entry → (admission table state ≡ Admission.Refused Ground.State)
+  state_entry : Entry → (admission table state ≡ Err Ground.State)
       ↔ (RightLengths table state × (accepted table ≡ true) × (sound (table_of table) (view state) ≡ false))
   state_entry (wrong l e) = (λ f. clash cc, λ f. absurd (l f.0))
   state_entry (other l a e) = (λ f. clash cc, λ f. contra f.1 a)
@@ -75,7 +74,7 @@ module _ (table state : List ℕ) where
   passes_entry (unsound l a s e) = (λ f. clash cc, λ f. contra f.2 s)
   passes_entry (passes l a s e) = (λ f. (l, a, s), λ f. e)
 
-  ground_entry : Entry → (r : Refusal) → admission table state ≡ Admission.Refused r → at_entry r ≡ true
+  ground_entry : Entry → (r : Refusal) → admission table state ≡ Err r → at_entry r ≡ true
   unfolding at_entry refusal_number
   ground_entry (wrong l e) r f = let q : Ground.Length ≡ r = cc in rw (← q)
   ground_entry (other l a e) r f = let q : Ground.Table ≡ r = cc in rw (← q)
@@ -84,9 +83,9 @@ module _ (table state : List ℕ) where
 
   -- ---- the ways of start's admission, which has no ground 10
   data StartEntry : Type 0 where
-    wrong : (¬ RightLengths table state) → start_admission table state ≡ Admission.Refused Ground.Length → StartEntry
-    other : RightLengths table state → accepted table ≡ false → start_admission table state ≡ Admission.Refused Ground.Table → StartEntry
-    passes : RightLengths table state → accepted table ≡ true → start_admission table state ≡ Admission.Admitted → StartEntry
+    wrong : (¬ RightLengths table state) → start_admission table state ≡ Err Ground.Length → StartEntry
+    other : RightLengths table state → accepted table ≡ false → start_admission table state ≡ Err Ground.Table → StartEntry
+    passes : RightLengths table state → accepted table ≡ true → start_admission table state ≡ Ok tt → StartEntry
 
   start_entry : StartEntry
   unfolding start_admission
@@ -94,22 +93,22 @@ module _ (table state : List ℕ) where
       (λ l. let h = lengths_iff.0 l in case_b (accepted table) (λ a. passes h a (rw (l, a))) (λ a. other h a (rw (l, a))))
       (λ l. wrong (λ h. contra (lengths_iff.1 h) l) (rw l))
 
-  start_length_by : StartEntry → (start_admission table state ≡ Admission.Refused Ground.Length) ↔ (¬ RightLengths table state)
+  start_length_by : StartEntry → (start_admission table state ≡ Err Ground.Length) ↔ (¬ RightLengths table state)
   start_length_by (wrong l e) = (λ f. l, λ f. e)
   start_length_by (other l a e) = (λ f. clash cc, λ f. absurd (f l))
   start_length_by (passes l a e) = (λ f. clash cc, λ f. absurd (f l))
 
-  start_table_by : StartEntry → (start_admission table state ≡ Admission.Refused Ground.Table) ↔ (RightLengths table state × (accepted table ≡ false))
+  start_table_by : StartEntry → (start_admission table state ≡ Err Ground.Table) ↔ (RightLengths table state × (accepted table ≡ false))
   start_table_by (wrong l e) = (λ f. clash cc, λ f. absurd (l f.0))
   start_table_by (other l a e) = (λ f. (l, a), λ f. e)
   start_table_by (passes l a e) = (λ f. clash cc, λ f. contra a f.1)
 
-  start_passes_by : StartEntry → (start_admission table state ≡ Admission.Admitted) ↔ (RightLengths table state × (accepted table ≡ true))
+  start_passes_by : StartEntry → (start_admission table state ≡ Ok tt) ↔ (RightLengths table state × (accepted table ≡ true))
   start_passes_by (wrong l e) = (λ f. clash cc, λ f. absurd (l f.0))
   start_passes_by (other l a e) = (λ f. clash cc, λ f. contra f.1 a)
   start_passes_by (passes l a e) = (λ f. (l, a), λ f. e)
 
-  start_state_by : StartEntry → ¬ (start_admission table state ≡ Admission.Refused Ground.State)
+  start_state_by : StartEntry → ¬ (start_admission table state ≡ Err Ground.State)
   start_state_by (wrong l e) f = clash cc
   start_state_by (other l a e) f = clash cc
   start_state_by (passes l a e) f = clash cc
@@ -117,15 +116,15 @@ module _ (table state : List ℕ) where
   -- ---- the theorems
 
   -- an admission is refused on ground 8 exactly when a buffer has another length
-  pub length_iff : (admission table state ≡ Admission.Refused Ground.Length) ↔ (¬ RightLengths table state)
+  pub length_iff : (admission table state ≡ Err Ground.Length) ↔ (¬ RightLengths table state)
   length_iff = length_entry entry
 
   -- an admission is refused on ground 9 exactly when the lengths are right and the table is not accepted
-  pub table_iff : (admission table state ≡ Admission.Refused Ground.Table) ↔ (RightLengths table state × (accepted table ≡ false))
+  pub table_iff : (admission table state ≡ Err Ground.Table) ↔ (RightLengths table state × (accepted table ≡ false))
   table_iff = table_entry entry
 
   -- an admission is refused on ground 10 exactly when the lengths are right, the table is accepted and the state is not sound for it
-  pub state_iff : (admission table state ≡ Admission.Refused Ground.State)
+  pub state_iff : (admission table state ≡ Err Ground.State)
       ↔ (RightLengths table state × (accepted table ≡ true) × (sound (table_of table) (view state) ≡ false))
   state_iff = state_entry entry
 
@@ -134,20 +133,20 @@ module _ (table state : List ℕ) where
   admitted_iff = passes_entry entry
 
   -- an admission is refused on no ground but 8, 9 and 10
-  pub refused_entry : (r : Refusal) → admission table state ≡ Admission.Refused r → at_entry r ≡ true
+  pub refused_entry : (r : Refusal) → admission table state ≡ Err r → at_entry r ≡ true
   refused_entry r e = ground_entry entry r e
 
   -- start asks of the lengths and the table what the other calls ask, and nothing of the state
-  pub start_length_iff : (start_admission table state ≡ Admission.Refused Ground.Length) ↔ (¬ RightLengths table state)
+  pub start_length_iff : (start_admission table state ≡ Err Ground.Length) ↔ (¬ RightLengths table state)
   start_length_iff = start_length_by start_entry
 
-  pub start_table_iff : (start_admission table state ≡ Admission.Refused Ground.Table) ↔ (RightLengths table state × (accepted table ≡ false))
+  pub start_table_iff : (start_admission table state ≡ Err Ground.Table) ↔ (RightLengths table state × (accepted table ≡ false))
   start_table_iff = start_table_by start_entry
 
-  pub start_admitted_iff : (start_admission table state ≡ Admission.Admitted) ↔ (RightLengths table state × (accepted table ≡ true))
+  pub start_admitted_iff : (start_admission table state ≡ Ok tt) ↔ (RightLengths table state × (accepted table ≡ true))
   start_admitted_iff = start_passes_by start_entry
 
-  pub start_not_state : ¬ (start_admission table state ≡ Admission.Refused Ground.State)
+  pub start_not_state : ¬ (start_admission table state ≡ Err Ground.State)
   start_not_state = start_state_by start_entry
 
 -- ---- a call whose refusals tell their grounds, k being the call on the state
@@ -160,5 +159,5 @@ module _ {A : Type 0} (refused : Refusal → A) (tell : (q r : Refusal) → refu
 
   -- a ground at entry refuses a call exactly when it refuses the admission, where no ground of the call on the state is one at entry
   pub entry_ground : ((r : Refusal) → k.answer ≡ refused r → at_entry r ≡ false) → (r : Refusal) → at_entry r ≡ true
-      → ((on_buffers refused table state k).answer ≡ refused r) ↔ (admission table state ≡ Admission.Refused r)
+      → ((on_buffers refused table state k).answer ≡ refused r) ↔ (admission table state ≡ Err r)
   entry_ground own r f = call_refusal refused table state k tell r (λ e. contra f (own r e))

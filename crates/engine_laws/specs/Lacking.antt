@@ -1,5 +1,6 @@
 -- When the step of a thread lacks a row: the branch that it takes, and no row that is free for it. Assumes nothing.
-use Rattle.std.specs.Prelude.{ℕ, ◌<◌, ◌≤◌, ◌≡◌, refl, ◌≢◌, ◌↔◌, Bool, true, false, ltb, eqb}
+use Rattle.rules.specs.Answers.{Partner}
+use Rattle.std.specs.Prelude.{ℕ, ◌<◌, ◌≤◌, ◌≡◌, refl, ◌≢◌, ◌↔◌, Bool, true, false, ltb, eqb, None, Some}
 use Rattle.std.proofs.Math.Path.{sym}
 use Rattle.std.proofs.Common.{◌∙◌}
 use borrow.Author.Tests.{ltb-true, ltb-false, lt-ltb, le-ltb, eqb-true, eqb-false, eq-eqb, not-true, not-false}
@@ -12,8 +13,6 @@ use Rattle.rules.specs.Program.{kind_of, branch_at, act_of, guard_holds}
 use Rattle.rules.specs.Moves.{is_free_thread, is_free_channel, free_thread, free_channel, meeting, creation, spawning, goes_ahead, act_move, branch_move, ahead, choice, move}
 use Rattle.rules.specs.declared.Act.{Act}
 use Rattle.rules.specs.declared.Act.TheVariants.{Tau, Meeting, New, Spawn, Assignment}
-use Rattle.rules.specs.declared.Partner.{Partner}
-use Rattle.rules.specs.declared.Partner.TheVariants.{Nobody, At}
 use Rattle.rules.specs.declared.Move.{Move}
 use Rattle.rules.specs.declared.Move.TheVariants.{Ends, Calls, Waits, Goes, Creates, Spawns, Meets, LacksThread, LacksChannel}
 use Rattle.next_rows.specs.Around.{around_in, around_none}
@@ -124,8 +123,8 @@ module _ (tb : Table) (s : State) (t : ℕ) where
 
   meeting_lacks : (a : Act) (i : ℕ) (p : Partner) → Lacks a (meeting i p)
   unfolding Lacks meeting
-  meeting_lacks a i Nobody = tt
-  meeting_lacks a i (At u j) = tt
+  meeting_lacks a i None = tt
+  meeting_lacks a i (Some (u, j)) = tt
 
   act_lacks : (i : ℕ) (a : Act) → Lacks a (act_move tb s t i a)
   unfolding Lacks act_move creation spawning

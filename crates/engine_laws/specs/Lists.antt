@@ -1,6 +1,6 @@
 -- What holds after every list of calls, from the state that start writes for an accepted table. The calls are those of `rules/specs/Calls.antt`, without seats: what a
 -- call at a seat comes to where the seat has the right. `guarantee/specs/SeatedClaim.antt` has lists of the calls as C makes them. Assumes nothing.
-use Rattle.std.specs.Prelude.{ℕ, ◌<◌, ◌≡◌, true, false, ◌≢◌, ◌↔◌, length, get_or}
+use Rattle.std.specs.Prelude.{ℕ, ◌<◌, ◌≡◌, true, false, ◌≢◌, ◌↔◌, length, get_or, Err}
 use Rattle.std.proofs.Math.Path.{refl}
 use mathlib.Core.List.{List, [], ◌∷◌}
 use Rattle.numbers.specs.Tests.{clash}
@@ -13,10 +13,6 @@ use Rattle.rules.specs.Calls.{start_call, step_call, give_call, take_call, run_c
 use Rattle.rules.specs.declared.Direction.TheVariants.{Out, In}
 use Rattle.rules.specs.declared.Refusal.{Refusal}
 use Rattle.rules.specs.declared.Refusal.TheVariants as Ground
-use Rattle.rules.specs.declared.Stepped.TheVariants as Stepped
-use Rattle.rules.specs.declared.Given.TheVariants as Given
-use Rattle.rules.specs.declared.Taken.TheVariants as Taken
-use Rattle.rules.specs.declared.Ran.TheVariants as Ran
 use Rattle.rules_laws.specs.Soundness.{Sound}
 use Rattle.rules_laws.specs.Soundness.Counted.{count_is, waiters_is, used_exactly}
 use Rattle.engine_laws.specs.OneSided.{no_receiver}
@@ -48,10 +44,10 @@ after_all table state (k ∷ ks) = after_all table (after table state k) ks
 
 -- a call on these buffers is answered by a refusal on ground r
 unfoldable pub RefusedWith : List ℕ → List ℕ → Call → Refusal → Type 0
-RefusedWith table state (step t) r = (step_call table state t).answer ≡ Stepped.Refused r
-RefusedWith table state (give p v h) r = (give_call table state p v).answer ≡ Given.Refused r
-RefusedWith table state (take p) r = (take_call table state p).answer ≡ Taken.Refused r
-RefusedWith table state (run n) r = (run_call table state n).answer ≡ Ran.Refused r
+RefusedWith table state (step t) r = (step_call table state t).answer ≡ Err r
+RefusedWith table state (give p v h) r = (give_call table state p v).answer ≡ Err r
+RefusedWith table state (take p) r = (take_call table state p).answer ≡ Err r
+RefusedWith table state (run n) r = (run_call table state n).answer ≡ Err r
 
 -- the bytes after a start and a list of calls; what the buffer had before the start is overwritten unread
 abbrev pub reached : List ℕ → List ℕ → List Call → List ℕ

@@ -1,6 +1,8 @@
 -- The one law of every move: who takes part could, whoever does not has its row as it was, and nobody learns a channel but from those that take
 -- part. It holds of a step, of a meeting with the bench and of every turn of a run. Assumes nothing but what the table grants.
-use Rattle.std.specs.Prelude.{ℕ, zero, suc, ◌<◌, ◌≡◌, refl, true, false, cond, List, [], ◌∷◌, ◌++◌, ◌≢◌, ltb}
+use Rattle.std.specs.declared.ops.ControlFlow.TheVariants.{Break, Continue}
+use Rattle.rules.specs.Answers.{Turn}
+use Rattle.std.specs.Prelude.{ℕ, zero, suc, ◌<◌, ◌≡◌, refl, true, false, cond, List, [], ◌∷◌, ◌++◌, ◌≢◌, ltb, Some}
 use Rattle.std.proofs.Common.{sym, inl, inr, ⊎_elim, ltb-true}
 use Rattle.numbers.specs.Search.Laws.{case_b}
 use Rattle.table.specs.Table.{Table, ports}
@@ -11,9 +13,6 @@ use Rattle.rules.specs.Offers.{offers, partner_of}
 use Rattle.rules.specs.Moves.{move, perform, met_by_bench}
 use Rattle.rules.specs.Calls.{bench, step_answer, next_ready, past_turn, turn_for, turn_by, turn_end, take_turn}
 use Rattle.rules.specs.declared.Direction.{Direction}
-use Rattle.rules.specs.declared.Partner.TheVariants.{At}
-use Rattle.rules.specs.declared.Turn.{Turn}
-use Rattle.rules.specs.declared.Turn.TheVariants.{Went, Stopped}
 use Rattle.rules.specs.declared.Move.{Move}
 use Rattle.rules.specs.declared.Move.TheVariants.{Ends, Calls, Waits, Goes, Creates, Spawns, Meets, LacksThread, LacksChannel}
 use Rattle.next_rows.specs.Around.{next_ready_in}
@@ -96,7 +95,7 @@ step_moved tb g s ok t l ready = record {
 }
 
 -- a give or a take, on port p, that meets thread u
-pub bench_moved : (tb : Table) → Granted tb → (s : State) → Sound tb s → (d : Direction) (p u j : ℕ) → p < ports tb → partner_of tb s bench d p ≡ At u j
+pub bench_moved : (tb : Table) → Granted tb → (s : State) → Sound tb s → (d : Direction) (p u j : ℕ) → p < ports tb → partner_of tb s bench d p ≡ Some (u, j)
     → (v : ℕ) → Moved tb s (met_by_bench tb s u j v) (u ∷ [])
 bench_moved tb g s ok d p u j port e v = record {
   actors = λ w h. ⊎_elim (λ q. let a = partner_answers tb s bench d p u j e in rw q (record { inside = a.thread_in; could = met_by_bench_lem d p a.offering port }))
@@ -113,8 +112,8 @@ turn_movers tb s = cond (ltb (next_ready s) max_threads) (movers (next_ready s) 
 
 -- after a turn that went, those of the rest
 unfoldable pub onward_movers : Turn → State → (State → List ℕ) → List ℕ
-onward_movers Went s rest = rest s
-onward_movers (Stopped r) s rest = []
+onward_movers (Continue tt) s rest = rest s
+onward_movers (Break r) s rest = []
 
 -- who takes part in a run of at most n steps, turn by turn
 unfoldable pub ran_movers : Table → ℕ → State → List ℕ

@@ -1,9 +1,11 @@
 -- A run, said by the step call. A turn is a step of the first ready thread from the turn on, as the step call makes it, with the turn then one past
 -- that thread; a run of k steps is k such turns; and it ends for each of its reasons exactly when that reason is due. Of buffers of bytes, whatever
 -- their length, and of the calls without seats; `guarantee/specs/ReasonsInLists.antt` says it of those that C makes. Assumes nothing.
+use Rattle.std.specs.declared.ops.ControlFlow.TheVariants.{Break, Continue}
+use Rattle.rules.specs.Answers.{Stepped}
 use Prim.Native.Nat.{ℕ, zero, suc, ◌<◌, ◌≤◌}
 use native.Mathlib.Omega.{arith}
-use Rattle.std.specs.Prelude.{◌≡◌, ◌↔◌, true, false, List, ltb, get_or}
+use Rattle.std.specs.Prelude.{◌≡◌, ◌↔◌, true, false, List, ltb, get_or, Err, Ok}
 use Rattle.std.proofs.Math.Path.{refl, sym, ap}
 use Rattle.std.proofs.Common.{◌∙◌, ltb-true, ltb-false}
 use Rattle.std.proofs.Math.Logic.{⊎_elim}
@@ -21,13 +23,8 @@ use Rattle.rules.specs.declared.Move.TheVariants.{Ends, Calls, Waits, Goes, Crea
 use Rattle.rules.specs.declared.Refusal.{Refusal}
 use Rattle.rules.specs.declared.Refusal.TheVariants as Ground
 use Rattle.rules.specs.declared.Deed.{Deed}
-use Rattle.rules.specs.declared.Stepped.{Stepped}
-use Rattle.rules.specs.declared.Stepped.TheVariants.{Done, Refused}
 use Rattle.rules.specs.declared.Reason.{Reason}
 use Rattle.rules.specs.declared.Reason.TheVariants.{AllDone, NoneReady, LackedThread, LackedChannel}
-use Rattle.rules.specs.declared.Turn.TheVariants.{Went, Stopped}
-use Rattle.rules.specs.declared.Ran.{Ran}
-use Rattle.rules.specs.declared.Ran.TheVariants as Ran
 use Rattle.next_rows.specs.Around.{next_ready_in, around_none}
 use Rattle.calls.specs.Course.{last_turn}
 use Rattle.rules_laws.specs.Accepted.{granted}
@@ -79,16 +76,16 @@ left_by (LackedChannel t) state = turn_past state t
 pub record RunEnds (table state : List ℕ) (n k : ℕ) (r : Reason) (left : List ℕ) : Type 0 where
   pub at_most : k ≤ n
   -- each of the k steps is one that the step call makes
-  pub steps : (i : ℕ) → i < k → (a : ℕ) × (d : Deed) × (due_answer table (after_turns table i state) ≡ Done a d)
+  pub steps : (i : ℕ) → i < k → (a : ℕ) × (d : Deed) × (due_answer table (after_turns table i state) ≡ Ok (a, d))
   -- the reason is 0 exactly if all steps that were asked for were made
   pub all_done : (r ≡ AllDone) ↔ (k ≡ n)
   -- the reason is 1 exactly if fewer were made and no thread is ready after them
   pub none_ready : (r ≡ NoneReady) ↔ ((k < n) × Idle (after_turns table k state))
   -- the reason is 2 or 3 exactly if fewer were made and the step call refuses the thread that is due after them, with 13 or with 14
   pub lacked_thread : (t : ℕ) → (r ≡ LackedThread t)
-      ↔ ((k < n) × (t ≡ due (after_turns table k state)) × (due_answer table (after_turns table k state) ≡ Refused Ground.ThreadRow))
+      ↔ ((k < n) × (t ≡ due (after_turns table k state)) × (due_answer table (after_turns table k state) ≡ Err Ground.ThreadRow))
   pub lacked_channel : (t : ℕ) → (r ≡ LackedChannel t)
-      ↔ ((k < n) × (t ≡ due (after_turns table k state)) × (due_answer table (after_turns table k state) ≡ Refused Ground.ChannelRow))
+      ↔ ((k < n) × (t ≡ due (after_turns table k state)) × (due_answer table (after_turns table k state) ≡ Err Ground.ChannelRow))
   pub leaves : left ≡ left_by r (after_turns table k state)
 
 -- ---- a run that ends at once, and one step more before a run
@@ -119,7 +116,7 @@ module _ (table state : List ℕ) (n : ℕ) where
     leaves = refl;
   }
 
-  ends_idle : Idle state → due_answer table state ≡ Refused Ground.Thread → RunEnds table state (suc n) 0 NoneReady state
+  ends_idle : Idle state → due_answer table state ≡ Err Ground.Thread → RunEnds table state (suc n) 0 NoneReady state
   unfolding after_turns left_by
   ends_idle idle a = record {
     at_most = omega arith;
@@ -136,7 +133,7 @@ module _ (table state : List ℕ) (n : ℕ) where
     not_idle : ¬ Idle state
     not_idle idle = contra (next_ready_in (view state) l) (idle (due state) l)
 
-    ends_thread_row : due_answer table state ≡ Refused Ground.ThreadRow → RunEnds table state (suc n) 0 (LackedThread (due state)) (turn_past state (due state))
+    ends_thread_row : due_answer table state ≡ Err Ground.ThreadRow → RunEnds table state (suc n) 0 (LackedThread (due state)) (turn_past state (due state))
     unfolding after_turns left_by
     ends_thread_row a = record {
       at_most = omega arith;
@@ -148,7 +145,7 @@ module _ (table state : List ℕ) (n : ℕ) where
       leaves = refl;
     }
 
-    ends_channel_row : due_answer table state ≡ Refused Ground.ChannelRow → RunEnds table state (suc n) 0 (LackedChannel (due state)) (turn_past state (due state))
+    ends_channel_row : due_answer table state ≡ Err Ground.ChannelRow → RunEnds table state (suc n) 0 (LackedChannel (due state)) (turn_past state (due state))
     unfolding after_turns left_by
     ends_channel_row a = record {
       at_most = omega arith;
@@ -161,8 +158,8 @@ module _ (table state : List ℕ) (n : ℕ) where
     }
 
   -- a step, and then a run
-  module _ (k : ℕ) (r : Reason) (left : List ℕ) (a : ℕ) (d : Deed) (e : due_answer table state ≡ Done a d) (run : RunEnds table (after_turn table state) n k r left) where
-    each_step : (i : ℕ) → i < suc k → (a : ℕ) × (d : Deed) × (due_answer table (after_turns table i state) ≡ Done a d)
+  module _ (k : ℕ) (r : Reason) (left : List ℕ) (a : ℕ) (d : Deed) (e : due_answer table state ≡ Ok (a, d)) (run : RunEnds table (after_turn table state) n k r left) where
+    each_step : (i : ℕ) → i < suc k → (a : ℕ) × (d : Deed) × (due_answer table (after_turns table i state) ≡ Ok (a, d))
     unfolding after_turns
     each_step zero l = (a, d, e)
     each_step (suc i) l = run.steps i (omega arith)
@@ -196,15 +193,15 @@ module _ (table : List ℕ) (ok : accepted table ≡ true) (fit : (i : ℕ) → 
 
   -- the four ways in which a turn goes: a step is made, no thread is ready, a thread row is lacked, a channel row is lacked
   pub data Turns : Type 0 where
-    went : (a : ℕ) (d : Deed) → due_answer table state ≡ Done a d → take_turn tb s ≡ turned Went (view (after_turn table state)) → SoundBuffer table (after_turn table state) → Turns
-    idle : Idle state → due_answer table state ≡ Refused Ground.Thread → take_turn tb s ≡ turned (Stopped NoneReady) s → Turns
-    no_thread_row : t < max_threads → due_answer table state ≡ Refused Ground.ThreadRow → take_turn tb s ≡ turned (Stopped (LackedThread t)) (past_turn s t) → Turns
-    no_channel_row : t < max_threads → due_answer table state ≡ Refused Ground.ChannelRow → take_turn tb s ≡ turned (Stopped (LackedChannel t)) (past_turn s t) → Turns
+    went : (a : ℕ) (d : Deed) → due_answer table state ≡ Ok (a, d) → take_turn tb s ≡ turned (Continue tt) (view (after_turn table state)) → SoundBuffer table (after_turn table state) → Turns
+    idle : Idle state → due_answer table state ≡ Err Ground.Thread → take_turn tb s ≡ turned (Break NoneReady) s → Turns
+    no_thread_row : t < max_threads → due_answer table state ≡ Err Ground.ThreadRow → take_turn tb s ≡ turned (Break (LackedThread t)) (past_turn s t) → Turns
+    no_channel_row : t < max_threads → due_answer table state ≡ Err Ground.ChannelRow → take_turn tb s ≡ turned (Break (LackedChannel t)) (past_turn s t) → Turns
 
   -- the step call on the thread that is due, said by the step on the state
   step_is : step_call table state t ≡ outcome (step_on tb s t).answer (state_bytes (step_on tb s t).state)
   unfolding step_call
-  step_is = call_made table ok Refused state b (step_on tb s t)
+  step_is = call_made table ok Err state b (step_on tb s t)
 
   -- where no thread is ready, the turn is idle
   module _ (e : ltb t max_threads ≡ false) where
@@ -212,7 +209,7 @@ module _ (table : List ℕ) (ok : accepted table ≡ true) (fit : (i : ℕ) → 
     unfolding next_ready is_ready_thread
     all_idle u l = around_none max_threads (turn s) (is_ready_thread s) (ltb-false t max_threads e) u l
 
-    none_stepped : due_answer table state ≡ Refused Ground.Thread
+    none_stepped : due_answer table state ≡ Err Ground.Thread
     unfolding step_on can_step
     none_stepped = ap (λ (o : Outcome Stepped). o.answer) step_is ∙ rw e
 
@@ -250,27 +247,27 @@ module _ (table : List ℕ) (ok : accepted table ≡ true) (fit : (i : ℕ) → 
     passed : Sound tb (past_turn (perform tb s t m) t)
     passed = turn_kept tb (perform tb s t m) moved t below
 
-    went_turn : (a : ℕ) (d : Deed) → answer ≡ Done a d → Turns
+    went_turn : (a : ℕ) (d : Deed) → answer ≡ Ok (a, d) → Turns
     unfolding step_end turn_end turn_for after_turn turn_past
     went_turn a d f =
-        let q : step_call table state t ≡ outcome (Done a d) (state_bytes (perform tb s t m)) = step_is ∙ rw (made, f) in
+        let q : step_call table state t ≡ outcome (Ok (a, d)) (state_bytes (perform tb s t m)) = step_is ∙ rw (made, f) in
         let v : view (state_bytes (perform tb s t m)) ≡ perform tb s t m = view_bytes (perform tb s t m) moved.orderly.shaped in
         let w : after_turn table state ≡ state_bytes (past_turn (perform tb s t m) t) = rw (q, v) in
         went a d (ap (λ (o : Outcome Stepped). o.answer) q)
         (turn_is ∙ rw (f, w, view_bytes (past_turn (perform tb s t m) t) passed.orderly.shaped))
         (rw w (bytes_sound table (past_turn (perform tb s t m) t) passed))
 
-    refused_turn : (q : Refusal) → answer ≡ Refused q → (due_answer table state ≡ Refused q) × (take_turn tb s ≡ turned (Stopped (reason_for t q)) (past_turn s t))
+    refused_turn : (q : Refusal) → answer ≡ Err q → (due_answer table state ≡ Err q) × (take_turn tb s ≡ turned (Break (reason_for t q)) (past_turn s t))
     unfolding step_end turn_end turn_for
     refused_turn q f = (ap (λ (o : Outcome Stepped). o.answer) step_is ∙ rw (made, f), turn_is ∙ rw f)
 
     ready_turn : (x : Stepped) → answer ≡ x → Turns
     unfolding reason_for
-    ready_turn (Done a d) f = went_turn a d f
-    ready_turn (Refused q) f =
+    ready_turn (Ok (a, d)) f = went_turn a d f
+    ready_turn (Err q) f =
         ⊎_elim
-        (λ k. let g : answer ≡ Refused Ground.ThreadRow = f ∙ rw k.0 in let (h, w) = refused_turn Ground.ThreadRow g in no_thread_row below h w)
-        (λ k. let g : answer ≡ Refused Ground.ChannelRow = f ∙ rw k.0 in let (h, w) = refused_turn Ground.ChannelRow g in no_channel_row below h w)
+        (λ k. let g : answer ≡ Err Ground.ThreadRow = f ∙ rw k.0 in let (h, w) = refused_turn Ground.ThreadRow g in no_thread_row below h w)
+        (λ k. let g : answer ≡ Err Ground.ChannelRow = f ∙ rw k.0 in let (h, w) = refused_turn Ground.ChannelRow g in no_channel_row below h w)
         (move_refused (stands_at (thread s t)) m q f)
 
   pub turns : Turns
@@ -286,7 +283,7 @@ module _ (table : List ℕ) (ok : accepted table ≡ true) (fit : (i : ℕ) → 
   turn_is_by (no_channel_row l f g) = ap (λ (k : Turned). k.turn) g ∙ sym (ap (turn_for t) f)
 
   -- a step that is refused leaves the bytes as they were
-  past_refused : (q : Refusal) → due_answer table state ≡ Refused q → turn_past state t ≡ after_turn table state
+  past_refused : (q : Refusal) → due_answer table state ≡ Err q → turn_past state t ≡ after_turn table state
   unfolding after_turn
   past_refused q f = ap (λ x. turn_past x t) (sym (step_refused_keeps table state b.small t q f))
 
@@ -335,23 +332,24 @@ module _ (table state : List ℕ) (fit : (i : ℕ) → get_or table i 0 < 256) (
 
   -- a run that is not refused, k steps long, is k turns, each a step of the first ready thread by the step call; and it ends for each reason exactly
   -- when that reason is due
-  pub run_ends : (n k : ℕ) (r : Reason) → (run_call table state n).answer ≡ Ran.Done k r → RunEnds table state n k r (run_call table state n).state
+  pub run_ends : (n k : ℕ) (r : Reason) → (run_call table state n).answer ≡ Ok (k, r) → RunEnds table state n k r (run_call table state n).state
   unfolding run_call run_on
   run_ends n k r e =
       let on = run_on (table_of table) (view state) n in
-      let (a, f) = (call_answer Ran.Refused table state on (Ran.Done k r) (λ g h i. clash cc)).0 e in
+      let (a, f) = (call_answer Err table state on (Ok (k, r)) (λ g h i. clash cc)).0 e in
       let (ok, b) = sound_if a in
       let c : Course = course_of (table_of table) n (view state) in
-      let p : c.steps ≡ k = cc in
-      let q : c.reason ≡ r = cc in
-      rw (call_admitted Ran.Refused table state on a, ← p, ← q) (came table ok fit n state b)
+      let made : ◌≡◌ {A = ℕ × Reason} (c.steps, c.reason) (k, r) = cc in
+      let p : c.steps ≡ k = ap (λ (x : ℕ × Reason). x.0) made in
+      let q : c.reason ≡ r = ap (λ (x : ℕ × Reason). x.1) made in
+      rw (call_admitted Err table state on a, ← p, ← q) (came table ok fit n state b)
 
   -- a run of one step, where a thread is ready, leaves what the step call leaves for the first ready thread, with the turn one past it
   pub one_turn : Admitted table state → due state < max_threads → (run_call table state 1).state ≡ after_turn table state
   unfolding run_call run_on course_of
   one_turn a l =
       let (ok, b) = sound_if a in
-      rw (call_admitted Ran.Refused table state (run_on (table_of table) (view state) 1) a)
+      rw (call_admitted Err table state (run_on (table_of table) (view state) 1) a)
       (ap state_bytes (last_turn (table_of table) (take_turn (table_of table) (view state)).turn (take_turn (table_of table) (view state)).state) ∙ turn_leaves table ok fit state b l)
 
   -- with the turn moved past thread t, the turn is the thread after t, and nothing else is changed

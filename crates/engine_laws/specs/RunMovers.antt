@@ -1,5 +1,7 @@
 -- Who takes part in a run, turn by turn: in each turn those who take part in the step of the thread that is due, from the bytes that the turns before it leave.
 -- Of an accepted table and a buffer that holds a sound state. Assumes nothing.
+use Rattle.std.specs.declared.ops.ControlFlow.TheVariants.{Break, Continue}
+use Rattle.rules.specs.Answers.{Turn}
 use Prim.Native.Nat.{ℕ, zero, suc, ◌<◌}
 use Rattle.std.proofs.Common.{arith, ap}
 use Rattle.std.specs.Prelude.{◌≡◌, true, ltb, get_or}
@@ -15,8 +17,6 @@ use Rattle.rules.specs.Calls.{step_answer, next_ready, turn_for, turn_by, one_mo
 use Rattle.rules.specs.declared.Move.{Move}
 use Rattle.rules.specs.declared.Move.TheVariants.{Ends, Calls, Waits, Goes, Creates, Spawns, Meets, LacksThread, LacksChannel}
 use Rattle.rules.specs.declared.Reason.{Reason}
-use Rattle.rules.specs.declared.Turn.{Turn}
-use Rattle.rules.specs.declared.Turn.TheVariants.{Went, Stopped}
 use Rattle.rules_laws.specs.Frames.{movers}
 use Rattle.engine_laws.specs.Movers.{turn_movers, onward_movers, ran_movers}
 use Rattle.engine_laws.specs.Buffers.{SoundBuffer}
@@ -34,7 +34,7 @@ in_turn_same (suc k) f g h = rw (h 0 (omega arith), in_turn_same k (λ i. f (suc
 
 -- ---- nobody takes part in a turn in which no step is made
 
-lacks_nobody : (t : ℕ) (m : Move) (r : Reason) → turn_by t m ≡ Stopped r → movers t m ≡ []
+lacks_nobody : (t : ℕ) (m : Move) (r : Reason) → turn_by t m ≡ Break r → movers t m ≡ []
 unfolding turn_by turn_for step_answer movers
 lacks_nobody t Ends r e = clash cc
 lacks_nobody t Calls r e = clash cc
@@ -48,15 +48,15 @@ lacks_nobody t LacksChannel r e = refl
 
 end_turn : (tb : Table) (s : State) (t : ℕ) (w : Turn) → (turn_end tb s t w).turn ≡ w
 unfolding turn_end
-end_turn tb s t Went = refl
-end_turn tb s t (Stopped r) = refl
+end_turn tb s t (Continue tt) = refl
+end_turn tb s t (Break r) = refl
 
-stopped_nobody : (tb : Table) (s : State) (r : Reason) → (take_turn tb s).turn ≡ Stopped r → turn_movers tb s ≡ []
+stopped_nobody : (tb : Table) (s : State) (r : Reason) → (take_turn tb s).turn ≡ Break r → turn_movers tb s ≡ []
 unfolding take_turn turn_movers
 stopped_nobody tb s r e =
     let t = next_ready s in
     case_b (ltb t max_threads)
-    (λ y. let f : (turn_end tb s t (turn_by t (move tb s t))).turn ≡ Stopped r = rw y at e in
+    (λ y. let f : (turn_end tb s t (turn_by t (move tb s t))).turn ≡ Break r = rw y at e in
     rw y (lacks_nobody t (move tb s t) r (rw (end_turn tb s t (turn_by t (move tb s t))) at f)))
     (λ y. rw y)
 
@@ -73,7 +73,7 @@ module _ (table : List ℕ) (ok : accepted table ≡ true) (fit : (i : ℕ) → 
   abbrev Taken : ℕ → List ℕ → Type 0
   Taken n state = ran_movers tb n (view state) ≡ in_turn (course_of tb n (view state)).steps (at_turn state)
 
-  none_more : (n : ℕ) (state : List ℕ) (r : Reason) (s : State) → take_turn tb (view state) ≡ turned (Stopped r) s → Taken (suc n) state
+  none_more : (n : ℕ) (state : List ℕ) (r : Reason) (s : State) → take_turn tb (view state) ≡ turned (Break r) s → Taken (suc n) state
   unfolding ran_movers onward_movers course_of onward in_turn
   none_more n state r s g = rw (stopped_nobody tb (view state) r (ap (λ (k : Turned). k.turn) g), g)
 

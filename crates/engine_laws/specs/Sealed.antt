@@ -1,5 +1,7 @@
 -- Threads that nothing reaches any more: a set of waiting threads that offer nothing on a port, and nothing on a channel that any thread outside
 -- the set holds. No move takes one of them in, and every move leaves them so. Assumes nothing but what the table grants.
+use Rattle.std.specs.declared.ops.ControlFlow.TheVariants.{Break, Continue}
+use Rattle.rules.specs.Answers.{Turn}
 use Prim.Native.Nat.{ℕ, zero, suc, ◌<◌}
 use Rattle.std.specs.Prelude.{◌≡◌, refl, Bool, true, false, List}
 use Rattle.std.proofs.Common.{◌∙◌, ⊎_elim}
@@ -10,8 +12,6 @@ use Rattle.rules.specs.Holding.{holds}
 use Rattle.rules.specs.Offers.{offers}
 use Rattle.rules.specs.Calls.{one_more, onward, take_turn, course_of}
 use Rattle.rules.specs.declared.Direction.{Direction}
-use Rattle.rules.specs.declared.Turn.{Turn}
-use Rattle.rules.specs.declared.Turn.TheVariants.{Went, Stopped}
 use Rattle.rules_laws.specs.Granted.{Granted}
 use Rattle.rules_laws.specs.Reading.Laws.{waiting_used, ready_not_waiting}
 use Rattle.rules_laws.specs.Soundness.{Sound}
@@ -81,8 +81,8 @@ module _ (tb : Table) (g : Granted tb) (q : ℕ → Bool) (first : State) where
       → Sealed tb q first (course_of tb n s).state × ((t : ℕ) → q t ≡ true → elem t (ran_movers tb n s) ≡ false)
       → Sealed tb q first (onward w s (course_of tb n)).state × ((t : ℕ) → q t ≡ true → elem t (onward_movers w s (ran_movers tb n)) ≡ false)
   unfolding onward one_more onward_movers elem
-  onward_sealed Went s n z k = k
-  onward_sealed (Stopped r) s n z k = (z, λ t h. refl)
+  onward_sealed (Continue tt) s n z k = k
+  onward_sealed (Break r) s n z k = (z, λ t h. refl)
 
   -- a run from a sound state keeps a sealed set sealed, and none of its threads takes part in any turn
   pub sealed_run : (n : ℕ) (s : State) → Sound tb s → Sealed tb q first s

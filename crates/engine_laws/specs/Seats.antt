@@ -1,6 +1,7 @@
 -- Which calls a seat may make (document 02, S-6): grounds 8, 9, 18 and 19, each exactly when it is due, before any that the state has a part in; and that a seat
 -- without the right is told the same of every state. Of all buffers, of any length. Assumes nothing.
-use Rattle.std.specs.Prelude.{ℕ, ◌<◌, ◌≤◌, ◌≡◌, ◌⊎◌, ◌↔◌, Bool, true, false, ◌||◌, List, eqb, leb, pos, length, get_or}
+use Rattle.rules.specs.Answers.{Admission}
+use Rattle.std.specs.Prelude.{ℕ, ◌<◌, ◌≤◌, ◌≡◌, ◌⊎◌, ◌↔◌, Bool, true, false, ◌||◌, List, eqb, leb, pos, length, get_or, Err, Ok}
 use Rattle.std.proofs.Common.{arith, ap, ◌∙◌, to_z}
 use Rattle.std.proofs.Math.Path.{refl}
 use Rattle.std.proofs.Math.Logic.{inl, inr, ⊎_elim}
@@ -19,8 +20,6 @@ use Rattle.rules.proofs.Seats.Entitled.{number_is}
 use Rattle.rules.specs.declared.Right.{Right}
 use Rattle.rules.specs.declared.Refusal.{Refusal}
 use Rattle.rules.specs.declared.Refusal.TheVariants as Ground
-use Rattle.rules.specs.declared.Admission.{Admission}
-use Rattle.rules.specs.declared.Admission.TheVariants as Admission
 use Rattle.engine.specs.Numbers.{refusal_number}
 use Rattle.engine_laws.specs.Entry.{RightLengths, lengths_iff}
 
@@ -83,13 +82,13 @@ module _ (table state rights : List ℕ) (seat : ℕ) (right : Right) where
   told = seat_admission table state rights seat right
 
   data SeatEntry : Type 0 where
-    wrong : (¬ AllLengths table state rights) → told ≡ Admission.Refused Ground.Length → SeatEntry
-    other : AllLengths table state rights → accepted table ≡ false → told ≡ Admission.Refused Ground.Table → SeatEntry
-    outside : AllLengths table state rights → accepted table ≡ true → rights_in_range rights ≡ false → told ≡ Admission.Refused Ground.Rights → SeatEntry
+    wrong : (¬ AllLengths table state rights) → told ≡ Err Ground.Length → SeatEntry
+    other : AllLengths table state rights → accepted table ≡ false → told ≡ Err Ground.Table → SeatEntry
+    outside : AllLengths table state rights → accepted table ≡ true → rights_in_range rights ≡ false → told ≡ Err Ground.Rights → SeatEntry
     lacks : AllLengths table state rights → accepted table ≡ true → rights_in_range rights ≡ true → has_right rights seat right ≡ false
-        → told ≡ Admission.Refused Ground.Seat → SeatEntry
+        → told ≡ Err Ground.Seat → SeatEntry
     passes : AllLengths table state rights → accepted table ≡ true → rights_in_range rights ≡ true → has_right rights seat right ≡ true
-        → told ≡ Admission.Admitted → SeatEntry
+        → told ≡ Ok tt → SeatEntry
 
   seat_entry : SeatEntry
   unfolding seat_admission and_then start_admission rights_admission
@@ -103,21 +102,21 @@ module _ (table state rights : List ℕ) (seat : ℕ) (right : Right) where
       (λ l. wrong (λ h. contra ((lengths_iff table state).1 h.0) l) (rw (m, l))))
       (λ m. wrong (λ h. contra (eq-eqb (length rights) rights_length h.1) m) (rw m))
 
-  length_by : SeatEntry → (told ≡ Admission.Refused Ground.Length) ↔ (¬ AllLengths table state rights)
+  length_by : SeatEntry → (told ≡ Err Ground.Length) ↔ (¬ AllLengths table state rights)
   length_by (wrong l e) = (λ f. l, λ f. e)
   length_by (other l a e) = (λ f. clash cc, λ f. absurd (f l))
   length_by (outside l a i e) = (λ f. clash cc, λ f. absurd (f l))
   length_by (lacks l a i g e) = (λ f. clash cc, λ f. absurd (f l))
   length_by (passes l a i g e) = (λ f. clash cc, λ f. absurd (f l))
 
-  table_by : SeatEntry → (told ≡ Admission.Refused Ground.Table) ↔ (AllLengths table state rights × (accepted table ≡ false))
+  table_by : SeatEntry → (told ≡ Err Ground.Table) ↔ (AllLengths table state rights × (accepted table ≡ false))
   table_by (wrong l e) = (λ f. clash cc, λ f. absurd (l f.0))
   table_by (other l a e) = (λ f. (l, a), λ f. e)
   table_by (outside l a i e) = (λ f. clash cc, λ f. contra a f.1)
   table_by (lacks l a i g e) = (λ f. clash cc, λ f. contra a f.1)
   table_by (passes l a i g e) = (λ f. clash cc, λ f. contra a f.1)
 
-  rights_by : SeatEntry → (told ≡ Admission.Refused Ground.Rights)
+  rights_by : SeatEntry → (told ≡ Err Ground.Rights)
       ↔ (AllLengths table state rights × (accepted table ≡ true) × (rights_in_range rights ≡ false))
   rights_by (wrong l e) = (λ f. clash cc, λ f. absurd (l f.0))
   rights_by (other l a e) = (λ f. clash cc, λ f. contra f.1 a)
@@ -125,7 +124,7 @@ module _ (table state rights : List ℕ) (seat : ℕ) (right : Right) where
   rights_by (lacks l a i g e) = (λ f. clash cc, λ f. contra i f.2)
   rights_by (passes l a i g e) = (λ f. clash cc, λ f. contra i f.2)
 
-  right_by : SeatEntry → (told ≡ Admission.Refused Ground.Seat)
+  right_by : SeatEntry → (told ≡ Err Ground.Seat)
       ↔ (AllLengths table state rights × (accepted table ≡ true) × (rights_in_range rights ≡ true) × (has_right rights seat right ≡ false))
   right_by (wrong l e) = (λ f. clash cc, λ f. absurd (l f.0))
   right_by (other l a e) = (λ f. clash cc, λ f. contra f.1 a)
@@ -133,7 +132,7 @@ module _ (table state rights : List ℕ) (seat : ℕ) (right : Right) where
   right_by (lacks l a i g e) = (λ f. (l, a, i, g), λ f. e)
   right_by (passes l a i g e) = (λ f. clash cc, λ f. contra g f.3)
 
-  passes_by : SeatEntry → (told ≡ Admission.Admitted)
+  passes_by : SeatEntry → (told ≡ Ok tt)
       ↔ (AllLengths table state rights × (accepted table ≡ true) × (rights_in_range rights ≡ true) × (has_right rights seat right ≡ true))
   passes_by (wrong l e) = (λ f. clash cc, λ f. absurd (l f.0))
   passes_by (other l a e) = (λ f. clash cc, λ f. contra f.1 a)
@@ -141,7 +140,7 @@ module _ (table state rights : List ℕ) (seat : ℕ) (right : Right) where
   passes_by (lacks l a i g e) = (λ f. clash cc, λ f. contra f.3 g)
   passes_by (passes l a i g e) = (λ f. (l, a, i, g), λ f. e)
 
-  ground_by : SeatEntry → (r : Refusal) → told ≡ Admission.Refused r → at_seat_entry r ≡ true
+  ground_by : SeatEntry → (r : Refusal) → told ≡ Err r → at_seat_entry r ≡ true
   unfolding at_seat_entry refusal_number
   ground_by (wrong l e) r f = let q : Ground.Length ≡ r = cc in rw (← q)
   ground_by (other l a e) r f = let q : Ground.Table ≡ r = cc in rw (← q)
@@ -149,7 +148,7 @@ module _ (table state rights : List ℕ) (seat : ℕ) (right : Right) where
   ground_by (lacks l a i g e) r f = let q : Ground.Seat ≡ r = cc in rw (← q)
   ground_by (passes l a i g e) r f = clash cc
 
-  lacking_by : SeatEntry → has_right rights seat right ≡ false → (r : Refusal) × (told ≡ Admission.Refused r)
+  lacking_by : SeatEntry → has_right rights seat right ≡ false → (r : Refusal) × (told ≡ Err r)
   lacking_by (wrong l e) n = (Ground.Length, e)
   lacking_by (other l a e) n = (Ground.Table, e)
   lacking_by (outside l a i e) n = (Ground.Rights, e)
@@ -159,46 +158,46 @@ module _ (table state rights : List ℕ) (seat : ℕ) (right : Right) where
   -- ---- the theorems
 
   -- 8 exactly when a buffer has another length
-  pub seat_length_iff : (told ≡ Admission.Refused Ground.Length) ↔ (¬ AllLengths table state rights)
+  pub seat_length_iff : (told ≡ Err Ground.Length) ↔ (¬ AllLengths table state rights)
   seat_length_iff = length_by seat_entry
 
   -- 9 exactly when the lengths are right and the table is not accepted
-  pub seat_table_iff : (told ≡ Admission.Refused Ground.Table) ↔ (AllLengths table state rights × (accepted table ≡ false))
+  pub seat_table_iff : (told ≡ Err Ground.Table) ↔ (AllLengths table state rights × (accepted table ≡ false))
   seat_table_iff = table_by seat_entry
 
   -- 18 exactly when besides the table is accepted and a number of the list is out of its range
-  pub rights_iff : (told ≡ Admission.Refused Ground.Rights)
+  pub rights_iff : (told ≡ Err Ground.Rights)
       ↔ (AllLengths table state rights × (accepted table ≡ true) × (rights_in_range rights ≡ false))
   rights_iff = rights_by seat_entry
 
   -- 19 exactly when besides the list is in order and the seat has not the right
-  pub right_iff : (told ≡ Admission.Refused Ground.Seat)
+  pub right_iff : (told ≡ Err Ground.Seat)
       ↔ (AllLengths table state rights × (accepted table ≡ true) × (rights_in_range rights ≡ true) × (has_right rights seat right ≡ false))
   right_iff = right_by seat_entry
 
-  pub seat_admitted_iff : (told ≡ Admission.Admitted)
+  pub seat_admitted_iff : (told ≡ Ok tt)
       ↔ (AllLengths table state rights × (accepted table ≡ true) × (rights_in_range rights ≡ true) × (has_right rights seat right ≡ true))
   seat_admitted_iff = passes_by seat_entry
 
   -- a seat is refused on no other ground
-  pub seat_refused_entry : (r : Refusal) → told ≡ Admission.Refused r → at_seat_entry r ≡ true
+  pub seat_refused_entry : (r : Refusal) → told ≡ Err r → at_seat_entry r ≡ true
   seat_refused_entry r e = ground_by seat_entry r e
 
   -- a seat without the right is refused
-  pub lacking_refused : has_right rights seat right ≡ false → (r : Refusal) × (told ≡ Admission.Refused r)
+  pub lacking_refused : has_right rights seat right ≡ false → (r : Refusal) × (told ≡ Err r)
   lacking_refused n = lacking_by seat_entry n
 
   -- ---- a call at a seat whose refusals tell their grounds, `call` being the call without seats
   module _ {A : Type 0} (refused : Refusal → A) (tell : (q r : Refusal) → refused q ≡ refused r → q ≡ r) (call : Outcome A) where
     by_seat_lem : (a : Admission) (r : Refusal) → told ≡ a → ((by_seat refused a state call).answer ≡ refused r)
-        ↔ ((a ≡ Admission.Refused r) ⊎ ((a ≡ Admission.Admitted) × (call.answer ≡ refused r)))
+        ↔ ((a ≡ Err r) ⊎ ((a ≡ Ok tt) × (call.answer ≡ refused r)))
     unfolding by_seat
-    by_seat_lem (Admission.Refused q) r e = (λ f. inl (ap Admission.Refused (tell q r f)), ⊎_elim (λ f. let g : q ≡ r = cc in rw g) (λ f. clash cc))
-    by_seat_lem Admission.Admitted r e = (λ f. inr (refl, f), ⊎_elim (λ f. clash cc) (λ f. f.1))
+    by_seat_lem (Err q) r e = (λ f. inl (ap Err (tell q r f)), ⊎_elim (λ f. let g : q ≡ r = cc in rw g) (λ f. clash cc))
+    by_seat_lem (Ok tt) r e = (λ f. inr (refl, f), ⊎_elim (λ f. clash cc) (λ f. f.1))
 
     -- it is refused on a ground exactly when its seat is, or the seat is admitted and the call is refused so
     pub refused_at_iff : (r : Refusal) → ((at_seat table state rights seat refused right call).answer ≡ refused r)
-        ↔ ((told ≡ Admission.Refused r) ⊎ ((told ≡ Admission.Admitted) × (call.answer ≡ refused r)))
+        ↔ ((told ≡ Err r) ⊎ ((told ≡ Ok tt) × (call.answer ≡ refused r)))
     unfolding at_seat
     refused_at_iff r = by_seat_lem told r refl
 

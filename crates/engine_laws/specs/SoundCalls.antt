@@ -1,5 +1,6 @@
 -- Every call on a sound state leaves a sound state, performed or refused, and a start that is not refused writes one. Assumes nothing.
-use Rattle.std.specs.Prelude.{ℕ, ◌<◌, ◌≡◌, true, List, length, get_or}
+use Rattle.rules.specs.Answers.{Started}
+use Rattle.std.specs.Prelude.{ℕ, ◌<◌, ◌≡◌, true, List, length, get_or, Err, Ok}
 use Rattle.std.proofs.Common.{ap, eqb-true}
 use Rattle.numbers.specs.Tests.{parts, clash}
 use Rattle.table.specs.Table.{table_of}
@@ -9,13 +10,6 @@ use Rattle.rules.specs.Start.{started}
 use Rattle.rules.specs.Calls.{Outcome, outcome, After, start_admission, admission, on_buffers, start_on, start_call, step_on, step_call, give_on, give_call, take_on, take_call, course_of, run_on, run_call}
 use Rattle.rules.specs.Calls.Laws.{by_admitted, by_answer, call_admitted}
 use Rattle.rules.specs.declared.Refusal.{Refusal}
-use Rattle.rules.specs.declared.Admission.TheVariants as Admission
-use Rattle.rules.specs.declared.Started.{Started}
-use Rattle.rules.specs.declared.Started.TheVariants as Started
-use Rattle.rules.specs.declared.Stepped.TheVariants as Stepped
-use Rattle.rules.specs.declared.Given.TheVariants as Given
-use Rattle.rules.specs.declared.Taken.TheVariants as Taken
-use Rattle.rules.specs.declared.Ran.TheVariants as Ran
 use Rattle.rules_laws.specs.Granted.{Granted}
 use Rattle.rules_laws.specs.Accepted.{granted}
 use Rattle.rules_laws.specs.Shape.Laws.{view_bytes}
@@ -31,16 +25,16 @@ module _ (table : List ℕ) (ok : accepted table ≡ true) where
   right_lengths state long = (eqb-true (length table) table_length (search parts), long)
 
   -- start is not refused: it asks nothing of the state but its length
-  pub start_made : (state : List ℕ) → length state ≡ state_length → start_call table state ≡ outcome Started.Done (state_bytes (started (table_of table)))
+  pub start_made : (state : List ℕ) → length state ≡ state_length → start_call table state ≡ outcome (Ok tt) (state_bytes (started (table_of table)))
   unfolding start_call start_on
   start_made state long =
-      by_admitted Started.Refused state (start_on (table_of table)) (start_admission table state) ((start_admitted_iff table state).1 (right_lengths state long, ok))
+      by_admitted Err state (start_on (table_of table)) (start_admission table state) ((start_admitted_iff table state).1 (right_lengths state long, ok))
 
-  pub start_done : (state : List ℕ) → length state ≡ state_length → (start_call table state).answer ≡ Started.Done
+  pub start_done : (state : List ℕ) → length state ≡ state_length → (start_call table state).answer ≡ Ok tt
   start_done state long = ap (λ (o : Outcome Started). o.answer) (start_made state long)
 
   -- a sound buffer is refused on none of the grounds 8, 9 and 10
-  pub admitted : (state : List ℕ) → SoundBuffer table state → admission table state ≡ Admission.Admitted
+  pub admitted : (state : List ℕ) → SoundBuffer table state → admission table state ≡ Ok tt
   admitted state b = (admitted_iff table state).1 (right_lengths state b.long, ok, b.tested)
 
   -- ---- a call on a sound buffer, k being the call on the state that it holds
@@ -63,11 +57,11 @@ module _ (table : List ℕ) (ok : accepted table ≡ true) (fit : (i : ℕ) → 
   grants = granted table ok fit
 
   -- after a start that is not refused the buffer holds a sound state, whatever it held before
-  pub start_sound : (state : List ℕ) → (start_call table state).answer ≡ Started.Done → SoundBuffer table (start_call table state).state
+  pub start_sound : (state : List ℕ) → (start_call table state).answer ≡ Ok tt → SoundBuffer table (start_call table state).state
   unfolding start_call start_on
   start_sound state e =
-      let a = ((by_answer Started.Refused state (start_on (table_of table)) (start_admission table state) Started.Done (λ r f g. clash cc)).0 e).0 in
-      rw (by_admitted Started.Refused state (start_on (table_of table)) (start_admission table state) a)
+      let a = ((by_answer Err state (start_on (table_of table)) (start_admission table state) (Ok tt) (λ r f g. clash cc)).0 e).0 in
+      rw (by_admitted Err state (start_on (table_of table)) (start_admission table state) a)
       (bytes_sound table (started (table_of table)) (started_sound (table_of table) grants))
 
   pub start_view : (state : List ℕ) → length state ≡ state_length → view (start_call table state).state ≡ started (table_of table)
@@ -80,23 +74,23 @@ module _ (table : List ℕ) (ok : accepted table ≡ true) (fit : (i : ℕ) → 
     -- a step, of whatever thread
     pub step_sound : (t : ℕ) → SoundBuffer table (step_call table state t).state
     unfolding step_call
-    step_sound t = call_sound table ok Stepped.Refused state b (step_on (table_of table) (view state) t) (step_on_kept (table_of table) grants (view state) held t)
+    step_sound t = call_sound table ok Err state b (step_on (table_of table) (view state) t) (step_on_kept (table_of table) grants (view state) held t)
 
     -- a give of a 32-bit number, on whatever port
     pub give_sound : (p v : ℕ) → v < 4294967296 → SoundBuffer table (give_call table state p v).state
     unfolding give_call
-    give_sound p v h = call_sound table ok Given.Refused state b (give_on (table_of table) (view state) p v) (give_on_kept (table_of table) grants (view state) held p v h)
+    give_sound p v h = call_sound table ok Err state b (give_on (table_of table) (view state) p v) (give_on_kept (table_of table) grants (view state) held p v h)
 
     -- a take, on whatever port
     pub take_sound : (p : ℕ) → SoundBuffer table (take_call table state p).state
     unfolding take_call
-    take_sound p = call_sound table ok Taken.Refused state b (take_on (table_of table) (view state) p) (take_on_kept (table_of table) grants (view state) held p)
+    take_sound p = call_sound table ok Err state b (take_on (table_of table) (view state) p) (take_on_kept (table_of table) grants (view state) held p)
 
     -- a run of at most n steps
     pub run_sound : (n : ℕ) → SoundBuffer table (run_call table state n).state
     unfolding run_call
-    run_sound n = call_sound table ok Ran.Refused state b (run_on (table_of table) (view state) n) (run_on_kept (table_of table) grants (view state) held n)
+    run_sound n = call_sound table ok Err state b (run_on (table_of table) (view state) n) (run_on_kept (table_of table) grants (view state) held n)
 
     pub run_view : (n : ℕ) → view (run_call table state n).state ≡ (course_of (table_of table) n (view state)).state
     unfolding run_call run_on
-    run_view n = call_view table ok Ran.Refused state b (run_on (table_of table) (view state) n) (run_on_kept (table_of table) grants (view state) held n)
+    run_view n = call_view table ok Err state b (run_on (table_of table) (view state) n) (run_on_kept (table_of table) grants (view state) held n)

@@ -1,5 +1,6 @@
 -- A case: the rows of a file, what is done from its start, and what then holds.
-use Rattle.std.specs.Prelude.{ℕ, Bool, true, false, not, ◌&&◌, List, [], ◌∷◌, eqb}
+use Rattle.rules.specs.Answers.{Partner, Stepped}
+use Rattle.std.specs.Prelude.{ℕ, Bool, true, false, not, ◌&&◌, List, [], ◌∷◌, eqb, Err, None, Ok, Some}
 use Rattle.table.specs.Table.{Table}
 use Rattle.loader_laws.specs.PrintedFile.{filled_up}
 use Rattle.state.specs.State.{State, thread, status, slot_of, in_use, is_ready, is_waiting, type_in, count_in}
@@ -9,10 +10,6 @@ use Rattle.rules.specs.Offers.{offers, partner_of}
 use Rattle.rules.specs.Moves.{met_by_bench}
 use Rattle.rules.specs.Calls.{bench, step_end, can_step, step_on, course_of}
 use Rattle.rules.specs.declared.Direction.TheVariants.{Out, In}
-use Rattle.rules.specs.declared.Partner.{Partner}
-use Rattle.rules.specs.declared.Partner.TheVariants.{Nobody, At}
-use Rattle.rules.specs.declared.Stepped.{Stepped}
-use Rattle.rules.specs.declared.Stepped.TheVariants as Stepped
 use Rattle.engine.specs.Numbers.{act_number, branch_number, reason_number}
 use Rattle.collector.specs.Collect.{collected, taken_count}
 use Rattle.examples.specs.Computing.{collecting}
@@ -25,8 +22,8 @@ pub data Doing : Type 0 where
 module _ (tb : Table) where
   -- the state after a give, by the thread that was found to take it; nothing changes where there is none
   unfoldable pub after_give : State → ℕ → Partner → State
-  after_give s v Nobody = s
-  after_give s v (At u j) = met_by_bench tb s u j v
+  after_give s v None = s
+  after_give s v (Some (u, j)) = met_by_bench tb s u j v
 
   unfoldable pub after_doing : State → Doing → State
   after_doing s (steps n) = (course_of tb n s).state
@@ -58,8 +55,8 @@ pub data Fact : Type 0 where
   frees : ℕ → Fact
 
 unfoldable pub answered : Stepped → ℕ → ℕ → Bool
-answered (Stepped.Done n d) a i = eqb (act_number d) a && eqb (branch_number d) i
-answered (Stepped.Refused r) a i = false
+answered (Ok (n, d)) a i = eqb (act_number d) a && eqb (branch_number d) i
+answered (Err r) a i = false
 
 module _ (tb : Table) (s : State) where
   unfoldable pub holds_in : Fact → Bool

@@ -1,5 +1,5 @@
 -- Whether the file of rows loads, computed from the rows; and from there to a table that the engine accepts, in which every run is sound. Assumes nothing.
-use Rattle.std.specs.Prelude.{ℕ, ◌<◌, ◌≡◌, refl, Bool, true, ◌&&◌, List, [], ltb, leb, length, get_or}
+use Rattle.std.specs.Prelude.{ℕ, ◌<◌, ◌≡◌, refl, Bool, true, ◌&&◌, List, [], ltb, leb, length, get_or, Ok}
 use Rattle.std.proofs.Common.{◌∙◌}
 use Rattle.std.proofs.Math.Dec.{eqb}
 use borrow.Author.Tests.{ltb-true, leb-true, eqb-true}
@@ -13,8 +13,6 @@ use Rattle.file.specs.File.{file_table}
 use Rattle.loader.specs.Verdict.{judged, verdict, is_sound}
 use Rattle.loader.specs.Verdict.Laws.{is_sound_lem}
 use Rattle.loader.specs.Load.{table_length, table_bytes, outcome, loaded, accepted}
-use Rattle.loader.specs.declared.Loaded.TheVariants.{Done}
-use Rattle.loader.specs.declared.Verdict.TheVariants as Verdict
 use Rattle.loader_laws.specs.PrintedFile.{Printable, filled_up, print_table, print_judged}
 use Rattle.loader_laws.specs.Yields.{file_shaped, length_bytes, bytes_hold, sound_loads, file_small, file_accepted}
 use Rattle.rules.specs.Start.{started}
@@ -61,7 +59,7 @@ module _ (rs : Table) where
   rows_judged e = print_judged rs (printable e)
 
   -- where it finds no fault the table of the file is the rows, filled up
-  pub rows_load : in_order rs ≡ true → (verdict (file_text rs) ≡ Verdict.Sound) × (file_table (file_text rs) ≡ filled_up rs)
+  pub rows_load : in_order rs ≡ true → (verdict (file_text rs) ≡ Ok tt) × (file_table (file_text rs) ≡ filled_up rs)
   unfolding in_order
   rows_load e =
       let p = and_left (prints rs) _ e in
@@ -75,7 +73,7 @@ table_for rs = table_bytes (filled_up rs)
 
 module _ (rs : Table) (e : in_order rs ≡ true) where
   -- the file loads into every buffer of the right length
-  pub rows_loaded : (t : List ℕ) → length t ≡ table_length → loaded (file_text rs) t ≡ outcome Done (table_for rs)
+  pub rows_loaded : (t : List ℕ) → length t ≡ table_length → loaded (file_text rs) t ≡ outcome (Ok tt) (table_for rs)
   rows_loaded t l = let (v, q) = rows_load rs e in rw q at (sound_loads (file_text rs) t v l)
 
   pub table_holds : table_of (table_for rs) ≡ filled_up rs

@@ -1,10 +1,9 @@
 -- The starred bench cases of document 01, each from the start of a file. Assumes nothing.
-use Rattle.std.specs.Prelude.{◌≡◌, refl, Bool, true, ◌&&◌, List, [], ◌∷◌}
+use Rattle.std.specs.Prelude.{◌≡◌, refl, Bool, true, ◌&&◌, List, [], ◌∷◌, Ok}
 use Rattle.numbers.specs.Tests.{and_left, and_right}
 use Rattle.text.specs.Text.{file_text}
 use Rattle.file.specs.File.{file_table}
 use Rattle.loader.specs.Verdict.{verdict}
-use Rattle.loader.specs.declared.Verdict.TheVariants.{Sound}
 use Rattle.examples.specs.Facts.{steps, gives, ready, waits, sends, receives, knows, slot, answers, counted, runs, collects, takes, keeps, frees, Case, case, table_in, all_hold, working}
 use Rattle.examples.specs.Computing.{judging}
 use Rattle.examples.specs.Files.{prints, in_order, rows_load}
@@ -56,7 +55,7 @@ all_in_order (x ∷ xs) = in_order x.rows && all_in_order xs
 
 unfoldable pub Loads : List Case → Type 0
 Loads [] = Unit {0}
-Loads (x ∷ xs) = ((verdict (file_text x.rows) ≡ Sound) × (file_table (file_text x.rows) ≡ table_in x)) × Loads xs
+Loads (x ∷ xs) = ((verdict (file_text x.rows) ≡ Ok tt) × (file_table (file_text x.rows) ≡ table_in x)) × Loads xs
 
 loads : (xs : List Case) → all_in_order xs ≡ true → Loads xs
 unfolding all_in_order Loads

@@ -1,22 +1,20 @@
 -- A file as lines of twelve fields: grounds 1 and 2, and the table that its numbers make. Lines and fields are counted from 0 here.
 pub mod Laws
 pub mod Computing
-use Rattle.std.specs.Prelude.{ℕ, ◌+◌, ◌*◌, ◌/◌, ◌%◌, Bool, true, false, not, ◌&&◌, cond, List, ltb, leb, eqb, length, get_or, replicate}
+use Rattle.std.specs.Prelude.{ℕ, ◌+◌, ◌*◌, ◌/◌, ◌%◌, Bool, true, false, not, ◌&&◌, cond, List, ltb, leb, eqb, length, get_or, replicate, None, Option, Some}
 use Rattle.numbers.specs.Search.{every, tabulate}
 pub use Rattle.text.specs.Text.{line_length}
 use Rattle.text.specs.Text.{field_of, read_number}
-use Rattle.text.specs.declared.Reading.{Reading}
-use Rattle.text.specs.declared.Reading.TheVariants.{Value, Wrong}
 use Rattle.table.specs.Table.{Table, max_rows, row_numbers}
 
 -- whether a field is a number, and which; 0 where it is none
-unfoldable pub is_value : Reading → Bool
-is_value (Value v) = true
-is_value Wrong = false
+unfoldable pub is_value : Option ℕ → Bool
+is_value (Some v) = true
+is_value None = false
 
-unfoldable pub value_of : Reading → ℕ
-value_of (Value v) = v
-value_of Wrong = 0
+unfoldable pub value_of : Option ℕ → ℕ
+value_of (Some v) = v
+value_of None = 0
 
 module _ (file : List ℕ) where
   abbrev pub line_count : ℕ

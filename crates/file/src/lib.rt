@@ -9,12 +9,11 @@ ghost use Rattle.table.specs.Table.{max_rows, row_numbers, table_numbers, table_
 ghost use Rattle.file.specs.File.{line_length, not_lines, well_formed, malformed, file_table, number_in};
 ghost use Rattle.file.specs.EmptyFile.{ending_text};
 
-use text::Reading;
-
 // The characters of a line.
 pub const LINE: usize = text::LINE;
 
 // The fields of a line, laid into the table behind the fields of the lines before; whether all of the line is well formed.
+#[tactic(auto, using(crate::proofs::Lines::fields_read))]
 fn read_line(file: &[u8], table: &mut [u8], line: usize) -> bool
     requires line_lt_max_rows { line < max_rows }
     requires line_length_in_bounds { line * line_length + line_length ≤ length file.now }
@@ -24,15 +23,15 @@ fn read_line(file: &[u8], table: &mut [u8], line: usize) -> bool
 {
     for column in 0..table::ROW_NUMBERS {
         match text::read_field(text::field(file, line, column)) {
-            Reading::Value(v) => numbers::put_short(table, line * table::ROW_NUMBERS + column, v),
-            Reading::Wrong => return false,
+            Some(v) => numbers::put_short(table, line * table::ROW_NUMBERS + column, v),
+            None => return false,
         }
     }
-    let last = line * LINE + 72;
-    file[last] == 10
+    file[line * LINE + table::ROW_NUMBERS * text::FIELD] == b'\n'
 }
 
 // The lines of a file, laid into a table of zeros; the first malformed line, n where there is none.
+#[tactic(auto, using(crate::proofs::Lines::lines_read))]
 pub fn read_lines(file: &[u8], table: &mut [u8], n: usize) -> usize
     requires n_le_max_rows { n ≤ max_rows }
     requires line_length_in_bounds { n * line_length ≤ length file.now }
@@ -49,17 +48,11 @@ pub fn read_lines(file: &[u8], table: &mut [u8], n: usize) -> usize
 }
 
 // Ground 1: whether the file is anything but 1 to 865 whole lines.
+#[tactic(auto, unfolding(crate::specs::File::not_lines))]
 pub fn not_lines(file: &[u8]) -> bool
     ensures { result ≡ not_lines file.now }
 {
-    let n = file.len() / LINE;
-    if n < 1 {
-        return true;
-    }
-    if n > table::MAX_ROWS {
-        return true;
-    }
-    file.len() % LINE != 0
+    !(1..=table::MAX_ROWS).contains(&(file.len() / LINE)) || file.len() % LINE != 0
 }
 
 // The rows of the procedure that ends, for which a file of no bytes stands, laid into a table of zeros: a header that counts one definition and one node,

@@ -6,20 +6,19 @@ use mathlib.Core.Path.{◌≡◌, sym, ◌∙◌}
 use mathlib.Core.List.{List, [], ◌∷◌, map, map-append}
 use lib.Dec.{eqb, leb}
 use lib.ListN.{set, replicate}
-use borrow.Author.Tests.{eq-eqb, ne_eqb, le-leb}
+use borrow.Author.Tests.{ne_eqb, le-leb}
 use Rattle.numbers.specs.Search.{tabulate}
 use Rattle.numbers.specs.Search.Laws.{case_b, sum_none, tabulate_none, tabulate_suc, tabulate_cong}
 use Rattle.table.specs.Table.{Table, max_nodes, nodes, parameters}
 use Rattle.table.specs.Layout.{blocks, lines, size, start, definition_of}
-use Rattle.table.specs.Form.Laws.{header_counts}
-use Rattle.table.specs.Index.{Indexed}
 use Rattle.table.specs.Layout.Laws.{owner_past}
+use Rattle.table.specs.Form.Laws.{Counts}
 use Rattle.numbers.specs.Laid.{laid}
 use Rattle.numbers.specs.Laid.Laws.{laid_none, laid_put, laid_skip, laid_all}
 use Rattle.table.specs.declared.Part.{Part}
 use Rattle.table.specs.declared.Part.TheVariants.{Nodes}
 use Rattle.flow.specs.Flow.{gap_count, begins, beginning}
-use Rattle.flow.specs.Gaps.{bit, bits, gaps_of, gaps_from, seed}
+use Rattle.flow.specs.Gaps.{bit, bits, gaps_of, seed}
 use Rattle.flow.specs.Gaps.Laws.{bit_none, bits_from}
 
 map_tabulate {ℓ} : {A B : Type ℓ} (f : A → B) (n : ℕ) (g : ℕ → A) → map f (tabulate n g) ≡ tabulate n (λ k. f (g k))
@@ -31,15 +30,6 @@ module _ (tb : Table) where
   start_zero : (p : Part) → start tb p 0 ≡ 0
   unfolding start
   start_zero p = rw (le-leb 0 (blocks tb p) (omega arith)) (sum_none (size tb p))
-
-  module _ (n d s : ℕ) (e : d ≡ definition_of tb n) (f : s ≡ start tb Nodes d) where
-    pub seed_first : (p r : ℕ) → n ≡ s → p ≡ parameters tb d → r ≡ gaps_from p → r ≡ seed tb n
-    unfolding seed
-    seed_first p r g i j = rw (← e, ← f, eq-eqb n s g, j, i)
-
-    pub seed_other : (n ≡ s → ⊥) → 0 ≡ seed tb n
-    unfolding seed
-    seed_other g = rw (← e, ← f, ne_eqb n s g)
 
   -- past the last node there is nothing to begin with
   seed_past : (n : ℕ) → 1 ≤ nodes tb → nodes tb ≤ n → seed tb n ≡ 0
@@ -59,14 +49,9 @@ module _ (tb : Table) where
       → l' ≡ laid (seed tb) (n + 1) max_nodes
   begin_more l l' n s f e i h = rw (add-one n, f, e, i) (laid_put (seed tb) max_nodes n h)
 
-  module _ (x : List ℕ) (g : Indexed tb x) where
-    pub count_few : (c : ℕ) → c ≡ nodes tb → c ≤ max_nodes
-    count_few c q = let o = header_counts tb g.counts in omega arith
-
-    pub begin_all : (l : List ℕ) (n c : ℕ) → l ≡ laid (seed tb) n max_nodes → c ≡ nodes tb → n ≤ c → c ≤ n → gaps_of l ≡ beginning tb
-    unfolding gaps_of beginning
-    begin_all l n c e q h k =
-        let o = header_counts tb g.counts in
-        let s : laid (seed tb) n max_nodes ≡ laid (seed tb) max_nodes max_nodes = laid_skip (seed tb) max_nodes n max_nodes (omega arith) (omega arith) (λ i j m. seed_past i (omega arith) (omega arith)) in
-        rw (e, s, laid_all (seed tb) max_nodes, map_tabulate bits max_nodes (seed tb))
-        (tabulate_cong max_nodes (λ i. bits (seed tb i)) (λ i. tabulate gap_count (begins tb i)) (λ i j. bits_seed i))
+  pub begin_all : (l : List ℕ) (n c : ℕ) → l ≡ laid (seed tb) n max_nodes → c ≡ nodes tb → Counts tb → n ≤ c → c ≤ n → gaps_of l ≡ beginning tb
+  unfolding gaps_of beginning
+  begin_all l n c e q o h k =
+      let s : laid (seed tb) n max_nodes ≡ laid (seed tb) max_nodes max_nodes = laid_skip (seed tb) max_nodes n max_nodes (omega arith) (omega arith) (λ i j m. seed_past i (omega arith) (omega arith)) in
+      rw (e, s, laid_all (seed tb) max_nodes, map_tabulate bits max_nodes (seed tb))
+      (tabulate_cong max_nodes (λ i. bits (seed tb i)) (λ i. tabulate gap_count (begins tb i)) (λ i j. bits_seed i))

@@ -4,56 +4,15 @@ use native.Mathlib.Omega.{arith}
 use native.Mathlib.Numerals.{add-one}
 use native.Mathlib.Nat.{add_assoc}
 use mathlib.Core.Path.{◌≡◌, refl, ◌∙◌, ap}
-use mathlib.Core.Bool.{Bool, true, false}
+use mathlib.Core.Bool.{Bool}
 use mathlib.Core.List.{List, [], ◌∷◌}
 use lib.ListN.{length, get_or, length-map}
-use borrow.Author.Tests.{ne_eqb}
-use Rattle.numbers.specs.Rows.{at}
-use Rattle.table.specs.Fields as Field
-use Rattle.table.specs.Table.{Table, nodes, branch_row}
+use Rattle.table.specs.Table.{Table, max_nodes, nodes, branch_row}
 use Rattle.table.specs.Layout.{start, branch_count, definition_of}
-use Rattle.table.specs.Roles.{operand, operand_role, writes}
-use Rattle.table.specs.Form.Laws.{header_counts}
-use Rattle.table.specs.Index.{Indexed}
 use Rattle.table.specs.declared.Part.TheVariants.{Nodes, Branches}
-use Rattle.table.specs.declared.Role.{Role}
 use Rattle.flow.specs.Flow.Laws.{length_flow}
-use Rattle.flow.specs.Flow.{Gaps, gap_count, slot_written, past_write, arrive, beginning, branch_followed, branches_followed, flow_to, flow}
+use Rattle.flow.specs.Flow.{Gaps, beginning, branch_followed, branches_followed, flow_to, flow}
 use Rattle.flow.specs.Gaps.{bits, gaps_of}
-
--- the first node of the definition d of node n
-pub first_node_is : (tb : Table) (n d s : ℕ) → d ≡ definition_of tb n → s ≡ start tb Nodes d → s ≡ start tb Nodes (definition_of tb n)
-first_node_is tb n d s e f = f ∙ rw e
-
--- ---- the slot that a branch writes
-
-module _ (tb : Table) (r : ℕ) (a : Role) (t : Bool) (e : a ≡ operand_role tb r 2) (f : t ≡ writes a) where
-  pub slot_first : (s : ℕ) → t ≡ true → s ≡ operand tb r 2 → s ≡ slot_written tb r
-  unfolding slot_written
-  slot_first s g h = rw (← e, ← f, g) h
-
-  module _ (g : t ≡ false) (b : Role) (u : Bool) (i : b ≡ operand_role tb r 3) (j : u ≡ writes b) where
-    pub slot_second : (s : ℕ) → u ≡ true → s ≡ operand tb r 3 → s ≡ slot_written tb r
-    unfolding slot_written
-    slot_second s k h = rw (← e, ← f, g, ← i, ← j, k) h
-
-    pub slot_none : u ≡ false → gap_count ≡ slot_written tb r
-    unfolding slot_written
-    slot_none k = rw (← e, ← f, g, ← i, ← j, k)
-
--- ---- a branch
-
--- k is its action, a and b are its targets; p are the gaps past what it writes, and ms₁ those of all nodes after its next node
-module _ (tb : Table) (f r a k w : ℕ) (m p : List Bool) (ms ms₁ : Gaps) where
-  pub branch_next : a ≡ at tb r Field.next → k ≡ at tb r Field.action → w ≡ slot_written tb r → p ≡ past_write w m → ms₁ ≡ arrive ms (f + a) p → (k ≡ 4 → ⊥)
-      → ms₁ ≡ branch_followed tb f m r ms
-  unfolding branch_followed
-  branch_next h j e g i n = i ∙ rw (← j, ne_eqb k 4 n, ← e, ← g, h)
-
-  pub branch_spawn : (b : ℕ) (ms₂ : Gaps) → b ≡ at tb r Field.child → a ≡ at tb r Field.next → k ≡ at tb r Field.action → w ≡ slot_written tb r
-      → p ≡ past_write w m → ms₁ ≡ arrive ms (f + a) p → ms₂ ≡ arrive ms₁ (f + b) p → k ≡ 4 → ms₂ ≡ branch_followed tb f m r ms
-  unfolding branch_followed
-  branch_spawn b ms₂ q h j e g i s n = s ∙ rw (i, ← j, n, ← e, ← g, h, q)
 
 -- ---- the branches of a node
 
@@ -88,11 +47,10 @@ module _ (tb : Table) where
   unfolding flow_to
   flow_none ms e = e
 
-  pub flow_more : (l l' x : List ℕ) (n m : ℕ) → Indexed tb x → n < nodes tb → gaps_of l ≡ flow_to tb n → m ≡ get_or l n 0
+  pub flow_more : (l l' : List ℕ) (n m : ℕ) → n < max_nodes → gaps_of l ≡ flow_to tb n → m ≡ get_or l n 0
       → gaps_of l' ≡ branches_followed tb n (bits m) (gaps_of l) (branch_count tb n) → gaps_of l' ≡ flow_to tb (n + 1)
   unfolding flow_to
-  flow_more l l' x n m g h e f k =
-      let c = header_counts tb g.counts in
+  flow_more l l' n m h e f k =
       let b : get_or (gaps_of l) n [] ≡ bits (get_or l n 0) = row_bits l n (omega (arith, length_gaps l, ap length e, length_flow tb n)) in
       k ∙ rw (f, ← b, e, add-one n)
 

@@ -1,3 +1,1 @@
-pub mod Header
-pub mod KindsDue
 pub mod Sums

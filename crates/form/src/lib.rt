@@ -12,92 +12,75 @@ use table::{
 };
 
 // Whether the header's counts are in range.
+#[tactic(auto, unfolding(table::specs::Form::header_in_range))]
 pub fn header_in_range(table: &[u8]) -> bool
     ensures { result ≡ header_in_range (table_of table.now) }
 {
-    if !is_within(0, MAX_TYPES, cell(table, 0, field::TYPES)) {
-        return false;
-    }
-    if !is_within(1, MAX_DEFINITIONS, cell(table, 0, field::DEFINITIONS)) {
-        return false;
-    }
-    if !is_within(0, MAX_SLOTS, cell(table, 0, field::SLOTS)) {
-        return false;
-    }
-    if !is_within(1, MAX_NODES, cell(table, 0, field::NODES)) {
-        return false;
-    }
-    if !is_within(0, MAX_BRANCHES, cell(table, 0, field::BRANCHES)) {
-        return false;
-    }
-    is_within(0, MAX_PORTS, cell(table, 0, field::PORTS))
+    is_within(0, MAX_TYPES, cell(table, 0, field::TYPES))
+        && is_within(1, MAX_DEFINITIONS, cell(table, 0, field::DEFINITIONS))
+        && is_within(0, MAX_SLOTS, cell(table, 0, field::SLOTS))
+        && is_within(1, MAX_NODES, cell(table, 0, field::NODES))
+        && is_within(0, MAX_BRANCHES, cell(table, 0, field::BRANCHES))
+        && is_within(0, MAX_PORTS, cell(table, 0, field::PORTS))
 }
 
 // The kind that the header's counts give a row.
+#[tactic(auto, unfolding(table::specs::Form::kind_due))]
 fn kind_due(table: &[u8], row: usize) -> u32
     ensures { result ≡ kind_due (table_of table.now) row }
 {
-    if row < 1 {
-        return 1;
+    if row == 0 {
+        1
+    } else if row < definition_row(table) {
+        2
+    } else if row < slot_row(table) {
+        3
+    } else if row < node_row(table) {
+        4
+    } else if row < branch_row(table) {
+        5
+    } else {
+        6
     }
-    if row < definition_row(table) {
-        return 2;
-    }
-    if row < slot_row(table) {
-        return 3;
-    }
-    if row < node_row(table) {
-        return 4;
-    }
-    if row < branch_row(table) {
-        return 5;
-    }
-    6
 }
 
 // The first of n rows that has another kind than the header's counts give it; n where there is none.
 pub fn first_kind_wrong(table: &[u8], n: usize) -> usize
     ensures { result ≡ first (kind_wrong (table_of table.now)) n }
 {
-    for row in 0..n {
-        if cell(table, row, field::KIND) != kind_due(table, row) {
-            return row;
-        }
-    }
-    n
+    (0..n)
+        .find(|&row| cell(table, row, field::KIND) != kind_due(table, row))
+        .unwrap_or(n)
 }
 
 // What a size, which is a signed number, adds to a sum.
+#[tactic(auto, unfolding(table::specs::Form::gain))]
 fn gain_of(v: u32) -> u32
     requires { v < 65536 }
     ensures value { result ≡ gain v }
     ensures upper_bound { result < 65536 }
 {
-    if v < 32768 {
-        return v;
-    }
-    0
+    if v < 32768 { v } else { 0 }
 }
 
 // What a size, which is a signed number, takes away from a sum.
+#[tactic(auto, unfolding(table::specs::Form::loss))]
 fn loss_of(v: u32) -> u32
     requires { v < 65536 }
     ensures value { result ≡ loss v }
     ensures upper_bound { result < 65536 }
 {
-    if v < 32768 {
-        return 0;
-    }
-    65536 - v
+    if v < 32768 { 0 } else { 65536 - v }
 }
 
 // Whether the sizes of a part's blocks, which nothing has bounded yet, add up to the header's count.
+#[tactic(auto, using(crate::proofs::Sums::sums))]
 fn sum_agrees(table: &[u8], part: Part) -> bool
     ensures { result ≡ sum_agrees (table_of table.now) part }
 {
     let n = blocks_of(table, part);
-    let mut gains: u32 = 0;
-    let mut losses: u32 = 0;
+    let mut gains = 0;
+    let mut losses = 0;
     for i in 0..n {
         let v = block_size(table, part, i);
         gains += gain_of(v);
@@ -107,14 +90,11 @@ fn sum_agrees(table: &[u8], part: Part) -> bool
 }
 
 // Whether the sizes of the blocks of slots, of nodes and of branches add up to the header's counts.
+#[tactic(auto, unfolding(table::specs::Form::sums_agree))]
 pub fn sums_agree(table: &[u8]) -> bool
     ensures { result ≡ sums_agree (table_of table.now) }
 {
-    if !sum_agrees(table, Part::Slots) {
-        return false;
-    }
-    if !sum_agrees(table, Part::Nodes) {
-        return false;
-    }
-    sum_agrees(table, Part::Branches)
+    sum_agrees(table, Part::Slots)
+        && sum_agrees(table, Part::Nodes)
+        && sum_agrees(table, Part::Branches)
 }

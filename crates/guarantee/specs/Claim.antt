@@ -1,7 +1,8 @@
 -- The whole claim, demand 3 of document 01, on every list of calls from the start of a file that loads. This file says it and `Proof.antt` shows it: what
 -- a reader must believe is here, and in the definitions that are named here. The calls are those without seats; `SeatedClaim.antt` says it of the calls as C
 -- makes them, at seats.
-use Rattle.std.specs.Prelude.{ℕ, ◌<◌, ◌≡◌, Bool, true, false, not, ◌&&◌, List, [], ◌∷◌, ◌++◌, map, ◌≢◌, ◌↔◌}
+use Rattle.rules.specs.Answers.{Given, Ran, Stepped, Taken}
+use Rattle.std.specs.Prelude.{ℕ, ◌<◌, ◌≡◌, Bool, true, false, not, ◌&&◌, List, [], ◌∷◌, ◌++◌, map, ◌≢◌, ◌↔◌, Err, None, Ok, Some}
 use Rattle.table.specs.Table.{table_of}
 use Rattle.state.specs.State.{max_threads, max_channels, view, thread, in_use, is_waiting, type_in, count_in}
 use Rattle.rules.specs.Holding.{count_of}
@@ -9,21 +10,11 @@ use Rattle.rules.specs.Moves.{move}
 use Rattle.rules.specs.Calls.{start_call, step_call, give_call, take_call, run_call}
 use Rattle.rules.specs.declared.Refusal.{Refusal}
 use Rattle.rules.specs.declared.Refusal.TheVariants as Ground
-use Rattle.rules.specs.declared.Started.TheVariants as Started
-use Rattle.rules.specs.declared.Stepped.{Stepped}
-use Rattle.rules.specs.declared.Stepped.TheVariants as Stepped
-use Rattle.rules.specs.declared.Given.{Given}
-use Rattle.rules.specs.declared.Given.TheVariants as Given
-use Rattle.rules.specs.declared.Taken.{Taken}
-use Rattle.rules.specs.declared.Taken.TheVariants as Taken
-use Rattle.rules.specs.declared.Ran.{Ran}
-use Rattle.rules.specs.declared.Ran.TheVariants as Ran
 use Rattle.rules_laws.specs.Frames.{elem, movers}
 use Rattle.engine_laws.specs.Movers.{ran_movers}
 use Rattle.engine_laws.specs.Lists.{Call, step, give, take, run, after, after_all, RefusedWith}
 use Rattle.collector.specs.Collect.{collect_call}
 use Rattle.collector_laws.specs.Linked.{Series}
-use Rattle.collector.specs.declared.Collected.TheVariants as Collected
 
 -- ---- lists of calls
 
@@ -51,24 +42,24 @@ reached_by table state ks = after_list table (start_call table state).state ks
 
 -- the threads that move in a step, which are these unless it is refused
 unfoldable pub unless_refused : Stepped → List ℕ → List ℕ
-unless_refused (Stepped.Done n d) who = who
-unless_refused (Stepped.Refused r) who = []
+unless_refused (Ok (n, d)) who = who
+unless_refused (Err r) who = []
 
 -- the thread that a give or a take has met, by its answer
 unfoldable pub met_by_give : Given → List ℕ
-met_by_give (Given.Met u) = u ∷ []
-met_by_give Given.Nobody = []
-met_by_give (Given.Refused r) = []
+met_by_give (Ok (Some u)) = u ∷ []
+met_by_give (Ok None) = []
+met_by_give (Err r) = []
 
 unfoldable pub met_by_take : Taken → List ℕ
-met_by_take (Taken.Met u v) = u ∷ []
-met_by_take Taken.Nobody = []
-met_by_take (Taken.Refused r) = []
+met_by_take (Ok (Some (u, v))) = u ∷ []
+met_by_take (Ok None) = []
+met_by_take (Err r) = []
 
 -- the threads that move in a run, which are these unless it is refused
 unfoldable pub in_turns : Ran → List ℕ → List ℕ
-in_turns (Ran.Done n r) who = who
-in_turns (Ran.Refused r) who = []
+in_turns (Ok (n, r)) who = who
+in_turns (Err r) who = []
 
 -- the threads that step or are met in a call. By a step of thread t, `movers` has t and, where its move is a meeting, the thread met, and nobody where the
 -- move lacks a row; by a run, `ran_movers` has them for each turn up to its end
@@ -114,7 +105,7 @@ Linked table state =
 -- a call is answered by a refusal on ground r
 unfoldable pub RefusedBy : List ℕ → List ℕ → Any → Refusal → Type 0
 RefusedBy table state (on k) r = RefusedWith table state k r
-RefusedBy table state collect r = (collect_call table state).answer ≡ Collected.Refused r
+RefusedBy table state collect r = (collect_call table state).answer ≡ Err r
 
 -- document 01, demand 3, on refusals: no call of a list, on the bytes that the calls before it leave, is refused with 10, the state not being sound
 unfoldable pub NeverTen : List ℕ → List ℕ → List Any → Type 0
@@ -125,14 +116,14 @@ NeverTen table state (k ∷ ks) = (¬ RefusedBy table state k Ground.State) × N
 -- number, n (`Proof.antt` shows that it always is: `collection_made`)
 pub record Guarantee (table state : List ℕ) (ks : List Any) : Type 0 where
   -- start is not refused
-  pub starts : (start_call table state).answer ≡ Started.Done
+  pub starts : (start_call table state).answer ≡ Ok tt
   -- a. the counts are true after the list
   pub counted : Counted table (reached_by table state ks)
   -- b. no later list, made in place of the collection, moves a thread that the collection takes
-  pub untouched : (n : ℕ) → (collect_call table (reached_by table state ks)).answer ≡ Collected.Done n
+  pub untouched : (n : ℕ) → (collect_call table (reached_by table state ks)).answer ≡ Ok n
       → (later : List Call) → Untouched table (reached_by table state ks) later
   -- c. after the collection the waiting threads are linked
-  pub linked : (n : ℕ) → (collect_call table (reached_by table state ks)).answer ≡ Collected.Done n
+  pub linked : (n : ℕ) → (collect_call table (reached_by table state ks)).answer ≡ Ok n
       → Linked table (collect_call table (reached_by table state ks)).state
   -- d. in neither list is a call refused with 10
   pub never_ten : NeverTen table (start_call table state).state ks

@@ -1,6 +1,6 @@
 -- A collection, and so every list of calls, leaves a sound buffer sound; which threads a collection of a sound buffer takes; and no call on a sound
 -- buffer is refused with 10. Assumes nothing.
-use Rattle.std.specs.Prelude.{ℕ, ◌<◌, ◌≡◌, refl, true, false, ltb, get_or}
+use Rattle.std.specs.Prelude.{ℕ, ◌<◌, ◌≡◌, refl, true, false, ltb, get_or, Err, Ok}
 use Rattle.std.proofs.Common.{arith}
 use mathlib.Core.List.{List, [], ◌∷◌}
 use Rattle.std.proofs.Math.ListN.{get_or-eq_default}
@@ -12,7 +12,6 @@ use Rattle.loader.specs.Load.{accepted}
 use Rattle.state.specs.State.{max_threads, view, thread, in_use}
 use Rattle.rules.specs.Calls.{admission}
 use Rattle.rules.specs.declared.Refusal.TheVariants as Ground
-use Rattle.rules.specs.declared.Admission.TheVariants as Admission
 use Rattle.rules_laws.specs.Granted.{Granted}
 use Rattle.rules_laws.specs.Accepted.{granted}
 use Rattle.rules_laws.specs.Soundness.{Sound}
@@ -27,19 +26,18 @@ use Rattle.collector.specs.Collect.Laws.{taken_iff, taken_freed, left_same}
 use Rattle.collector_laws.specs.CollectionKeeps.{collect_on_kept}
 use Rattle.collector_laws.specs.CollectionRefusals.{collect_refused_iff}
 use Rattle.collector_laws.specs.Out.{taken_thread}
-use Rattle.collector.specs.declared.Collected.TheVariants as Collected
 use Rattle.guarantee.specs.Claim.{Any, on, collect, after_any, after_list, taken_by, RefusedBy, NeverTen}
 
 -- ---- refusal 10 is met at the entry of a call
 
-call_at_entry : (table state : List ℕ) (k : Call) → RefusedWith table state k Ground.State → admission table state ≡ Admission.Refused Ground.State
+call_at_entry : (table state : List ℕ) (k : Call) → RefusedWith table state k Ground.State → admission table state ≡ Err Ground.State
 unfolding RefusedWith at_entry refusal_number
 call_at_entry table state (step t) e = (step_entry_iff table state t Ground.State refl).0 e
 call_at_entry table state (give p v h) e = (give_entry_iff table state p v Ground.State refl).0 e
 call_at_entry table state (take p) e = (take_entry_iff table state p Ground.State refl).0 e
 call_at_entry table state (run n) e = (run_refused_iff table state n Ground.State).0 e
 
-any_at_entry : (table state : List ℕ) (k : Any) → RefusedBy table state k Ground.State → admission table state ≡ Admission.Refused Ground.State
+any_at_entry : (table state : List ℕ) (k : Any) → RefusedBy table state k Ground.State → admission table state ≡ Err Ground.State
 unfolding RefusedBy
 any_at_entry table state (on k) e = call_at_entry table state k e
 any_at_entry table state collect e = (collect_refused_iff table state Ground.State).0 e
@@ -52,9 +50,9 @@ module _ (table : List ℕ) (ok : accepted table ≡ true) where
   not_ten state b k e = let a = admitted table ok state b in let f = any_at_entry table state k e in clash cc
 
   -- a collection of a sound buffer is not refused: it answers how many threads it takes
-  pub collect_done : (state : List ℕ) → SoundBuffer table state → (collect_call table state).answer ≡ Collected.Done (taken_count (table_of table) (view state))
+  pub collect_done : (state : List ℕ) → SoundBuffer table state → (collect_call table state).answer ≡ Ok (taken_count (table_of table) (view state))
   unfolding collect_call collect_on
-  collect_done state b = rw (call_made table ok Collected.Refused state b (collect_on (table_of table) (view state)))
+  collect_done state b = rw (call_made table ok Err state b (collect_on (table_of table) (view state)))
 
 module _ (table : List ℕ) (ok : accepted table ≡ true) (fit : (i : ℕ) → get_or table i 0 < 256) where
   pub grants : Granted (table_of table)
@@ -66,12 +64,12 @@ module _ (table : List ℕ) (ok : accepted table ≡ true) (fit : (i : ℕ) → 
 
     collect_sound : SoundBuffer table (collect_call table state).state
     unfolding collect_call
-    collect_sound = call_sound table ok Collected.Refused state b (collect_on (table_of table) (view state)) after_collection
+    collect_sound = call_sound table ok Err state b (collect_on (table_of table) (view state)) after_collection
 
     -- the bytes after a collection hold the state after it
     pub collect_view : view (collect_call table state).state ≡ collected (table_of table) (view state)
     unfolding collect_call collect_on
-    collect_view = call_view table ok Collected.Refused state b (collect_on (table_of table) (view state)) after_collection
+    collect_view = call_view table ok Err state b (collect_on (table_of table) (view state)) after_collection
 
     no_thread : (t : ℕ) → ltb t max_threads ≡ false → thread (view state) t ≡ []
     no_thread t e =

@@ -1,7 +1,11 @@
 -- The claim speaks of loading and of the calls by which `SeatedClaim.antt` performs a list. Here they are held against what the contracts of the exported calls
 -- say, in the numbers that C sees: a load is answered with refusal 0 exactly where the file loads; the calls leave the same bytes; and a call is answered
 -- with refusal 10 only where the claim has it so. Assumes nothing.
-use Rattle.std.specs.Prelude.{ℕ, ◌<◌, ◌≡◌, refl, List, [], ◌∷◌, ◌≢◌, ◌↔◌, eqb, length, ℤ, pos}
+use Rattle.loader.specs.declared.LoadRefusal.TheVariants as LoadRefusal
+use Rattle.collector.specs.Answers.{Collected}
+use Rattle.rules.specs.Answers.{Given, Ran, Started, Stepped, Taken}
+use Rattle.loader.specs.Answers.{Loaded, Verdict}
+use Rattle.std.specs.Prelude.{ℕ, ◌<◌, ◌≡◌, refl, List, [], ◌∷◌, ◌≢◌, ◌↔◌, eqb, length, ℤ, pos, Err, None, Ok, Some}
 use Rattle.std.proofs.Common.{arith, sym, ◌∙◌, to_z, of_z, eqb-true, ne_eqb}
 use Rattle.std.proofs.Math.Path.{ap}
 use Rattle.std.specs.Int.{w32}
@@ -14,32 +18,16 @@ use Rattle.loader.specs.Verdict.{ground_number, verdict}
 use Rattle.loader.specs.Load as Load
 use Rattle.loader.specs.Load.{table_length, table_bytes, loaded, after_verdict}
 use Rattle.loader.specs.declared.Ground.{Ground}
-use Rattle.loader.specs.declared.Loaded.{Loaded}
-use Rattle.loader.specs.declared.Loaded.TheVariants as Loaded
-use Rattle.loader.specs.declared.Verdict.{Verdict}
-use Rattle.loader.specs.declared.Verdict.TheVariants.{Sound, Fault}
 use Rattle.loader_laws.specs.Lowest.{number_range}
 use Rattle.loader_laws.specs.Yields.{text_loads}
 use Rattle.rules.specs.Calls.{start_call}
 use Rattle.rules.specs.Seats.{seated_step, seated_give, seated_take, seated_run}
 use Rattle.rules.specs.declared.Refusal.{Refusal}
 use Rattle.rules.specs.declared.Refusal.TheVariants as Ground
-use Rattle.rules.specs.declared.Started.{Started}
-use Rattle.rules.specs.declared.Started.TheVariants as Started
-use Rattle.rules.specs.declared.Stepped.{Stepped}
-use Rattle.rules.specs.declared.Stepped.TheVariants as Stepped
-use Rattle.rules.specs.declared.Given.{Given}
-use Rattle.rules.specs.declared.Given.TheVariants as Given
-use Rattle.rules.specs.declared.Taken.{Taken}
-use Rattle.rules.specs.declared.Taken.TheVariants as Taken
-use Rattle.rules.specs.declared.Ran.{Ran}
-use Rattle.rules.specs.declared.Ran.TheVariants as Ran
 use Rattle.engine.specs.Numbers.{refusal_number}
 use Rattle.engine.specs.Numbers.Laws.{ground_range, same_number}
 use Rattle.engine_laws.specs.Lists.{step, give, take, run}
 use Rattle.collector.specs.Collect.{seated_collect}
-use Rattle.collector.specs.declared.Collected.{Collected}
-use Rattle.collector.specs.declared.Collected.TheVariants as Collected
 use Rattle.interface.specs.Interface.{loaded_to, numbered, load_result, in_numbers, start_fields, start_numbers, start_result, step_fields, step_numbers, step_result, give_fields, give_numbers, give_result, take_fields, take_numbers, take_result, run_fields, run_numbers, run_result, collect_fields, collect_numbers, collect_result}
 use Rattle.interface.specs.declared.StepAnswer.{StepAnswer}
 use Rattle.interface.specs.declared.GiveAnswer.{GiveAnswer}
@@ -55,14 +43,14 @@ use Rattle.guarantee.specs.SeatedClaim.{AtSeat, after_by, after_seat, RefusedAt}
 ground_not_zero : (g : Ground) → pos (ground_number g) ≢ pos 0
 ground_not_zero g e = let n : ground_number g ≡ 0 = cc in omega (arith, (number_range g).0)
 
-load_zero : (a : Loaded) → pos (Load.refusal_number a) ≡ pos 0 → a ≡ Loaded.Done
+load_zero : (a : Loaded) → pos (Load.refusal_number a) ≡ pos 0 → a ≡ Ok tt
 unfolding Load.refusal_number
-load_zero Loaded.Done e = refl
-load_zero (Loaded.FileRefused g l) e = absurd (ground_not_zero g e)
-load_zero Loaded.WrongLength e = clash cc
+load_zero (Ok tt) e = refl
+load_zero (Err (LoadRefusal.FileRefused g l)) e = absurd (ground_not_zero g e)
+load_zero (Err LoadRefusal.WrongLength) e = clash cc
 
 -- refusal 0 is what the claim calls a file that loads
-pub load_so : (file t : List ℕ) → (load_result file t).answer.refusal ≡ pos 0 → (loaded file t).answer ≡ Loaded.Done
+pub load_so : (file t : List ℕ) → (load_result file t).answer.refusal ≡ pos 0 → (loaded file t).answer ≡ Ok tt
 unfolding load_result numbered
 load_so file t e = load_zero (loaded file t).answer e
 
@@ -74,18 +62,18 @@ table_so file t = refl
 -- document 01, on loading: a file is accepted when the verdict on it, or on the lines for which a file of no bytes stands, is that no line is at fault, and the
 -- buffer has the table's length
 abbrev pub Accepted : List ℕ → List ℕ → Type 0
-Accepted file t = (verdict (procedure_text file) ≡ Sound) × (length t ≡ table_length)
+Accepted file t = (verdict (procedure_text file) ≡ Ok tt) × (length t ≡ table_length)
 
-after_done : (v : Verdict) (file t : List ℕ) → (after_verdict v file t).answer ≡ Loaded.Done → (v ≡ Sound) × (length t ≡ table_length)
+after_done : (v : Verdict) (file t : List ℕ) → (after_verdict v file t).answer ≡ Ok tt → (v ≡ Ok tt) × (length t ≡ table_length)
 unfolding after_verdict
-after_done (Fault g l) file t e = clash cc
-after_done Sound file t e =
-    (refl, case_b (eqb (length t) table_length) (λ y. eqb-true (length t) table_length y) (λ n. let f : Loaded.WrongLength ≡ Loaded.Done = rw n at e in clash cc))
+after_done (Err (g, l)) file t e = clash cc
+after_done (Ok tt) file t e =
+    (refl, case_b (eqb (length t) table_length) (λ y. eqb-true (length t) table_length y) (λ n. let f : Err LoadRefusal.WrongLength ≡ Ok tt = rw n at e in clash cc))
 
-after_refused : (v : Verdict) (file t : List ℕ) → (after_verdict v file t).answer ≢ Loaded.Done → (after_verdict v file t).table ≡ t
+after_refused : (v : Verdict) (file t : List ℕ) → (after_verdict v file t).answer ≢ Ok tt → (after_verdict v file t).table ≡ t
 unfolding after_verdict
-after_refused (Fault g l) file t n = refl
-after_refused Sound file t n =
+after_refused (Err (g, l)) file t n = refl
+after_refused (Ok tt) file t n =
     case_b (eqb (length t) table_length) (λ y. absurd (n (rw y))) (λ f. rw f)
 
 -- refusal 0 exactly then
@@ -195,37 +183,37 @@ pub not_zero : (r : Refusal) → pos 0 ≢ pos (refusal_number r)
 not_zero r e = let n : 0 ≡ refusal_number r = cc in omega (arith, (ground_range r).0)
 
 module _ (r : Refusal) where
-  pub start_number : (a : Started) → (start_numbers a).refusal ≡ pos (refusal_number r) → a ≡ Started.Refused r
+  pub start_number : (a : Started) → (start_numbers a).refusal ≡ pos (refusal_number r) → a ≡ Err r
   unfolding start_numbers start_fields
-  start_number Started.Done e = absurd (not_zero r e)
-  start_number (Started.Refused q) e = ap (λ x. Started.Refused x) (number_is q r e)
+  start_number (Ok tt) e = absurd (not_zero r e)
+  start_number (Err q) e = ap (λ x. Err x) (number_is q r e)
 
-  pub step_number : (a : Stepped) → (step_numbers a).refusal ≡ pos (refusal_number r) → a ≡ Stepped.Refused r
+  pub step_number : (a : Stepped) → (step_numbers a).refusal ≡ pos (refusal_number r) → a ≡ Err r
   unfolding step_numbers step_fields
-  step_number (Stepped.Done n d) e = absurd (not_zero r e)
-  step_number (Stepped.Refused q) e = ap (λ x. Stepped.Refused x) (number_is q r e)
+  step_number (Ok (n, d)) e = absurd (not_zero r e)
+  step_number (Err q) e = ap (λ x. Err x) (number_is q r e)
 
-  give_number : (a : Given) → (give_numbers a).refusal ≡ pos (refusal_number r) → a ≡ Given.Refused r
+  give_number : (a : Given) → (give_numbers a).refusal ≡ pos (refusal_number r) → a ≡ Err r
   unfolding give_numbers give_fields
-  give_number (Given.Met u) e = absurd (not_zero r e)
-  give_number Given.Nobody e = absurd (not_zero r e)
-  give_number (Given.Refused q) e = ap (λ x. Given.Refused x) (number_is q r e)
+  give_number (Ok (Some u)) e = absurd (not_zero r e)
+  give_number (Ok None) e = absurd (not_zero r e)
+  give_number (Err q) e = ap (λ x. Err x) (number_is q r e)
 
-  take_number : (a : Taken) → (take_numbers a).refusal ≡ pos (refusal_number r) → a ≡ Taken.Refused r
+  take_number : (a : Taken) → (take_numbers a).refusal ≡ pos (refusal_number r) → a ≡ Err r
   unfolding take_numbers take_fields
-  take_number (Taken.Met u v) e = absurd (not_zero r e)
-  take_number Taken.Nobody e = absurd (not_zero r e)
-  take_number (Taken.Refused q) e = ap (λ x. Taken.Refused x) (number_is q r e)
+  take_number (Ok (Some (u, v))) e = absurd (not_zero r e)
+  take_number (Ok None) e = absurd (not_zero r e)
+  take_number (Err q) e = ap (λ x. Err x) (number_is q r e)
 
-  run_number : (a : Ran) → (run_numbers a).refusal ≡ pos (refusal_number r) → a ≡ Ran.Refused r
+  run_number : (a : Ran) → (run_numbers a).refusal ≡ pos (refusal_number r) → a ≡ Err r
   unfolding run_numbers run_fields
-  run_number (Ran.Done n x) e = absurd (not_zero r e)
-  run_number (Ran.Refused q) e = ap (λ x. Ran.Refused x) (number_is q r e)
+  run_number (Ok (n, x)) e = absurd (not_zero r e)
+  run_number (Err q) e = ap (λ x. Err x) (number_is q r e)
 
-  collect_number : (a : Collected) → (collect_numbers a).refusal ≡ pos (refusal_number r) → a ≡ Collected.Refused r
+  collect_number : (a : Collected) → (collect_numbers a).refusal ≡ pos (refusal_number r) → a ≡ Err r
   unfolding collect_numbers collect_fields
-  collect_number (Collected.Done n) e = absurd (not_zero r e)
-  collect_number (Collected.Refused q) e = ap (λ x. Collected.Refused x) (number_is q r e)
+  collect_number (Ok n) e = absurd (not_zero r e)
+  collect_number (Err q) e = ap (λ x. Err x) (number_is q r e)
 
 -- a call that C sees refused with the number of a ground is one that the claim has refused on that ground, and conversely
 module _ (table state rights : List ℕ) (seat : ℕ) where

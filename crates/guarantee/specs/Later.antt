@@ -1,5 +1,6 @@
 -- The threads of a sealed set stay where they are through every list of calls from a sound buffer. Assumes nothing.
-use Rattle.std.specs.Prelude.{ℕ, ◌<◌, ◌≡◌, refl, Bool, true, false, ltb, get_or}
+use Rattle.rules.specs.Answers.{Partner, Stepped}
+use Rattle.std.specs.Prelude.{ℕ, ◌<◌, ◌≡◌, refl, Bool, true, false, ltb, get_or, Err, None, Ok, Some}
 use mathlib.Core.List.{List, [], ◌∷◌}
 use borrow.Author.Tests.{ltb-true}
 use Rattle.numbers.specs.Search.Laws.{case_b}
@@ -11,14 +12,7 @@ use Rattle.rules.specs.Offers.{partner_of}
 use Rattle.rules.specs.Moves.{move, perform}
 use Rattle.rules.specs.Calls.{After, on_buffers, step_answer, step_end, can_step, step_on, step_call, bench, given_to, give_on, give_call, taken_from, take_on, take_call, run_on, run_call}
 use Rattle.rules.specs.declared.Direction.TheVariants.{Out, In}
-use Rattle.rules.specs.declared.Partner.{Partner}
-use Rattle.rules.specs.declared.Partner.TheVariants.{Nobody, At}
 use Rattle.rules.specs.declared.Refusal.{Refusal}
-use Rattle.rules.specs.declared.Stepped.{Stepped}
-use Rattle.rules.specs.declared.Stepped.TheVariants as Stepped
-use Rattle.rules.specs.declared.Given.TheVariants as Given
-use Rattle.rules.specs.declared.Taken.TheVariants as Taken
-use Rattle.rules.specs.declared.Ran.TheVariants as Ran
 use Rattle.rules_laws.specs.Granted.{Granted}
 use Rattle.rules_laws.specs.Soundness.{Sound}
 use Rattle.rules_laws.specs.Lasting.{step_on_kept, give_on_kept, take_on_kept, run_on_kept}
@@ -71,8 +65,8 @@ module _ (table : List ℕ) (ok : accepted table ≡ true) (fit : (i : ℕ) → 
 
     step_end_lem : (a : Stepped) (s' : State) (who : List ℕ) → RestsIn s' who → RestsIn (step_end a s s').state (unless_refused (step_end a s s').answer who)
     unfolding step_end unless_refused
-    step_end_lem (Stepped.Done n d) s' who y = y
-    step_end_lem (Stepped.Refused r) s' who y = stays
+    step_end_lem (Ok (n, d)) s' who y = y
+    step_end_lem (Err r) s' who y = stays
 
     stepped_rests : (t : ℕ) → can_step s t ≡ true → RestsIn (perform tb s t (move tb s t)) (movers t (move tb s t))
     unfolding can_step
@@ -88,15 +82,15 @@ module _ (table : List ℕ) (ok : accepted table ≡ true) (fit : (i : ℕ) → 
 
     step_rests : (t : ℕ) → Rests table q first (step_call table state t).state (unless_refused (step_call table state t).answer (movers t (move tb s t)))
     unfolding step_call
-    step_rests t = on_buffers_lem Stepped.Refused (step_on tb s t) (λ a. unless_refused a (movers t (move tb s t))) (step_on_kept tb g s held t) (step_on_rests t)
+    step_rests t = on_buffers_lem Err (step_on tb s t) (λ a. unless_refused a (movers t (move tb s t))) (step_on_kept tb g s held t) (step_on_rests t)
 
     -- ---- give and take
 
     given_rests : (p v : ℕ) → p < ports tb → (m : Partner) → partner_of tb s bench In p ≡ m
         → RestsIn (given_to tb s m v).state (met_by_give (given_to tb s m v).answer)
     unfolding given_to met_by_give
-    given_rests p v l Nobody e = stays
-    given_rests p v l (At u j) e = sealed_kept tb g q first s _ (u ∷ []) (bench_moved tb g s held In p u j l e v) held z
+    given_rests p v l None e = stays
+    given_rests p v l (Some (u, j)) e = sealed_kept tb g q first s _ (u ∷ []) (bench_moved tb g s held In p u j l e v) held z
 
     give_on_rests : (p v : ℕ) → RestsIn (give_on tb s p v).state (met_by_give (give_on tb s p v).answer)
     unfolding give_on met_by_give
@@ -106,13 +100,13 @@ module _ (table : List ℕ) (ok : accepted table ≡ true) (fit : (i : ℕ) → 
 
     give_rests : (p v : ℕ) → v < 4294967296 → Rests table q first (give_call table state p v).state (met_by_give (give_call table state p v).answer)
     unfolding give_call
-    give_rests p v h = on_buffers_lem Given.Refused (give_on tb s p v) met_by_give (give_on_kept tb g s held p v h) (give_on_rests p v)
+    give_rests p v h = on_buffers_lem Err (give_on tb s p v) met_by_give (give_on_kept tb g s held p v h) (give_on_rests p v)
 
     taken_rests : (p : ℕ) → p < ports tb → (m : Partner) → partner_of tb s bench Out p ≡ m
         → RestsIn (taken_from tb s m).state (met_by_take (taken_from tb s m).answer)
     unfolding taken_from met_by_take
-    taken_rests p l Nobody e = stays
-    taken_rests p l (At u j) e = sealed_kept tb g q first s _ (u ∷ []) (bench_moved tb g s held Out p u j l e 0) held z
+    taken_rests p l None e = stays
+    taken_rests p l (Some (u, j)) e = sealed_kept tb g q first s _ (u ∷ []) (bench_moved tb g s held Out p u j l e 0) held z
 
     take_on_rests : (p : ℕ) → RestsIn (take_on tb s p).state (met_by_take (take_on tb s p).answer)
     unfolding take_on met_by_take
@@ -122,7 +116,7 @@ module _ (table : List ℕ) (ok : accepted table ≡ true) (fit : (i : ℕ) → 
 
     take_rests : (p : ℕ) → Rests table q first (take_call table state p).state (met_by_take (take_call table state p).answer)
     unfolding take_call
-    take_rests p = on_buffers_lem Taken.Refused (take_on tb s p) met_by_take (take_on_kept tb g s held p) (take_on_rests p)
+    take_rests p = on_buffers_lem Err (take_on tb s p) met_by_take (take_on_kept tb g s held p) (take_on_rests p)
 
     -- ---- run
 
@@ -132,7 +126,7 @@ module _ (table : List ℕ) (ok : accepted table ≡ true) (fit : (i : ℕ) → 
 
     run_rests : (n : ℕ) → Rests table q first (run_call table state n).state (in_turns (run_call table state n).answer (ran_movers tb n s))
     unfolding run_call
-    run_rests n = on_buffers_lem Ran.Refused (run_on tb s n) (λ a. in_turns a (ran_movers tb n s)) (run_on_kept tb g s held n) (run_on_rests n)
+    run_rests n = on_buffers_lem Err (run_on tb s n) (λ a. in_turns a (ran_movers tb n s)) (run_on_kept tb g s held n) (run_on_rests n)
 
     -- a call leaves the set sealed, and moves nobody of it
     call_rests : (k : Call) → Rests table q first (after table state k) (moving table state k)

@@ -2,7 +2,9 @@
 -- table's buffer, for every file, every buffer and every length. The grounds are those of `loader_laws/specs/Refused.antt`, in document 01's words, and the
 -- theorems on the definition are in `Refused/Laws.antt` and `EmptyFile.antt` beside it; this file says them in the numbers that C gets, and shows them. Assumes
 -- nothing.
-use Rattle.std.specs.Prelude.{ℕ, ◌≤◌, ◌≡◌, ◌⊎◌, ◌≢◌, ◌↔◌, cond, List, [], eqb, length}
+use Rattle.loader.specs.declared.LoadRefusal.TheVariants as LoadRefusal
+use Rattle.loader.specs.Answers.{Loaded, Verdict}
+use Rattle.std.specs.Prelude.{ℕ, ◌≤◌, ◌≡◌, ◌⊎◌, ◌≢◌, ◌↔◌, cond, List, [], eqb, length, Err, Ok}
 use Rattle.std.proofs.Common.{arith, ◌∙◌, eqb-true, eq-eqb, ne_eqb}
 use Rattle.std.proofs.Math.Path.{refl, sym, ap}
 use Rattle.std.proofs.Math.Logic.{inl, inr, ⊎_elim}
@@ -19,10 +21,6 @@ use Rattle.loader.specs.Load.{table_length, table_bytes, after_verdict, loaded, 
 use Rattle.loader.specs.Load.Laws.{ending_sound}
 use Rattle.loader.specs.declared.Ground.{Ground}
 use Rattle.loader.specs.declared.Ground.TheVariants.{Lines, Field, Header, Total, Kind, Sums, Range, Types, Unwritten, Unreachable}
-use Rattle.loader.specs.declared.Loaded.{Loaded}
-use Rattle.loader.specs.declared.Loaded.TheVariants.{Done, FileRefused, WrongLength}
-use Rattle.loader.specs.declared.Verdict.{Verdict}
-use Rattle.loader.specs.declared.Verdict.TheVariants.{Sound, Fault}
 use Rattle.loader_laws.specs.PrintedFile.{filled_up}
 use Rattle.loader_laws.specs.Refused.{NotWhole, Refused, LowestOf}
 use Rattle.loader_laws.specs.Refused.Laws.{in_order_iff}
@@ -67,12 +65,12 @@ module _ (file t : List ℕ) where
 
 -- an answer with a number from 1 to 7 is a ground of that number
 told_ground : (a : Loaded) (n l : ℕ) → 1 ≤ n → n ≤ 7
-    → ((pos (refusal_number a) ≡ pos n) × (pos (line_number a) ≡ pos l)) ↔ ((g : Ground) × (ground_number g ≡ n) × (a ≡ FileRefused g l))
+    → ((pos (refusal_number a) ≡ pos n) × (pos (line_number a) ≡ pos l)) ↔ ((g : Ground) × (ground_number g ≡ n) × (a ≡ Err (LoadRefusal.FileRefused g l)))
 unfolding refusal_number line_number
-told_ground Done n l h m = (λ (e, f). let q : 0 ≡ n = cc in absurd (omega arith), λ (g, e, f). clash cc)
-told_ground (FileRefused g k) n l h m =
+told_ground (Ok tt) n l h m = (λ (e, f). let q : 0 ≡ n = cc in absurd (omega arith), λ (g, e, f). clash cc)
+told_ground (Err (LoadRefusal.FileRefused g k)) n l h m =
     (λ (e, f). (g, cc, let q : k ≡ l = cc in rw q), λ (g, e, f). (cc, cc))
-told_ground WrongLength n l h m = (λ (e, f). let q : 8 ≡ n = cc in absurd (omega arith), λ (g, e, f). clash cc)
+told_ground (Err LoadRefusal.WrongLength) n l h m = (λ (e, f). let q : 8 ≡ n = cc in absurd (omega arith), λ (g, e, f). clash cc)
 
 -- each number but 3 is that of one ground
 of_number : ℕ → Ground
@@ -107,37 +105,37 @@ number_three Unreachable e = absurd (omega arith)
 
 -- ---- that it is so
 
-wrong_length : (v : Verdict) (file t : List ℕ) → ((after_verdict v file t).answer ≡ WrongLength) ↔ ((v ≡ Sound) × (length t ≢ table_length))
+wrong_length : (v : Verdict) (file t : List ℕ) → ((after_verdict v file t).answer ≡ Err LoadRefusal.WrongLength) ↔ ((v ≡ Ok tt) × (length t ≢ table_length))
 unfolding after_verdict
-wrong_length (Fault g l) file t = (λ e. clash cc, λ (e, n). no_sound g l e)
-wrong_length Sound file t = (
-  λ e. (refl, λ q. let f : Done ≡ WrongLength = rw (eq-eqb (length t) table_length q) at e in clash cc),
+wrong_length (Err (g, l)) file t = (λ e. clash cc, λ (e, n). no_sound g l e)
+wrong_length (Ok tt) file t = (
+  λ e. (refl, λ q. let f : Ok tt ≡ Err LoadRefusal.WrongLength = rw (eq-eqb (length t) table_length q) at e in clash cc),
   λ (e, n). rw (ne_eqb (length t) table_length n),
 )
 
-is_eight : (a : Loaded) → pos (refusal_number a) ≡ pos 8 → (a ≡ WrongLength) × (line_number a ≡ 0)
+is_eight : (a : Loaded) → pos (refusal_number a) ≡ pos 8 → (a ≡ Err LoadRefusal.WrongLength) × (line_number a ≡ 0)
 unfolding refusal_number line_number
-is_eight Done e = clash cc
-is_eight (FileRefused g l) e = let q : ground_number g ≡ 8 = cc in absurd (omega (arith, (number_range g).1))
-is_eight WrongLength e = (refl, refl)
+is_eight (Ok tt) e = clash cc
+is_eight (Err (LoadRefusal.FileRefused g l)) e = let q : ground_number g ≡ 8 = cc in absurd (omega (arith, (number_range g).1))
+is_eight (Err LoadRefusal.WrongLength) e = (refl, refl)
 
 no_line : (a : Loaded) → pos (refusal_number a) ≡ pos 0 → line_number a ≡ 0
 unfolding refusal_number line_number
-no_line Done e = refl
-no_line (FileRefused g l) e = let q : ground_number g ≡ 0 = cc in absurd (omega (arith, (number_range g).0))
-no_line WrongLength e = clash cc
+no_line (Ok tt) e = refl
+no_line (Err (LoadRefusal.FileRefused g l)) e = let q : ground_number g ≡ 0 = cc in absurd (omega (arith, (number_range g).0))
+no_line (Err LoadRefusal.WrongLength) e = clash cc
 
 few_numbers : (a : Loaded) → refusal_number a ≤ 8
 unfolding refusal_number
-few_numbers Done = omega arith
-few_numbers (FileRefused g l) = omega (arith, (number_range g).1)
-few_numbers WrongLength = omega arith
+few_numbers (Ok tt) = omega arith
+few_numbers (Err (LoadRefusal.FileRefused g l)) = omega (arith, (number_range g).1)
+few_numbers (Err LoadRefusal.WrongLength) = omega arith
 
 module _ (file t : List ℕ) where
   abbrev answer : Loaded
   answer = (loaded file t).answer
 
-  order_iff : (verdict (procedure_text file) ≡ Sound) ↔ FileInOrder file t
+  order_iff : (verdict (procedure_text file) ≡ Ok tt) ↔ FileInOrder file t
   order_iff = case_b (eqb (length file) 0)
       (λ y. let z = eqb-true (length file) 0 y in (λ e. inl z, λ o. rw (text_none file z) ending_sound))
       (λ y. let n = eqb-false (length file) 0 y in
@@ -179,7 +177,7 @@ module _ (file t : List ℕ) where
       let w = told_ground answer 1 l (omega arith) (omega arith) in (
         λ e. let (g, q, f) = w.0 e in
             let y : g ≡ Lines = by_number g (λ z. omega arith) ∙ ap of_number q in
-            (lines_iff file t l).0 (f ∙ ap (λ x. FileRefused x l) y),
+            (lines_iff file t l).0 (f ∙ ap (λ x. Err (LoadRefusal.FileRefused x l)) y),
         λ x. let a = (lines_iff file t l).1 x in (rw a, rw a),
       )
 

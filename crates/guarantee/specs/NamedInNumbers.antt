@@ -1,6 +1,8 @@
 -- Whom the answers of a step, a give and a take name, in the numbers that C sees: -1, or a thread of which the state before the call says how it came into the
 -- answer. Of any buffers. Assumes nothing.
-use Rattle.std.specs.Prelude.{ℕ, ◌<◌, ◌≡◌, true, false, ◌⊎◌, List, ℤ, pos, negsuc}
+use Rattle.collector.specs.Answers.{Collected}
+use Rattle.rules.specs.Answers.{Given, Ran, Stepped, Taken}
+use Rattle.std.specs.Prelude.{ℕ, ◌<◌, ◌≡◌, true, false, ◌⊎◌, List, ℤ, pos, negsuc, Err, None, Ok, Some}
 use Rattle.std.proofs.Common.{arith, ap, ◌∙◌, SFits, to_z, of_z, ltb-true}
 use Rattle.std.proofs.Math.Path.{refl, sym}
 use Rattle.std.proofs.Math.Logic.{inl, inr}
@@ -22,17 +24,7 @@ use Rattle.rules.specs.declared.Refusal.TheVariants as Ground
 use Rattle.rules.specs.declared.Deed.{Deed}
 use Rattle.rules.specs.declared.Move.{Move}
 use Rattle.rules.specs.declared.Move.TheVariants.{Ends, Calls, Waits, Goes, Creates, Spawns, Meets, LacksThread, LacksChannel}
-use Rattle.rules.specs.declared.Stepped.{Stepped}
-use Rattle.rules.specs.declared.Stepped.TheVariants as Stepped
-use Rattle.rules.specs.declared.Given.{Given}
-use Rattle.rules.specs.declared.Given.TheVariants as Given
-use Rattle.rules.specs.declared.Taken.{Taken}
-use Rattle.rules.specs.declared.Taken.TheVariants as Taken
-use Rattle.rules.specs.declared.Ran.{Ran}
-use Rattle.rules.specs.declared.Ran.TheVariants as Ran
 use Rattle.collector.specs.Collect.{seated_collect}
-use Rattle.collector.specs.declared.Collected.{Collected}
-use Rattle.collector.specs.declared.Collected.TheVariants as Collected
 use Rattle.engine.specs.Numbers.{refusal_number, partner_number}
 use Rattle.engine.specs.Numbers.Laws.{ground_range}
 use Rattle.engine_laws.specs.Lists.{step, give, take, run}
@@ -59,37 +51,37 @@ unfolding refusal_by step_result give_result take_result run_result collect_resu
 refusal_fits table state rights seat (on (step t)) = go (seated_step table state rights seat t).answer
   where
     go : (a : Stepped) → SFits w32 (step_numbers a).refusal
-    go (Stepped.Done n d) = zero_fits
-    go (Stepped.Refused r) = ground_fits r
+    go (Ok (n, d)) = zero_fits
+    go (Err r) = ground_fits r
 refusal_fits table state rights seat (on (give p v h)) = go (seated_give table state rights seat p (of_z w32 (to_z w32 v))).answer
   where
     go : (a : Given) → SFits w32 (give_numbers a).refusal
-    go (Given.Met u) = zero_fits
-    go Given.Nobody = zero_fits
-    go (Given.Refused r) = ground_fits r
+    go (Ok (Some u)) = zero_fits
+    go (Ok None) = zero_fits
+    go (Err r) = ground_fits r
 refusal_fits table state rights seat (on (take p)) = go (seated_take table state rights seat p).answer
   where
     go : (a : Taken) → SFits w32 (take_numbers a).refusal
-    go (Taken.Met u v) = zero_fits
-    go Taken.Nobody = zero_fits
-    go (Taken.Refused r) = ground_fits r
+    go (Ok (Some (u, v))) = zero_fits
+    go (Ok None) = zero_fits
+    go (Err r) = ground_fits r
 refusal_fits table state rights seat (on (run n)) = go (seated_run table state rights seat n).answer
   where
     go : (a : Ran) → SFits w32 (run_numbers a).refusal
-    go (Ran.Done m r) = zero_fits
-    go (Ran.Refused r) = ground_fits r
+    go (Ok (m, r)) = zero_fits
+    go (Err r) = ground_fits r
 refusal_fits table state rights seat collect = go (seated_collect table state rights seat).answer
   where
     go : (a : Collected) → SFits w32 (collect_numbers a).refusal
-    go (Collected.Done n) = zero_fits
-    go (Collected.Refused r) = ground_fits r
+    go (Ok n) = zero_fits
+    go (Err r) = ground_fits r
 
 -- ---- a step that is done
 
-step_zero : (a : Stepped) → (step_numbers a).refusal ≡ pos 0 → (n : ℕ) × (d : Deed) × (a ≡ Stepped.Done n d)
+step_zero : (a : Stepped) → (step_numbers a).refusal ≡ pos 0 → (n : ℕ) × (d : Deed) × (a ≡ Ok (n, d))
 unfolding step_numbers step_fields
-step_zero (Stepped.Done n d) e = (n, d, refl)
-step_zero (Stepped.Refused r) e = absurd (not_zero r (sym e ∙ ground_signed r))
+step_zero (Ok (n, d)) e = (n, d, refl)
+step_zero (Err r) e = absurd (not_zero r (sym e ∙ ground_signed r))
 
 -- whom it names, by its move: a thread that it met was waiting, the row of one that it started was free
 step_by : (tb : Table) (s : State) (t n : ℕ) (m : Move) → Chosen tb s t m → (step_numbers (step_answer n m)).refusal ≡ pos 0
@@ -106,7 +98,7 @@ step_by tb s t n LacksThread k e = clash cc
 step_by tb s t n LacksChannel k e = clash cc
 
 module _ (table state rights : List ℕ) (seat t : ℕ) (e : (step_result table state rights seat t).answer.refusal ≡ pos 0) where
-  done_so : (n : ℕ) × (d : Deed) × ((seated_step table state rights seat t).answer ≡ Stepped.Done n d)
+  done_so : (n : ℕ) × (d : Deed) × ((seated_step table state rights seat t).answer ≡ Ok (n, d))
   unfolding step_result in_numbers
   done_so = step_zero (seated_step table state rights seat t).answer e
 
@@ -117,14 +109,14 @@ module _ (table state rights : List ℕ) (seat t : ℕ) (e : (step_result table 
   made_so =
       let (n, d, q) = done_so in
       let call = step_call table state t in
-      let may = seat_answer table state rights seat Right.StepAndRun Stepped.Refused call (Stepped.Done n d) (λ r f. clash cc) q in
-      let plain = seat_granted table state rights seat Right.StepAndRun Stepped.Refused call may in
-      let f : call.answer ≡ Stepped.Done n d = sym (ap (λ (o : Outcome Stepped). o.answer) plain) ∙ q in
-      let g = ((call_answer Stepped.Refused table state (step_on (table_of table) (view state) t) (Stepped.Done n d) (λ r x y. clash cc)).0 f).1 in
+      let may = seat_answer table state rights seat Right.StepAndRun Err call (Ok (n, d)) (λ r f. clash cc) q in
+      let plain = seat_granted table state rights seat Right.StepAndRun Err call may in
+      let f : call.answer ≡ Ok (n, d) = sym (ap (λ (o : Outcome Stepped). o.answer) plain) ∙ q in
+      let g = ((call_answer Err table state (step_on (table_of table) (view state) t) (Ok (n, d)) (λ r x y. clash cc)).0 f).1 in
       let h = sym (step_answered (table_of table) (view state) t) ∙ g in
       case_b (can_step (view state) t)
       (λ y. (y, q ∙ sym (rw y at h)))
-      (λ y. let z : Stepped.Refused Ground.Thread ≡ Stepped.Done n d = rw y at h in clash cc)
+      (λ y. let z : Err Ground.Thread ≡ Ok (n, d) = rw y at h in clash cc)
 
   -- a step that is done is that of a ready thread
   pub steps_ready : (t < max_threads) × (is_ready (thread (view state) t) ≡ true)
@@ -142,43 +134,43 @@ module _ (table state rights : List ℕ) (seat t : ℕ) (e : (step_result table 
 -- ---- a give and a take that are done name a thread that was waiting
 
 module _ (table state rights : List ℕ) (seat p : ℕ) where
-  pub give_waits : (v u : ℕ) → (seated_give table state rights seat p v).answer ≡ Given.Met u → (u < max_threads) × (is_waiting (thread (view state) u) ≡ true)
+  pub give_waits : (v u : ℕ) → (seated_give table state rights seat p v).answer ≡ Ok (Some u) → (u < max_threads) × (is_waiting (thread (view state) u) ≡ true)
   unfolding seated_give give_call
   give_waits v u e =
       let tb = table_of table in
       let s = view state in
-      let a = seat_answer table state rights seat (Right.Give p) Given.Refused (give_call table state p v) (Given.Met u) (λ r h. clash cc) e in
-      let g : (give_call table state p v).answer ≡ Given.Met u = rw (seat_granted table state rights seat (Right.Give p) Given.Refused (give_call table state p v) a) at e in
-      let f = ((call_answer Given.Refused table state (give_on tb s p v) (Given.Met u) (λ r h i. clash cc)).0 g).1 in
+      let a = seat_answer table state rights seat (Right.Give p) Err (give_call table state p v) (Ok (Some u)) (λ r h. clash cc) e in
+      let g : (give_call table state p v).answer ≡ Ok (Some u) = rw (seat_granted table state rights seat (Right.Give p) Err (give_call table state p v) a) at e in
+      let f = ((call_answer Err table state (give_on tb s p v) (Ok (Some u)) (λ r h i. clash cc)).0 g).1 in
       let (l, j, h, i) = give_met tb s p v u f in
       let o = partner_answers tb s bench In p u j h in
       (o.thread_in, o.waits)
 
-  pub take_waits : (u v : ℕ) → (seated_take table state rights seat p).answer ≡ Taken.Met u v → (u < max_threads) × (is_waiting (thread (view state) u) ≡ true)
+  pub take_waits : (u v : ℕ) → (seated_take table state rights seat p).answer ≡ Ok (Some (u, v)) → (u < max_threads) × (is_waiting (thread (view state) u) ≡ true)
   unfolding seated_take take_call
   take_waits u v e =
       let tb = table_of table in
       let s = view state in
-      let a = seat_answer table state rights seat (Right.Take p) Taken.Refused (take_call table state p) (Taken.Met u v) (λ r h. clash cc) e in
-      let g : (take_call table state p).answer ≡ Taken.Met u v = rw (seat_granted table state rights seat (Right.Take p) Taken.Refused (take_call table state p) a) at e in
-      let f = ((call_answer Taken.Refused table state (take_on tb s p) (Taken.Met u v) (λ r h i. clash cc)).0 g).1 in
+      let a = seat_answer table state rights seat (Right.Take p) Err (take_call table state p) (Ok (Some (u, v))) (λ r h. clash cc) e in
+      let g : (take_call table state p).answer ≡ Ok (Some (u, v)) = rw (seat_granted table state rights seat (Right.Take p) Err (take_call table state p) a) at e in
+      let f = ((call_answer Err table state (take_on tb s p) (Ok (Some (u, v))) (λ r h i. clash cc)).0 g).1 in
       let (l, j, h, i, k) = take_met tb s p u v f in
       let o = partner_answers tb s bench Out p u j h in
       (o.thread_in, o.waits)
 
-  give_by : (a : Given) → ((u : ℕ) → a ≡ Given.Met u → (u < max_threads) × (is_waiting (thread (view state) u) ≡ true)) → (give_numbers a).refusal ≡ pos 0
+  give_by : (a : Given) → ((u : ℕ) → a ≡ Ok (Some u) → (u < max_threads) × (is_waiting (thread (view state) u) ≡ true)) → (give_numbers a).refusal ≡ pos 0
       → NamesOf (give_numbers a).thread (λ u. is_waiting (thread (view state) u) ≡ true)
   unfolding give_numbers give_fields
-  give_by (Given.Met u) h e = let (l, w) = h u refl in inr (u, l, to_z_pos w32 {n = u} (omega arith), w)
-  give_by Given.Nobody h e = inl refl
-  give_by (Given.Refused r) h e = absurd (not_zero r (sym e ∙ ground_signed r))
+  give_by (Ok (Some u)) h e = let (l, w) = h u refl in inr (u, l, to_z_pos w32 {n = u} (omega arith), w)
+  give_by (Ok None) h e = inl refl
+  give_by (Err r) h e = absurd (not_zero r (sym e ∙ ground_signed r))
 
-  take_by : (a : Taken) → ((u v : ℕ) → a ≡ Taken.Met u v → (u < max_threads) × (is_waiting (thread (view state) u) ≡ true)) → (take_numbers a).refusal ≡ pos 0
+  take_by : (a : Taken) → ((u v : ℕ) → a ≡ Ok (Some (u, v)) → (u < max_threads) × (is_waiting (thread (view state) u) ≡ true)) → (take_numbers a).refusal ≡ pos 0
       → NamesOf (take_numbers a).thread (λ u. is_waiting (thread (view state) u) ≡ true)
   unfolding take_numbers take_fields
-  take_by (Taken.Met u v) h e = let (l, w) = h u v refl in inr (u, l, to_z_pos w32 {n = u} (omega arith), w)
-  take_by Taken.Nobody h e = inl refl
-  take_by (Taken.Refused r) h e = absurd (not_zero r (sym e ∙ ground_signed r))
+  take_by (Ok (Some (u, v))) h e = let (l, w) = h u v refl in inr (u, l, to_z_pos w32 {n = u} (omega arith), w)
+  take_by (Ok None) h e = inl refl
+  take_by (Err r) h e = absurd (not_zero r (sym e ∙ ground_signed r))
 
   pub give_names : (z : ℤ) → (give_result table state rights seat p z).answer.refusal ≡ pos 0
       → NamesOf (give_result table state rights seat p z).answer.thread (λ u. is_waiting (thread (view state) u) ≡ true)

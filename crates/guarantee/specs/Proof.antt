@@ -1,9 +1,8 @@
 -- The whole claim holds, of every file that loads. Assumes nothing.
-use Rattle.std.specs.Prelude.{ℕ, ◌<◌, ◌≡◌, true, List, map, length, get_or}
+use Rattle.std.specs.Prelude.{ℕ, ◌<◌, ◌≡◌, true, List, map, length, get_or, Ok}
 use Rattle.std.proofs.Common.{sym, ◌∙◌}
 use Rattle.table.specs.Table.{Table, table_of}
 use Rattle.loader.specs.Load.{loaded, accepted}
-use Rattle.loader.specs.declared.Loaded.TheVariants.{Done}
 use Rattle.loader_laws.specs.Yields.{loaded_small, loaded_accepted}
 use Rattle.state.specs.State.{State, state_length, view}
 use Rattle.rules.specs.Calls.{start_call}
@@ -15,7 +14,6 @@ use Rattle.engine_laws.specs.Lists.{Call}
 use Rattle.collector.specs.Collect.{taken_count, collect_call}
 use Rattle.collector_laws.specs.Linked.{waiting_linked}
 use Rattle.collector_laws.specs.Out.{taken_thread, taken_sealed}
-use Rattle.collector.specs.declared.Collected.TheVariants as Collected
 use Rattle.guarantee.specs.Claim.{Any, on, reached_by, Counted, Untouched, Linked, Guarantee}
 use Rattle.guarantee.specs.ClaimKept.{collect_done, collect_view, taken_is, list_sound, list_not_ten}
 use Rattle.guarantee.specs.Later.{list_rests}
@@ -55,7 +53,7 @@ module _ (table : List ℕ) (ok : accepted table ≡ true) (fit : (i : ℕ) → 
 
     -- a collection that follows the list is never refused
     pub collection_made : (ks : List Any)
-        → (collect_call table (reached_by table state ks)).answer ≡ Collected.Done (taken_count (table_of table) (view (reached_by table state ks)))
+        → (collect_call table (reached_by table state ks)).answer ≡ Ok (taken_count (table_of table) (view (reached_by table state ks)))
     collection_made ks = collect_done table ok (reached_by table state ks) (reached_sound ks)
 
     pub accepted_guarantee : (ks : List Any) → Guarantee table state ks
@@ -69,6 +67,6 @@ module _ (table : List ℕ) (ok : accepted table ≡ true) (fit : (i : ℕ) → 
     }
 
 -- ---- the theorem: document 01's demand 3, of every file that loads, whatever the two buffers had, and of every list of calls
-pub guarantee : (file t : List ℕ) → (loaded file t).answer ≡ Done → (state : List ℕ) → length state ≡ state_length → (ks : List Any)
+pub guarantee : (file t : List ℕ) → (loaded file t).answer ≡ Ok tt → (state : List ℕ) → length state ≡ state_length → (ks : List Any)
     → Guarantee (loaded file t).table state ks
 guarantee file t e = accepted_guarantee (loaded file t).table (loaded_accepted file t e) (loaded_small file t e)

@@ -1,6 +1,7 @@
 -- Why a run ends, in the numbers that C sees: what `pithread_run` answers and leaves, said by what `pithread_step` answers and leaves at the same seat on the bytes
 -- that shorter runs leave. Of buffers of bytes, whatever their length and whatever they hold. Assumes nothing.
-use Rattle.std.specs.Prelude.{ℕ, zero, suc, ◌<◌, ◌≤◌, ◌≡◌, true, false, ◌⊎◌, ◌↔◌, List, ltb, ℤ, pos, negsuc, get_or}
+use Rattle.rules.specs.Answers.{Ran, Stepped}
+use Rattle.std.specs.Prelude.{ℕ, zero, suc, ◌<◌, ◌≤◌, ◌≡◌, true, false, ◌⊎◌, ◌↔◌, List, ltb, ℤ, pos, negsuc, get_or, Err, Ok}
 use native.Mathlib.Omega.{arith}
 use Rattle.std.proofs.Math.Path.{refl, sym, ap}
 use Rattle.std.proofs.Common.{◌∙◌, inr}
@@ -18,16 +19,11 @@ use Rattle.rules.specs.Calls.Laws.{start_admits, call_answer, call_admitted}
 use Rattle.rules.specs.Seats.{seat_admission, seated_step, seated_run}
 use Rattle.rules.specs.Seats.Laws.{seat_admits, state_unread, seat_granted, seat_answer}
 use Rattle.rules.specs.declared.Right.TheVariants.{StepAndRun}
-use Rattle.rules.specs.declared.Admission.TheVariants as Admission
 use Rattle.rules.specs.declared.Refusal.{Refusal}
 use Rattle.rules.specs.declared.Refusal.TheVariants as Ground
 use Rattle.rules.specs.declared.Deed.{Deed}
-use Rattle.rules.specs.declared.Stepped.{Stepped}
-use Rattle.rules.specs.declared.Stepped.TheVariants as Stepped
 use Rattle.rules.specs.declared.Reason.{Reason}
 use Rattle.rules.specs.declared.Reason.TheVariants.{AllDone, NoneReady, LackedThread, LackedChannel}
-use Rattle.rules.specs.declared.Ran.{Ran}
-use Rattle.rules.specs.declared.Ran.TheVariants as Ran
 use Rattle.engine.specs.Numbers.{refusal_number, reason_number, held_up_number}
 use Rattle.engine_laws.specs.Entry.{Admitted, admitted_iff}
 use Rattle.engine_laws.specs.Answers.{step_performed}
@@ -137,31 +133,31 @@ reason_signed : (r : Reason) → number r ≡ pos (reason_number r)
 unfolding number
 reason_signed r = to_z_pos w32 {n = reason_number r} (omega (arith, few_reasons r))
 
-pub run_done : (x : Ran) → (run_numbers x).refusal ≡ pos 0 → (k : ℕ) × (r : Reason) × (x ≡ Ran.Done k r)
+pub run_done : (x : Ran) → (run_numbers x).refusal ≡ pos 0 → (k : ℕ) × (r : Reason) × (x ≡ Ok (k, r))
 unfolding run_numbers run_fields
-run_done (Ran.Done k r) e = (k, r, refl)
-run_done (Ran.Refused g) e = absurd (not_zero g (sym e ∙ ground_signed g))
+run_done (Ok (k, r)) e = (k, r, refl)
+run_done (Err g) e = absurd (not_zero g (sym e ∙ ground_signed g))
 
 -- ---- a run as the rules have it
 
 -- the run began with `state`, which its seat might run, and b is another state of the run
-module _ (table state rights : List ℕ) (seat : ℕ) (may : seat_admission table state rights seat StepAndRun ≡ Admission.Admitted) (b : List ℕ) where
+module _ (table state rights : List ℕ) (seat : ℕ) (may : seat_admission table state rights seat StepAndRun ≡ Ok tt) (b : List ℕ) where
   -- the seat may step wherever a step would be admitted
-  pub may_step : Admitted table b → seat_admission table b rights seat StepAndRun ≡ Admission.Admitted
+  pub may_step : Admitted table b → seat_admission table b rights seat StepAndRun ≡ Ok tt
   may_step a =
       let (l, s, i, h) = seat_admits table state rights seat StepAndRun may in
       state_unread table state rights seat StepAndRun b (((admitted_iff table b).0 a).0.1 ∙ sym (start_admits table state s).1) ∙ may
 
   -- the number is that of the step's answer
-  pub done_number : (a : ℕ) (d : Deed) → due_answer table b ≡ Stepped.Done a d → due_refusal table b rights seat ≡ pos 0
+  pub done_number : (a : ℕ) (d : Deed) → due_answer table b ≡ Ok (a, d) → due_refusal table b rights seat ≡ pos 0
   unfolding due_refusal step_result seated_step in_numbers step_numbers step_fields step_call
   done_number a d e =
-      let y = ((call_answer Stepped.Refused table b (step_on (table_of table) (view b) (due b)) (Stepped.Done a d) (λ r f g. clash cc)).0 e).0 in
-      ap (λ (o : Outcome Stepped). (step_numbers o.answer).refusal) (seat_granted table b rights seat StepAndRun Stepped.Refused (step_call table b (due b)) (may_step y))
+      let y = ((call_answer Err table b (step_on (table_of table) (view b) (due b)) (Ok (a, d)) (λ r f g. clash cc)).0 e).0 in
+      ap (λ (o : Outcome Stepped). (step_numbers o.answer).refusal) (seat_granted table b rights seat StepAndRun Err (step_call table b (due b)) (may_step y))
       ∙ ap (λ x. (step_numbers x).refusal) e
 
-  row_number : (r : Refusal) → at_seat_entry r ≡ false → (due_answer table b ≡ Stepped.Refused r → Admitted table b)
-      → (due_answer table b ≡ Stepped.Refused r) ↔ (due_refusal table b rights seat ≡ pos (refusal_number r))
+  row_number : (r : Refusal) → at_seat_entry r ≡ false → (due_answer table b ≡ Err r → Admitted table b)
+      → (due_answer table b ≡ Err r) ↔ (due_refusal table b rights seat ≡ pos (refusal_number r))
   unfolding due_refusal refusal_by RefusedBy RefusedWith asked
   row_number r own y =
       let k = on (step (due b)) in (
@@ -170,11 +166,11 @@ module _ (table state rights : List ℕ) (seat : ℕ) (may : seat_admission tabl
             ((refused_iff table b rights seat k r).0 (refused_by table b rights seat k r e)),
       )
 
-  thread_row_number : (due_answer table b ≡ Stepped.Refused Ground.ThreadRow) ↔ (due_refusal table b rights seat ≡ pos 13)
+  thread_row_number : (due_answer table b ≡ Err Ground.ThreadRow) ↔ (due_refusal table b rights seat ≡ pos 13)
   unfolding refusal_number at_seat_entry
   thread_row_number = row_number Ground.ThreadRow refl (λ e. ((step_thread_row_iff table b (due b)).0 e).0)
 
-  channel_row_number : (due_answer table b ≡ Stepped.Refused Ground.ChannelRow) ↔ (due_refusal table b rights seat ≡ pos 14)
+  channel_row_number : (due_answer table b ≡ Err Ground.ChannelRow) ↔ (due_refusal table b rights seat ≡ pos 14)
   unfolding refusal_number at_seat_entry
   channel_row_number = row_number Ground.ChannelRow refl (λ e. ((step_channel_row_iff table b (due b)).0 e).0)
 
@@ -184,19 +180,19 @@ module _ (table b : List ℕ) where
   unfolding can_step
   can_low e = ltb-true (due b) max_threads (search parts)
 
-  thread_row_low : due_answer table b ≡ Stepped.Refused Ground.ThreadRow → due b < max_threads
+  thread_row_low : due_answer table b ≡ Err Ground.ThreadRow → due b < max_threads
   thread_row_low e = can_low ((step_thread_row_iff table b (due b)).0 e).1
 
-  channel_row_low : due_answer table b ≡ Stepped.Refused Ground.ChannelRow → due b < max_threads
+  channel_row_low : due_answer table b ≡ Err Ground.ChannelRow → due b < max_threads
   channel_row_low e = can_low ((step_channel_row_iff table b (due b)).0 e).1
 
-module _ (table state rights : List ℕ) (seat : ℕ) (may : seat_admission table state rights seat StepAndRun ≡ Admission.Admitted)
+module _ (table state rights : List ℕ) (seat : ℕ) (may : seat_admission table state rights seat StepAndRun ≡ Ok tt)
     (n k : ℕ) (r : Reason) (left : List ℕ) (run : RunEnds table state n k r left) (l : n < 65536) where
   abbrev b : List ℕ
   b = after_turns table k state
 
   abbrev a : RunAnswer
-  a = run_numbers (Ran.Done k r)
+  a = run_numbers (Ok (k, r))
 
   reason_is : a.reason ≡ number r
   unfolding run_numbers run_fields number
@@ -261,7 +257,7 @@ module _ (table state rights : List ℕ) (seat : ℕ) (may : seat_admission tabl
         (λ e. let t = three_is r (sym reason_is ∙ e) in channel_held t.0 t.1) x;
   }
 
-  answered : (x : Ran) → x ≡ Ran.Done k r → RunTurns table state rights seat n k (run_numbers x) left
+  answered : (x : Ran) → x ≡ Ok (k, r) → RunTurns table state rights seat n k (run_numbers x) left
   answered x q = rw q answers
 
 -- ---- a run of fewer steps
@@ -274,13 +270,13 @@ turns_last table (suc i) state = turns_last table i (after_turn table state)
 
 module _ (table b : List ℕ) where
   -- where the step call makes a step, some thread is ready
-  pub done_ready : (a : ℕ) (d : Deed) → due_answer table b ≡ Stepped.Done a d → Admitted table b × (can_step (view b) (due b) ≡ true)
+  pub done_ready : (a : ℕ) (d : Deed) → due_answer table b ≡ Ok (a, d) → Admitted table b × (can_step (view b) (due b) ≡ true)
   unfolding step_call
   done_ready a d e =
-      let (y, f) = (call_answer Stepped.Refused table b (step_on (table_of table) (view b) (due b)) (Stepped.Done a d) (λ r f g. clash cc)).0 e in
+      let (y, f) = (call_answer Err table b (step_on (table_of table) (view b) (due b)) (Ok (a, d)) (λ r f g. clash cc)).0 e in
       (y, (step_performed (table_of table) (view b) (due b) a d f).0)
 
-  not_idle : (a : ℕ) (d : Deed) → due_answer table b ≡ Stepped.Done a d → ¬ Idle b
+  not_idle : (a : ℕ) (d : Deed) → due_answer table b ≡ Ok (a, d) → ¬ Idle b
   unfolding can_step
   not_idle a d e idle =
       let c = (done_ready a d e).1 in
@@ -288,7 +284,7 @@ module _ (table b : List ℕ) where
 
 -- where a run makes k steps, a run of at most i of them, i being at most k, makes all i and leaves the bytes after i turns
 module _ (table state : List ℕ) (fit : (i : ℕ) → get_or table i 0 < 256) (small : (i : ℕ) → get_or state i 0 < 256) (k : ℕ)
-    (made : (i : ℕ) → i < k → (a : ℕ) × (d : Deed) × (due_answer table (after_turns table i state) ≡ Stepped.Done a d)) where
+    (made : (i : ℕ) → i < k → (a : ℕ) × (d : Deed) × (due_answer table (after_turns table i state) ≡ Ok (a, d))) where
   all_made : (i j : ℕ) (r : Reason) (left : List ℕ) → RunEnds table state i j r left → i ≤ k → left ≡ after_turns table i state
   unfolding left_by
   all_made i j r left e h = case_b (ltb j i)
@@ -296,7 +292,7 @@ module _ (table state : List ℕ) (fit : (i : ℕ) → get_or table i 0 < 256) (
       (λ y. let q : j ≡ i = omega (arith, ltb-false j i y, e.at_most) in
       e.leaves ∙ ap (λ x. left_by x (after_turns table j state)) (e.all_done.1 q) ∙ ap (λ (x : ℕ). after_turns table x state) q)
     where
-      not_short : (a : ℕ) (d : Deed) → due_answer table (after_turns table j state) ≡ Stepped.Done a d → j < i → (r : Reason) → RunEnds table state i j r left → ⊥
+      not_short : (a : ℕ) (d : Deed) → due_answer table (after_turns table j state) ≡ Ok (a, d) → j < i → (r : Reason) → RunEnds table state i j r left → ⊥
       not_short a d f l AllDone e = let q : j ≡ i = e.all_done.0 refl in omega arith
       not_short a d f l NoneReady e = not_idle table (after_turns table j state) a d f (e.none_ready.0 refl).1
       not_short a d f l (LackedThread t) e = let g = ((e.lacked_thread t).0 refl).2 in clash cc
@@ -305,16 +301,16 @@ module _ (table state : List ℕ) (fit : (i : ℕ) → get_or table i 0 < 256) (
 -- ---- the theorem
 
 module _ (table state rights : List ℕ) (seat : ℕ) (fit : (i : ℕ) → get_or table i 0 < 256) (small : (i : ℕ) → get_or state i 0 < 256) where
-  module _ (may : seat_admission table state rights seat StepAndRun ≡ Admission.Admitted) (on_state : Admitted table state)
-      (k : ℕ) (made : (i : ℕ) → i < k → (a : ℕ) × (d : Deed) × (due_answer table (after_turns table i state) ≡ Stepped.Done a d)) where
+  module _ (may : seat_admission table state rights seat StepAndRun ≡ Ok tt) (on_state : Admitted table state)
+      (k : ℕ) (made : (i : ℕ) → i < k → (a : ℕ) × (d : Deed) × (due_answer table (after_turns table i state) ≡ Ok (a, d))) where
     -- a run of i steps leaves what i turns leave
     pub after_run_lem : (i : ℕ) → i ≤ k → after_run table state rights seat i ≡ after_turns table i state
     unfolding run_result in_numbers seated_run run_call run_on
     after_run_lem i h =
-        let same = seat_granted table state rights seat StepAndRun Ran.Refused (run_call table state i) may in
+        let same = seat_granted table state rights seat StepAndRun Err (run_call table state i) may in
         let c = course_of (table_of table) i (view state) in
-        let done : (run_call table state i).answer ≡ Ran.Done c.steps c.reason
-        = ap (λ (o : Outcome Ran). o.answer) (call_admitted Ran.Refused table state (run_on (table_of table) (view state) i) on_state) in
+        let done : (run_call table state i).answer ≡ Ok (c.steps, c.reason)
+        = ap (λ (o : Outcome Ran). o.answer) (call_admitted Err table state (run_on (table_of table) (view state) i) on_state) in
         ap (λ (o : Outcome Ran). o.state) same
         ∙ all_made table state fit small k made i c.steps c.reason (run_call table state i).state (run_ends table state fit small i c.steps c.reason done) h
 
@@ -326,7 +322,7 @@ module _ (table state rights : List ℕ) (seat : ℕ) (fit : (i : ℕ) → get_o
         let b = after_turns table i state in
         let (a, d, f) = made i h in
         let m = may_step table state rights seat may b (done_ready table b a d f).0 in
-        let same = seat_granted table b rights seat StepAndRun Stepped.Refused (step_call table b (due b)) m in
+        let same = seat_granted table b rights seat StepAndRun Err (step_call table b (due b)) m in
         turns_last table i state ∙ sym (ap (λ (o : Outcome Stepped). turn_past o.state (due b)) same)
 
     in_runs : (n : ℕ) (a : RunAnswer) (left : List ℕ) → RunTurns table state rights seat n k a left → RunAnswers table state rights seat n k a left
@@ -349,15 +345,15 @@ module _ (table state rights : List ℕ) (seat : ℕ) (fit : (i : ℕ) → get_o
 
   module _ (n : ℕ) (l : n < 65536) where
     -- a run at a seat that is not refused is the run without seats
-    pub run_told : (k : ℕ) (r : Reason) → (seated_run table state rights seat n).answer ≡ Ran.Done k r
+    pub run_told : (k : ℕ) (r : Reason) → (seated_run table state rights seat n).answer ≡ Ok (k, r)
         → RunAnswers table state rights seat n k (run_numbers (seated_run table state rights seat n).answer) (seated_run table state rights seat n).state
     unfolding seated_run run_call
     run_told k r q =
         let call = run_call table state n in
-        let may = seat_answer table state rights seat StepAndRun Ran.Refused call (Ran.Done k r) (λ g f. clash cc) q in
-        let same = seat_granted table state rights seat StepAndRun Ran.Refused call may in
-        let done : call.answer ≡ Ran.Done k r = sym (ap (λ (o : Outcome Ran). o.answer) same) ∙ q in
-        let admitted = ((call_answer Ran.Refused table state (run_on (table_of table) (view state) n) (Ran.Done k r) (λ g f h. clash cc)).0 done).0 in
+        let may = seat_answer table state rights seat StepAndRun Err call (Ok (k, r)) (λ g f. clash cc) q in
+        let same = seat_granted table state rights seat StepAndRun Err call may in
+        let done : call.answer ≡ Ok (k, r) = sym (ap (λ (o : Outcome Ran). o.answer) same) ∙ q in
+        let admitted = ((call_answer Err table state (run_on (table_of table) (view state) n) (Ok (k, r)) (λ g f h. clash cc)).0 done).0 in
         let ended = run_ends table state fit small n k r done in
         in_runs may admitted k ended.steps n _ _
         (rw same (answered table state rights seat may n k r call.state ended l call.answer done))

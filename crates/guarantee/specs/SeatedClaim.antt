@@ -1,26 +1,19 @@
 -- The whole claim, demand 3 of document 01, on every list of calls that are made at seats (document 02, S-6), from the start of a file that loads. Each call of
 -- a list names its list of rights and its seat, which may be others in every call, of any length and with any numbers. This file says it and
 -- `SeatedProof.antt` shows it; what it says of a state is as `Claim.antt` has it.
-use Rattle.std.specs.Prelude.{ℕ, ◌≡◌, Bool, true, false, not, ◌&&◌, List, [], ◌∷◌, ◌++◌, map}
+use Rattle.std.specs.Prelude.{ℕ, ◌≡◌, Bool, true, false, not, ◌&&◌, List, [], ◌∷◌, ◌++◌, map, Err, Ok}
 use Rattle.table.specs.Table.{table_of}
 use Rattle.state.specs.State.{view, thread, in_use}
 use Rattle.rules.specs.Moves.{move}
 use Rattle.rules.specs.Calls.{start_call}
 use Rattle.rules.specs.Seats.{seated_step, seated_give, seated_take, seated_run}
 use Rattle.rules.specs.declared.Right.{Right}
-use Rattle.rules.specs.declared.Right.TheVariants as Right
 use Rattle.rules.specs.declared.Refusal.{Refusal}
 use Rattle.rules.specs.declared.Refusal.TheVariants as Ground
-use Rattle.rules.specs.declared.Started.TheVariants as Started
-use Rattle.rules.specs.declared.Stepped.TheVariants as Stepped
-use Rattle.rules.specs.declared.Given.TheVariants as Given
-use Rattle.rules.specs.declared.Taken.TheVariants as Taken
-use Rattle.rules.specs.declared.Ran.TheVariants as Ran
 use Rattle.rules_laws.specs.Frames.{elem, movers}
 use Rattle.engine_laws.specs.Movers.{ran_movers}
 use Rattle.engine_laws.specs.Lists.{Call, step, give, take, run}
 use Rattle.collector.specs.Collect.{seated_collect}
-use Rattle.collector.specs.declared.Collected.TheVariants as Collected
 use Rattle.guarantee.specs.Claim.{Any, on, collect, unless_refused, met_by_give, met_by_take, in_turns, Counted, Linked}
 
 -- ---- lists of calls at seats
@@ -89,11 +82,11 @@ UntouchedAt table state rights seat later =
 
 -- a call at a seat is answered by a refusal on ground r
 unfoldable pub RefusedAt : List ℕ → List ℕ → List ℕ → ℕ → Any → Refusal → Type 0
-RefusedAt table state rights seat (on (step t)) r = (seated_step table state rights seat t).answer ≡ Stepped.Refused r
-RefusedAt table state rights seat (on (give p v h)) r = (seated_give table state rights seat p v).answer ≡ Given.Refused r
-RefusedAt table state rights seat (on (take p)) r = (seated_take table state rights seat p).answer ≡ Taken.Refused r
-RefusedAt table state rights seat (on (run n)) r = (seated_run table state rights seat n).answer ≡ Ran.Refused r
-RefusedAt table state rights seat collect r = (seated_collect table state rights seat).answer ≡ Collected.Refused r
+RefusedAt table state rights seat (on (step t)) r = (seated_step table state rights seat t).answer ≡ Err r
+RefusedAt table state rights seat (on (give p v h)) r = (seated_give table state rights seat p v).answer ≡ Err r
+RefusedAt table state rights seat (on (take p)) r = (seated_take table state rights seat p).answer ≡ Err r
+RefusedAt table state rights seat (on (run n)) r = (seated_run table state rights seat n).answer ≡ Err r
+RefusedAt table state rights seat collect r = (seated_collect table state rights seat).answer ≡ Err r
 
 -- no call of a list, on the bytes that the calls before it leave, is refused with 10
 unfoldable pub NeverTenAt : List ℕ → List ℕ → List (AtSeat Any) → Type 0
@@ -105,14 +98,14 @@ NeverTenAt table state (k ∷ ks) =
 -- answer is a number, n (`SeatedProof.antt` tells when it is: `collection_refused_iff`)
 pub record SeatedGuarantee (table state : List ℕ) (ks : List (AtSeat Any)) : Type 0 where
   -- start is not refused
-  pub starts : (start_call table state).answer ≡ Started.Done
+  pub starts : (start_call table state).answer ≡ Ok tt
   -- a. the counts are true after the list
   pub counted : Counted table (reached_at table state ks)
   -- b. no later list, made in place of the collection, moves a thread that the collection takes
-  pub untouched : (rights : List ℕ) (seat n : ℕ) → (seated_collect table (reached_at table state ks) rights seat).answer ≡ Collected.Done n
+  pub untouched : (rights : List ℕ) (seat n : ℕ) → (seated_collect table (reached_at table state ks) rights seat).answer ≡ Ok n
       → (later : List (AtSeat Call)) → UntouchedAt table (reached_at table state ks) rights seat later
   -- c. after the collection the waiting threads are linked
-  pub linked : (rights : List ℕ) (seat n : ℕ) → (seated_collect table (reached_at table state ks) rights seat).answer ≡ Collected.Done n
+  pub linked : (rights : List ℕ) (seat n : ℕ) → (seated_collect table (reached_at table state ks) rights seat).answer ≡ Ok n
       → Linked table (seated_collect table (reached_at table state ks) rights seat).state
   -- d. in neither list is a call refused with 10
   pub never_ten : NeverTenAt table (start_call table state).state ks

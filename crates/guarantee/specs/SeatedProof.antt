@@ -1,5 +1,5 @@
 -- The whole claim holds of every list of calls at seats, of every file that loads; and when a collection that follows is refused. Assumes nothing.
-use Rattle.std.specs.Prelude.{ℕ, ◌<◌, ◌≡◌, ◌↔◌, length, get_or}
+use Rattle.std.specs.Prelude.{ℕ, ◌<◌, ◌≡◌, ◌↔◌, length, get_or, Err, Ok}
 use Rattle.std.proofs.Math.Bool.{true}
 use mathlib.Core.List.{List, [], ◌∷◌, map}
 use Rattle.std.proofs.Common.{inl}
@@ -8,7 +8,6 @@ use Rattle.numbers.specs.Search.Laws.{case_b}
 use Rattle.numbers.specs.Tests.{clash}
 use Rattle.table.specs.Table.{table_of}
 use Rattle.loader.specs.Load.{loaded, accepted}
-use Rattle.loader.specs.declared.Loaded.TheVariants.{Done}
 use Rattle.loader_laws.specs.Yields.{loaded_small, loaded_accepted}
 use Rattle.state.specs.State.{state_length, view}
 use Rattle.rules.specs.Calls.{start_call}
@@ -17,12 +16,10 @@ use Rattle.rules.specs.Seats.Laws.{seat_granted, seat_answer}
 use Rattle.rules.specs.declared.Right.TheVariants as Right
 use Rattle.rules.specs.declared.Refusal.{Refusal}
 use Rattle.rules.specs.declared.Refusal.TheVariants as Ground
-use Rattle.rules.specs.declared.Admission.TheVariants as Admission
 use Rattle.engine_laws.specs.Buffers.{SoundBuffer}
 use Rattle.engine_laws.specs.SoundCalls.{start_done, start_sound}
 use Rattle.engine_laws.specs.Lists.{Call}
 use Rattle.collector.specs.Collect.{taken_count, collect_call, seated_collect}
-use Rattle.collector.specs.declared.Collected.TheVariants as Collected
 use Rattle.guarantee.specs.Claim.{Any, collect, reached_by, taken_by, Untouched, RefusedBy, Guarantee}
 use Rattle.guarantee.specs.ClaimKept.{not_ten, any_sound, collect_done}
 use Rattle.guarantee.specs.Proof.{reached_sound, accepted_guarantee, collection_made}
@@ -31,12 +28,12 @@ use Rattle.guarantee.specs.Through.{granted_left, kept_left, refused_iff, let_th
 
 -- ---- a collection at a seat that is not refused is the collection without seats
 
-pub collected_plainly : (table state rights : List ℕ) (seat n : ℕ) → (seated_collect table state rights seat).answer ≡ Collected.Done n
+pub collected_plainly : (table state rights : List ℕ) (seat n : ℕ) → (seated_collect table state rights seat).answer ≡ Ok n
     → seated_collect table state rights seat ≡ collect_call table state
 unfolding seated_collect
 collected_plainly table state rights seat n e =
-    seat_granted table state rights seat Right.Collect Collected.Refused (collect_call table state)
-    (seat_answer table state rights seat Right.Collect Collected.Refused (collect_call table state) (Collected.Done n) (λ r f. clash cc) e)
+    seat_granted table state rights seat Right.Collect Err (collect_call table state)
+    (seat_answer table state rights seat Right.Collect Err (collect_call table state) (Ok n) (λ r f. clash cc) e)
 
 -- ---- of a table that is accepted
 
@@ -84,7 +81,7 @@ module _ (table : List ℕ) (ok : accepted table ≡ true) where
       claim : Guarantee table state (through ks)
       claim = accepted_guarantee table ok fit state long (through ks)
 
-      apart : (rights : List ℕ) (seat n : ℕ) → (seated_collect table s rights seat).answer ≡ Collected.Done n → (later : List (AtSeat Call)) → UntouchedAt table s rights seat later
+      apart : (rights : List ℕ) (seat n : ℕ) → (seated_collect table s rights seat).answer ≡ Ok n → (later : List (AtSeat Call)) → UntouchedAt table s rights seat later
       unfolding taken_at taken_by
       apart rights seat n e later t k =
           let q : taken_by table s t ≡ true = rw (← collected_plainly table s rights seat n e) k in
@@ -105,8 +102,8 @@ module _ (table : List ℕ) (ok : accepted table ≡ true) where
       -- ---- a collection that follows the list, at any seat
       module _ (rights : List ℕ) (seat : ℕ) where
         -- it is refused exactly when its seat is
-        pub collection_refused_iff : (r : Refusal) → ((seated_collect table s rights seat).answer ≡ Collected.Refused r)
-            ↔ (seat_admission table s rights seat Right.Collect ≡ Admission.Refused r)
+        pub collection_refused_iff : (r : Refusal) → ((seated_collect table s rights seat).answer ≡ Err r)
+            ↔ (seat_admission table s rights seat Right.Collect ≡ Err r)
         unfolding RefusedAt RefusedBy asked
         collection_refused_iff r =
             let w = refused_iff table s rights seat collect r in (
@@ -115,7 +112,7 @@ module _ (table : List ℕ) (ok : accepted table ≡ true) where
             )
 
         -- and then with 8, 18 or 19: the table is accepted and the state sound
-        pub collection_refused : (r : Refusal) → (seated_collect table s rights seat).answer ≡ Collected.Refused r → OfSeat r
+        pub collection_refused : (r : Refusal) → (seated_collect table s rights seat).answer ≡ Err r → OfSeat r
         unfolding asked
         collection_refused r e =
             let f = (collection_refused_iff r).0 e in
@@ -125,12 +122,12 @@ module _ (table : List ℕ) (ok : accepted table ≡ true) where
             (λ y. let (q, g, o) = others_refused table ok s seats_sound.long k y in let same : q ≡ r = cc in rw (← same) o)
 
         -- a seat that may collect does: it is answered how many threads it takes
-        pub collection_granted : seat_admission table s rights seat Right.Collect ≡ Admission.Admitted
-            → (seated_collect table s rights seat).answer ≡ Collected.Done (taken_count (table_of table) (view s))
+        pub collection_granted : seat_admission table s rights seat Right.Collect ≡ Ok tt
+            → (seated_collect table s rights seat).answer ≡ Ok (taken_count (table_of table) (view s))
         unfolding seated_collect
-        collection_granted e = rw (seat_granted table s rights seat Right.Collect Collected.Refused (collect_call table s) e) (collect_done table ok s seats_sound)
+        collection_granted e = rw (seat_granted table s rights seat Right.Collect Err (collect_call table s) e) (collect_done table ok s seats_sound)
 
 -- ---- the theorem: document 01's demand 3, of every file that loads, whatever the two buffers had, and of every list of calls at seats
-pub seated_guarantee : (file t : List ℕ) → (loaded file t).answer ≡ Done → (state : List ℕ) → length state ≡ state_length → (ks : List (AtSeat Any))
+pub seated_guarantee : (file t : List ℕ) → (loaded file t).answer ≡ Ok tt → (state : List ℕ) → length state ≡ state_length → (ks : List (AtSeat Any))
     → SeatedGuarantee (loaded file t).table state ks
 seated_guarantee file t e = accepted_seated (loaded file t).table (loaded_accepted file t e) (loaded_small file t e)

@@ -1,6 +1,8 @@
 -- What C sees of seats and rights (document 02, S-6): that a seat without the right is told the same of every state, when a call is refused with 18 and with 19,
 -- and that with the right all is as without seats. Of all bytes and lengths, and of every call. Assumes nothing.
-use Rattle.std.specs.Prelude.{ℕ, ◌<◌, ◌≤◌, ◌≡◌, true, false, List, ◌⊎◌, ◌≢◌, ◌↔◌, length, get_or, ℤ, pos}
+use Rattle.collector.specs.Answers.{Collected}
+use Rattle.rules.specs.Answers.{Admission, Given, Ran, Stepped, Taken}
+use Rattle.std.specs.Prelude.{ℕ, ◌<◌, ◌≤◌, ◌≡◌, true, false, List, ◌⊎◌, ◌≢◌, ◌↔◌, length, get_or, ℤ, pos, Err, Ok}
 use Rattle.std.proofs.Common.{arith, sym, ◌∙◌, inl, to_z, of_z, eq-eqb}
 use Rattle.std.proofs.Math.Path.{refl, ap}
 use Rattle.std.proofs.Math.Logic.{⊎_elim}
@@ -20,24 +22,12 @@ use Rattle.rules.proofs.Seats.Entitled.{has_right_iff, lacks_right_iff}
 use Rattle.rules.specs.declared.Right.TheVariants as Right
 use Rattle.rules.specs.declared.Refusal.{Refusal}
 use Rattle.rules.specs.declared.Refusal.TheVariants as Ground
-use Rattle.rules.specs.declared.Admission.{Admission}
-use Rattle.rules.specs.declared.Admission.TheVariants as Admission
-use Rattle.rules.specs.declared.Stepped.{Stepped}
-use Rattle.rules.specs.declared.Stepped.TheVariants as Stepped
-use Rattle.rules.specs.declared.Given.{Given}
-use Rattle.rules.specs.declared.Given.TheVariants as Given
-use Rattle.rules.specs.declared.Taken.{Taken}
-use Rattle.rules.specs.declared.Taken.TheVariants as Taken
-use Rattle.rules.specs.declared.Ran.{Ran}
-use Rattle.rules.specs.declared.Ran.TheVariants as Ran
 use Rattle.engine.specs.Numbers.{refusal_number}
 use Rattle.engine_laws.specs.Entry.{at_entry, refused_entry}
 use Rattle.engine_laws.specs.Seats.{AllLengths, ZeroToThree, early_number, in_order_iff, outside_iff, rights_iff, right_iff, seat_refused_entry, lacking_refused}
 use Rattle.engine_laws.specs.Refusals.{step_all_grounds, give_grounds, take_grounds, run_refused_iff}
 use Rattle.engine_laws.specs.Lists.{step, give, take, run, after, RefusedWith}
 use Rattle.collector.specs.Collect.{collect_on, collect_call, seated_collect}
-use Rattle.collector.specs.declared.Collected.{Collected}
-use Rattle.collector.specs.declared.Collected.TheVariants as Collected
 use Rattle.collector_laws.specs.CollectionRefusals.{collect_refused_iff}
 use Rattle.interface.specs.Interface.{in_numbers, step_numbers, step_result, give_numbers, give_result, take_numbers, take_result, run_numbers, run_result, collect_numbers, collect_result}
 use Rattle.guarantee.specs.Claim.{Any, on, collect, after_any, RefusedBy}
@@ -68,30 +58,30 @@ plain_answer table state collect = collect_list (collect_numbers (collect_call t
 
 -- the numbers of a refusal on ground r
 unfoldable refused_answer : Refusal → Any → List ℤ
-refused_answer r (on (step t)) = step_list (step_numbers (Stepped.Refused r))
-refused_answer r (on (give p v h)) = give_list (give_numbers (Given.Refused r))
-refused_answer r (on (take p)) = take_list (take_numbers (Taken.Refused r))
-refused_answer r (on (run n)) = run_list (run_numbers (Ran.Refused r))
-refused_answer r collect = collect_list (collect_numbers (Collected.Refused r))
+refused_answer r (on (step t)) = step_list (step_numbers (Err r))
+refused_answer r (on (give p v h)) = give_list (give_numbers (Err r))
+refused_answer r (on (take p)) = take_list (take_numbers (Err r))
+refused_answer r (on (run n)) = run_list (run_numbers (Err r))
+refused_answer r collect = collect_list (collect_numbers (Err r))
 
 module _ (table state rights : List ℕ) (seat : ℕ) where
   answer_told : (k : Any)
       → answer_by table state rights seat k ≡ by_told (seat_admission table state rights seat (asked k)) (λ r. refused_answer r k) (plain_answer table state k)
   unfolding asked answer_by refused_answer plain_answer step_result give_result take_result run_result collect_result in_numbers at_seat seated_step seated_give seated_take seated_run seated_collect
-  answer_told (on (step t)) = by_told_lem Stepped.Refused state (step_call table state t) (λ o. step_list (step_numbers o.answer)) _
+  answer_told (on (step t)) = by_told_lem Err state (step_call table state t) (λ o. step_list (step_numbers o.answer)) _
   answer_told (on (give p v h)) =
       let a = seat_admission table state rights seat (Right.Give p) in
-      by_told_lem Given.Refused state (give_call table state p (of_z w32 (to_z w32 v))) (λ o. give_list (give_numbers o.answer)) a
-      ∙ ap (λ x. by_told a (λ r. give_list (give_numbers (Given.Refused r))) (give_list (give_numbers (give_call table state p x).answer))) (given_so v h)
-  answer_told (on (take p)) = by_told_lem Taken.Refused state (take_call table state p) (λ o. take_list (take_numbers o.answer)) _
-  answer_told (on (run n)) = by_told_lem Ran.Refused state (run_call table state n) (λ o. run_list (run_numbers o.answer)) _
-  answer_told collect = by_told_lem Collected.Refused state (collect_call table state) (λ o. collect_list (collect_numbers o.answer)) _
+      by_told_lem Err state (give_call table state p (of_z w32 (to_z w32 v))) (λ o. give_list (give_numbers o.answer)) a
+      ∙ ap (λ x. by_told a (λ r. give_list (give_numbers (Err r))) (give_list (give_numbers (give_call table state p x).answer))) (given_so v h)
+  answer_told (on (take p)) = by_told_lem Err state (take_call table state p) (λ o. take_list (take_numbers o.answer)) _
+  answer_told (on (run n)) = by_told_lem Err state (run_call table state n) (λ o. run_list (run_numbers o.answer)) _
+  answer_told collect = by_told_lem Err state (collect_call table state) (λ o. collect_list (collect_numbers o.answer)) _
 
-  refused_answer_lem : (k : Any) (r : Refusal) → seat_admission table state rights seat (asked k) ≡ Admission.Refused r → answer_by table state rights seat k ≡ refused_answer r k
+  refused_answer_lem : (k : Any) (r : Refusal) → seat_admission table state rights seat (asked k) ≡ Err r → answer_by table state rights seat k ≡ refused_answer r k
   unfolding by_told
   refused_answer_lem k r e = answer_told k ∙ rw e
 
-  granted_answer : (k : Any) → seat_admission table state rights seat (asked k) ≡ Admission.Admitted → answer_by table state rights seat k ≡ plain_answer table state k
+  granted_answer : (k : Any) → seat_admission table state rights seat (asked k) ≡ Ok tt → answer_by table state rights seat k ≡ plain_answer table state k
   unfolding by_told
   granted_answer k e = answer_told k ∙ rw e
 
@@ -107,7 +97,7 @@ module _ (table state rights : List ℕ) (seat : ℕ) where
     not_plain collect e = contra (refused_entry table state r ((collect_refused_iff table state r).0 e)) own
 
     -- so C sees its number exactly when the seat is refused so
-    seat_number : (k : Any) → (refusal_by table state rights seat k ≡ pos (refusal_number r)) ↔ (seat_admission table state rights seat (asked k) ≡ Admission.Refused r)
+    seat_number : (k : Any) → (refusal_by table state rights seat k ≡ pos (refusal_number r)) ↔ (seat_admission table state rights seat (asked k) ≡ Err r)
     seat_number k = (
       λ e. ⊎_elim (λ f. f) (λ f. absurd (not_plain k f.1)) ((refused_iff table state rights seat k r).0 (refused_by table state rights seat k r e)),
       λ e. refused_shows table state rights seat k r ((refused_iff table state rights seat k r).1 (inl e)),
@@ -156,34 +146,34 @@ module _ (table state rights : List ℕ) (seat : ℕ) where
   -- ---- with the right granted, numbers and bytes are those of the call without seats, whatever bytes the table and the state have and however long they are
 
   -- a call without seats whose admission is refused
-  plain_refused : (k : Any) (r : Refusal) → admission table state ≡ Admission.Refused r
+  plain_refused : (k : Any) (r : Refusal) → admission table state ≡ Err r
       → (plain_answer table state k ≡ refused_answer r k) × (after_any table state k ≡ state)
   unfolding plain_answer refused_answer after_any after step_call give_call take_call run_call collect_call
-  plain_refused (on (step t)) r e = let q = call_refused Stepped.Refused table state (step_on (table_of table) (view state) t) r e in (rw q, ap (λ (o : Outcome Stepped). o.state) q)
-  plain_refused (on (give p v h)) r e = let q = call_refused Given.Refused table state (give_on (table_of table) (view state) p v) r e in (rw q, ap (λ (o : Outcome Given). o.state) q)
-  plain_refused (on (take p)) r e = let q = call_refused Taken.Refused table state (take_on (table_of table) (view state) p) r e in (rw q, ap (λ (o : Outcome Taken). o.state) q)
-  plain_refused (on (run n)) r e = let q = call_refused Ran.Refused table state (run_on (table_of table) (view state) n) r e in (rw q, ap (λ (o : Outcome Ran). o.state) q)
-  plain_refused collect r e = let q = call_refused Collected.Refused table state (collect_on (table_of table) (view state)) r e in (rw q, ap (λ (o : Outcome Collected). o.state) q)
+  plain_refused (on (step t)) r e = let q = call_refused Err table state (step_on (table_of table) (view state) t) r e in (rw q, ap (λ (o : Outcome Stepped). o.state) q)
+  plain_refused (on (give p v h)) r e = let q = call_refused Err table state (give_on (table_of table) (view state) p v) r e in (rw q, ap (λ (o : Outcome Given). o.state) q)
+  plain_refused (on (take p)) r e = let q = call_refused Err table state (take_on (table_of table) (view state) p) r e in (rw q, ap (λ (o : Outcome Taken). o.state) q)
+  plain_refused (on (run n)) r e = let q = call_refused Err table state (run_on (table_of table) (view state) n) r e in (rw q, ap (λ (o : Outcome Ran). o.state) q)
+  plain_refused collect r e = let q = call_refused Err table state (collect_on (table_of table) (view state)) r e in (rw q, ap (λ (o : Outcome Collected). o.state) q)
 
   module _ (k : Any) (long : length rights ≡ rights_length) (i : rights_in_range rights ≡ true) (h : has_right rights seat (asked k) ≡ true) where
     -- the seat is then asked what start is asked
     as_start : (a : Admission) → start_admission table state ≡ a → seat_admission table state rights seat (asked k) ≡ a
     unfolding seat_admission rights_admission and_then
-    as_start (Admission.Refused r) e = rw (eq-eqb (length rights) rights_length long, e)
-    as_start Admission.Admitted e = rw (eq-eqb (length rights) rights_length long, e, i, h)
+    as_start (Err r) e = rw (eq-eqb (length rights) rights_length long, e)
+    as_start (Ok tt) e = rw (eq-eqb (length rights) rights_length long, e, i, h)
 
-    also_plain : (r : Refusal) → start_admission table state ≡ Admission.Refused r → admission table state ≡ Admission.Refused r
+    also_plain : (r : Refusal) → start_admission table state ≡ Err r → admission table state ≡ Err r
     unfolding admission and_then
     also_plain r e = rw e
 
     granted_by : (a : Admission) → start_admission table state ≡ a
         → (answer_by table state rights seat k ≡ plain_answer table state k) × (left_by table state rights seat k ≡ after_any table state k)
-    granted_by (Admission.Refused r) e =
-        let told = as_start (Admission.Refused r) e in
+    granted_by (Err r) e =
+        let told = as_start (Err r) e in
         let (p, q) = plain_refused k r (also_plain r e) in
         (refused_answer_lem k r told ∙ sym p, left_by_lem table state rights seat k ∙ kept_left table state rights seat k r told ∙ sym q)
-    granted_by Admission.Admitted e =
-        let told = as_start Admission.Admitted e in
+    granted_by (Ok tt) e =
+        let told = as_start (Ok tt) e in
         (granted_answer k told, left_by_lem table state rights seat k ∙ granted_left table state rights seat k told)
 
   pub granted_same : ((i : ℕ) → get_or rights i 0 < 256) → (k : Any) → length rights ≡ rights_length

@@ -1,6 +1,9 @@
 -- What C sees of a write (document 02, S-1): the refusal, the bytes, and what is left in the buffer, for every table, every buffer and every length. The theorems
 -- on the definition are in `writer_laws/specs/Writing.antt`; this file says them in the numbers that C gets, and shows them. Assumes nothing.
-use Rattle.std.specs.Prelude.{ℕ, ◌*◌, ◌≤◌, ◌<◌, ◌≡◌, refl, true, false, List, [], ◌++◌, ◌≢◌, ◌↔◌, ◌⊎◌, length, take, drop, pos}
+use Rattle.writer.specs.declared.WriteRefusal.TheVariants as WriteRefusal
+use Rattle.writer.specs.Answers.{Written}
+use Rattle.loader.specs.Answers.{Loaded}
+use Rattle.std.specs.Prelude.{ℕ, ◌*◌, ◌≤◌, ◌<◌, ◌≡◌, refl, true, false, List, [], ◌++◌, ◌≢◌, ◌↔◌, ◌⊎◌, length, take, drop, pos, Err, Ok}
 use Rattle.std.proofs.Common.{arith, sym, ◌∙◌, ap, inl, inr}
 use Rattle.text.specs.Text.{line_length}
 use Rattle.text.specs.Text.Characters.{Characters}
@@ -8,11 +11,7 @@ use Rattle.table.specs.Table.{table_of, line_total}
 use Rattle.file.specs.EmptyFile.{ending_text}
 use Rattle.loader.specs.Load as Load
 use Rattle.loader.specs.Load.{table_length, loaded, accepted}
-use Rattle.loader.specs.declared.Loaded.{Loaded}
-use Rattle.loader.specs.declared.Loaded.TheVariants as Loaded
 use Rattle.writer.specs.Write.{write_call, refusal_number, bytes_number}
-use Rattle.writer.specs.declared.Written.{Written}
-use Rattle.writer.specs.declared.Written.TheVariants.{Done, WrongLength, WrongTable, ShortBuffer}
 use Rattle.writer_laws.specs.Writing.{FileOf, file_of, accepted_of, refused_of, table_long, length_iff, table_iff, short_iff, done_iff, refused_keeps, written_loads, rest_kept, lines_written, room_written, most_written, loaded_written, empty_written}
 use Rattle.interface.specs.Interface.{LoadResult, loaded_to, numbered, load_result, written_to, written_numbers, write_result}
 use Rattle.guarantee.specs.Exported.{load_so, table_so}
@@ -59,9 +58,9 @@ loads_so t file = (
   λ (c, f). (
     c,
     λ own l. let e = f own l in
-        let a : (loaded file own).answer ≡ Loaded.Done = load_so file own (ap (λ (r : LoadResult). r.answer.refusal) e) in
+        let a : (loaded file own).answer ≡ Ok tt = load_so file own (ap (λ (r : LoadResult). r.answer.refusal) e) in
         let q : (loaded file own).table ≡ t = sym (table_so file own) ∙ ap (λ (r : LoadResult). r.table) e in
-        ap (λ (x : Loaded). Load.outcome x (loaded file own).table) a ∙ ap (λ (l : List ℕ). Load.outcome Loaded.Done l) q,
+        ap (λ (x : Loaded). Load.outcome x (loaded file own).table) a ∙ ap (λ (l : List ℕ). Load.outcome (Ok tt) l) q,
   ),
 )
 
@@ -83,30 +82,30 @@ same_number : (a : Written) (m : ℕ) → pos (refusal_number a) ≡ pos m → r
 same_number a m e = cc
 
 number_of : (a : Written) (m : ℕ) → refusal_number a ≡ m
-    → ((m ≡ 8) → a ≡ WrongLength) × ((m ≡ 9) → a ≡ WrongTable) × ((m ≡ 15) → a ≡ ShortBuffer) × ((m ≡ 0) → a ≡ Done (bytes_number a))
+    → ((m ≡ 8) → a ≡ Err WriteRefusal.WrongLength) × ((m ≡ 9) → a ≡ Err WriteRefusal.WrongTable) × ((m ≡ 15) → a ≡ Err WriteRefusal.ShortBuffer) × ((m ≡ 0) → a ≡ Ok (bytes_number a))
 unfolding refusal_number bytes_number
-number_of (Done n) m e = (λ h. absurd (omega arith), λ h. absurd (omega arith), λ h. absurd (omega arith), λ h. refl)
-number_of WrongLength m e = (λ h. refl, λ h. absurd (omega arith), λ h. absurd (omega arith), λ h. absurd (omega arith))
-number_of WrongTable m e = (λ h. absurd (omega arith), λ h. refl, λ h. absurd (omega arith), λ h. absurd (omega arith))
-number_of ShortBuffer m e = (λ h. absurd (omega arith), λ h. absurd (omega arith), λ h. refl, λ h. absurd (omega arith))
+number_of (Ok n) m e = (λ h. absurd (omega arith), λ h. absurd (omega arith), λ h. absurd (omega arith), λ h. refl)
+number_of (Err WriteRefusal.WrongLength) m e = (λ h. refl, λ h. absurd (omega arith), λ h. absurd (omega arith), λ h. absurd (omega arith))
+number_of (Err WriteRefusal.WrongTable) m e = (λ h. absurd (omega arith), λ h. refl, λ h. absurd (omega arith), λ h. absurd (omega arith))
+number_of (Err WriteRefusal.ShortBuffer) m e = (λ h. absurd (omega arith), λ h. absurd (omega arith), λ h. refl, λ h. absurd (omega arith))
 
 one_of : (a : Written) → (pos (refusal_number a) ≡ pos 0) ⊎ ((pos (refusal_number a) ≡ pos 8) ⊎ ((pos (refusal_number a) ≡ pos 9) ⊎ (pos (refusal_number a) ≡ pos 15)))
 unfolding refusal_number
-one_of (Done n) = inl refl
-one_of WrongLength = inr (inl refl)
-one_of WrongTable = inr (inr (inl refl))
-one_of ShortBuffer = inr (inr (inr refl))
+one_of (Ok n) = inl refl
+one_of (Err WriteRefusal.WrongLength) = inr (inl refl)
+one_of (Err WriteRefusal.WrongTable) = inr (inr (inl refl))
+one_of (Err WriteRefusal.ShortBuffer) = inr (inr (inr refl))
 
 -- a refused write has no bytes
 no_bytes : (a : Written) → pos (refusal_number a) ≢ pos 0 → bytes_number a ≡ 0
 unfolding refusal_number bytes_number
-no_bytes (Done n) h = absurd (h refl)
-no_bytes WrongLength h = refl
-no_bytes WrongTable h = refl
-no_bytes ShortBuffer h = refl
+no_bytes (Ok n) h = absurd (h refl)
+no_bytes (Err WriteRefusal.WrongLength) h = refl
+no_bytes (Err WriteRefusal.WrongTable) h = refl
+no_bytes (Err WriteRefusal.ShortBuffer) h = refl
 
 -- what a write that is done leaves at the front of the buffer is the file of the table
-left_of : (t b : List ℕ) → Characters t → (n : ℕ) → (write_call t b).answer ≡ Done n → FileOf t (take n (write_call t b).file)
+left_of : (t b : List ℕ) → Characters t → (n : ℕ) → (write_call t b).answer ≡ Ok n → FileOf t (take n (write_call t b).file)
 left_of t b fit n e =
     let (file, f, s, h, q) = (done_iff t b fit n).0 e in
     file_of t (take n (write_call t b).file) t (written_loads t b fit n e t (table_long t file f))
@@ -115,7 +114,7 @@ pub write_in_numbers : (t b : List ℕ) → Characters t → WriteInNumbers t b
 unfolding write_result written_numbers refusal_number bytes_number
 write_in_numbers t b fit =
     let a = (write_call t b).answer in
-    let is_done : pos (refusal_number a) ≡ pos 0 → a ≡ Done (bytes_number a) = λ e. (number_of a 0 (same_number a 0 e)).3 refl in
+    let is_done : pos (refusal_number a) ≡ pos 0 → a ≡ Ok (bytes_number a) = λ e. (number_of a 0 (same_number a 0 e)).3 refl in
     record {
       eight = (λ e. (length_iff t b fit).0 ((number_of a 8 (same_number a 8 e)).0 refl), λ h. rw ((length_iff t b fit).1 h));
       nine = (

@@ -1,7 +1,6 @@
 -- Instances of the theorems on 002's agents (`crates/published`), and pairs that its relations exclude. Assumes nothing.
-use Rattle.std.specs.Prelude.{ℕ, ◌≡◌, refl, ◌≢◌, true, false, List, [], ◌∷◌, ◌++◌, eqb, length}
+use Rattle.std.specs.Prelude.{ℕ, ◌≡◌, refl, ◌≢◌, true, false, List, [], ◌∷◌, ◌++◌, eqb, length, Some}
 use Rattle.std.proofs.Common.{arith, sym, ◌∙◌, ap, inl, inr, ⊎_elim, eqb-true}
-use Rattle.std.proofs.Math.Option.{some}
 use Rattle.numbers.specs.Count.{bit, count}
 use Rattle.numbers.specs.Search.Laws.{contra}
 use Rattle.marking.proofs.Enabled.Laws.{or_elim}
@@ -22,7 +21,7 @@ abbrev ended : Thread
 ended = thread [] [] end
 
 abbrev pub lone : Thread
-lone = thread (takes 0 1 end ∷ []) (some (channel 0) ∷ []) (choice (wait nothing))
+lone = thread (takes 0 1 end ∷ []) (Some (channel 0) ∷ []) (choice (wait nothing))
 
 waits_apart : lone ≢ ended
 unfolding waiting some_wait only_waits
@@ -150,7 +149,7 @@ lone_part Δ = let (C, D, r, i, d, s) = proposition_5 Δ (lone ∷ R ∷ []) 0 (
 -- ---- Proposition 2: from an agent without commitments one is reached that waits to send, and none in which another thread waits to receive on that channel
 
 abbrev sends : Env
-sends = some (channel 0) ∷ some (number 7) ∷ []
+sends = Some (channel 0) ∷ Some (number 7) ∷ []
 
 abbrev pub sender : Thread
 sender = thread (gives 0 1 end ∷ []) sends (choice (wait nothing))

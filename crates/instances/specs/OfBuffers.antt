@@ -1,6 +1,6 @@
 -- Instances of the theorems on refusals (`engine_laws/specs/Entry.antt`, `Refusals.antt`): a call that each of the grounds 8 to 12 refuses, and one that it does
 -- not. Assumes nothing.
-use Rattle.std.specs.Prelude.{ℕ, zero, suc, ◌<◌, ◌≤◌, ◌≡◌, refl, true, false, List, [], ◌∷◌, length, get_or, replicate}
+use Rattle.std.specs.Prelude.{ℕ, zero, suc, ◌<◌, ◌≤◌, ◌≡◌, refl, true, false, List, [], ◌∷◌, length, get_or, replicate, Err, None, Ok, Some}
 use Rattle.std.proofs.Common.{arith}
 use Rattle.std.proofs.lemmas.List.{length-replicate}
 use Rattle.numbers.specs.Bytes.{bytes_of, encode, joined}
@@ -18,12 +18,7 @@ use Rattle.rules.specs.Offers.{partner_of}
 use Rattle.rules.specs.Calls.{admission, can_step, step_call, bench, given_to, give_on, give_call, take_call, course_of}
 use Rattle.rules.specs.Calls.Laws.{call_admitted}
 use Rattle.rules.specs.declared.Direction.TheVariants.{In}
-use Rattle.rules.specs.declared.Partner.TheVariants.{Nobody, At}
 use Rattle.rules.specs.declared.Refusal.TheVariants as Ground
-use Rattle.rules.specs.declared.Admission.TheVariants as Admission
-use Rattle.rules.specs.declared.Stepped.TheVariants as Stepped
-use Rattle.rules.specs.declared.Given.TheVariants as Given
-use Rattle.rules.specs.declared.Taken.TheVariants as Taken
 use Rattle.rules_laws.specs.Shape.{Shaped}
 use Rattle.rules_laws.specs.Shape.Laws.{bytes_long, view_bytes}
 use Rattle.engine_laws.specs.Entry.{RightLengths, Admitted, length_iff, table_iff, state_iff, admitted_iff}
@@ -82,7 +77,7 @@ receives = table_for port_receiver
 
 -- ---- ground 8: buffers without a byte
 
-pub empty_refused : admission [] [] ≡ Admission.Refused Ground.Length
+pub empty_refused : admission [] [] ≡ Err Ground.Length
 empty_refused = (length_iff [] []).1 (λ (a, b). omega arith)
 
 -- ---- ground 9: a table of zeros
@@ -97,7 +92,7 @@ pub zero_refused : acceptable zero_table ≡ false
 unfolding judging acceptable
 zero_refused = refl
 
-pub zero_table_refused : admission (table_bytes (replicate max_rows (replicate row_numbers 0))) (state_bytes blank) ≡ Admission.Refused Ground.Table
+pub zero_table_refused : admission (table_bytes (replicate max_rows (replicate row_numbers 0))) (state_bytes blank) ≡ Err Ground.Table
 unfolding accepted
 zero_table_refused =
     (table_iff (table_bytes zero_table) (state_bytes blank)).1
@@ -112,7 +107,7 @@ zeros_unsound : sound (filled_up port_receiver) blank ≡ false
 unfolding testing
 zeros_unsound = refl
 
-pub zeros_refused : admission receives (state_bytes blank) ≡ Admission.Refused Ground.State
+pub zeros_refused : admission receives (state_bytes blank) ≡ Err Ground.State
 zeros_refused =
     (state_iff receives (state_bytes blank)).1 (
       zeros_lengths,
@@ -134,11 +129,11 @@ zeros_admitted =
 
 -- ---- ground 11: thread 0 of it is free, and so not ready; ground 12: there is no port
 
-pub none_to_step : (step_call ends (state_bytes blank) 0).answer ≡ Stepped.Refused Ground.Thread
+pub none_to_step : (step_call ends (state_bytes blank) 0).answer ≡ Err Ground.Thread
 unfolding can_step
 none_to_step = (step_thread_iff ends (state_bytes blank) 0).1 (zeros_admitted, rw (view_bytes blank blank_shaped) refl)
 
-pub no_port : ((give_call ends (state_bytes blank) 0 7).answer ≡ Given.Refused Ground.Port) × ((take_call ends (state_bytes blank) 0).answer ≡ Taken.Refused Ground.Port)
+pub no_port : ((give_call ends (state_bytes blank) 0 7).answer ≡ Err Ground.Port) × ((take_call ends (state_bytes blank) 0).answer ≡ Err Ground.Port)
 no_port = let few : ports (table_of ends) ≤ 0 = rw (table_holds end_only end_in_order) (omega arith) in
     ((give_port_iff ends (state_bytes blank) 0 7).1 (zeros_admitted, few), (take_port_iff ends (state_bytes blank) 0).1 (zeros_admitted, few))
 
@@ -160,21 +155,21 @@ module _ (n : ℕ) where
   pub begun_view : view (state_bytes (begun n)) ≡ begun n
   begun_view = view_bytes (begun n) (run_sound port_receiver receiver_in_order n).orderly.shaped
 
-none_waits : partner_of (filled_up port_receiver) (begun 0) bench In 0 ≡ Nobody
+none_waits : partner_of (filled_up port_receiver) (begun 0) bench In 0 ≡ None
 unfolding running
 none_waits = refl
 
-one_waits_lem : partner_of (filled_up port_receiver) (begun 1) bench In 0 ≡ At 0 0
+one_waits_lem : partner_of (filled_up port_receiver) (begun 1) bench In 0 ≡ Some (0, 0)
 unfolding running
 one_waits_lem = refl
 
-pub nobody_there : (give_call receives (state_bytes (begun 0)) 0 7).answer ≡ Given.Nobody
+pub nobody_there : (give_call receives (state_bytes (begun 0)) 0 7).answer ≡ Ok None
 unfolding give_call give_on given_to
-nobody_there = rw (call_admitted Given.Refused receives (state_bytes (begun 0)) _ (begun_admitted 0), table_holds port_receiver receiver_in_order, begun_view 0, none_waits)
+nobody_there = rw (call_admitted Err receives (state_bytes (begun 0)) _ (begun_admitted 0), table_holds port_receiver receiver_in_order, begun_view 0, none_waits)
 
-pub somebody_there : (give_call receives (state_bytes (begun 1)) 0 7).answer ≡ Given.Met 0
+pub somebody_there : (give_call receives (state_bytes (begun 1)) 0 7).answer ≡ Ok (Some 0)
 unfolding give_call give_on given_to
-somebody_there = rw (call_admitted Given.Refused receives (state_bytes (begun 1)) _ (begun_admitted 1), table_holds port_receiver receiver_in_order, begun_view 1, one_waits_lem)
+somebody_there = rw (call_admitted Err receives (state_bytes (begun 1)) _ (begun_admitted 1), table_holds port_receiver receiver_in_order, begun_view 1, one_waits_lem)
 
 -- by the law none of all 64 threads offers to receive there
 pub nobody_offers : NobodyOffers (table_of receives) (view (state_bytes (begun 0))) In 0

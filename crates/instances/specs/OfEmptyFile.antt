@@ -1,6 +1,7 @@
 -- Instances of the theorems on a file of no bytes (`loader_laws/specs/EmptyFile.antt`, `writer_laws/specs/Writing.antt`): its three lines character by character,
 -- its listing, and demand 3's claim from its start. What is left out: the first 72 bytes of those lines, which are refused. Assumes nothing.
-use Rattle.std.specs.Prelude.{ℕ, ◌≡◌, refl, ◌≢◌, List, [], ◌∷◌, length, take}
+use Rattle.loader.specs.declared.LoadRefusal.TheVariants as LoadRefusal
+use Rattle.std.specs.Prelude.{ℕ, ◌≡◌, refl, ◌≢◌, List, [], ◌∷◌, length, take, Err, Ok}
 use Rattle.std.proofs.Common.{arith, ap, inl}
 use Rattle.numbers.specs.Bytes.{joined}
 use Rattle.file.specs.File.Computing.{reading}
@@ -9,7 +10,6 @@ use Rattle.file.specs.EmptyFile.Laws.{ending_long}
 use Rattle.loader.specs.Load.{table_bytes, Outcome, outcome, loaded}
 use Rattle.loader.specs.Load.Laws.{ending_sound}
 use Rattle.loader.specs.declared.Ground.TheVariants.{Lines}
-use Rattle.loader.specs.declared.Loaded.TheVariants.{Done, FileRefused}
 use Rattle.loader_laws.specs.PrintedFile.{filled_up}
 use Rattle.loader_laws.specs.EmptyFile.{ending_table, empty_loads, lines_iff}
 use Rattle.writer_laws.specs.Writing.{FileOf, file_of, text_of}
@@ -40,10 +40,10 @@ ending_named = refl
 
 -- ---- loading
 
-empty_loaded : loaded [] blank_table ≡ outcome Done (table_bytes (filled_up ending_rows))
+empty_loaded : loaded [] blank_table ≡ outcome (Ok tt) (table_bytes (filled_up ending_rows))
 empty_loaded = empty_loads blank_table blank_table_long
 
-pub empty_done : (loaded [] blank_table).answer ≡ Done
+pub empty_done : (loaded [] blank_table).answer ≡ Ok tt
 empty_done = ap (λ (o : Outcome). o.answer) empty_loaded
 
 -- so two files load to its table
@@ -55,7 +55,7 @@ two_files =
     (t, f, text_of t [] f, λ e. let n : length ending_text ≡ 0 = ap length e in omega (arith, ending_long))
 
 -- 72 bytes of the lines are no empty file
-pub cut_lines : (t : List ℕ) → (loaded (take 72 ending_text) t).answer ≡ FileRefused Lines 0
+pub cut_lines : (t : List ℕ) → (loaded (take 72 ending_text) t).answer ≡ Err (LoadRefusal.FileRefused Lines 0)
 unfolding reading ending_rows
 cut_lines t = (lines_iff (take 72 ending_text) t 0).1 (refl, inl (λ (n, e). absurd (omega arith)))
 

@@ -1,12 +1,11 @@
 -- Instances of the theorems on loading and on what accepted tables have: fields that are numbers and that are not, a table that can be read and those that the
 -- records leave out, slots that must have been written. Assumes nothing.
-use Rattle.std.specs.Prelude.{ℕ, ◌<◌, ◌≡◌, refl, true, List, [], ◌∷◌}
+use Rattle.std.specs.Prelude.{ℕ, ◌<◌, ◌≡◌, refl, true, List, [], ◌∷◌, None, Some}
 use Rattle.std.proofs.Common.{arith}
 use Rattle.numbers.specs.Search.{computing}
 use Rattle.numbers.specs.Search.Laws.{contra}
 use Rattle.text.specs.Text.{figures_by, figures, numeral, right_justified, text, figure_of, size_from, has_minus, pattern_in, same, read_number}
 use Rattle.text.specs.Text.Laws.{reads_wrong}
-use Rattle.text.specs.declared.Reading.TheVariants.{Value, Wrong}
 use Rattle.table.specs.Table.{Table}
 use Rattle.loader_laws.specs.PrintedFile.{filled_up}
 use Rattle.state.specs.State.{minus_one}
@@ -23,11 +22,11 @@ use Rattle.published_laws.specs.Readable.{Readable, readable}
 
 -- ---- fields: the least number is one, the number below it and a leading zero are not
 
-pub field_read : read_number (45 ∷ 51 ∷ 50 ∷ 55 ∷ 54 ∷ 56 ∷ []) ≡ Value 32768
+pub field_read : read_number (45 ∷ 51 ∷ 50 ∷ 55 ∷ 54 ∷ 56 ∷ []) ≡ Some 32768
 unfolding computing figures_by figures numeral right_justified text figure_of size_from has_minus pattern_in same read_number
 field_read = refl
 
-pub field_wrong : (read_number (45 ∷ 51 ∷ 50 ∷ 55 ∷ 54 ∷ 57 ∷ []) ≡ Wrong) × (read_number (32 ∷ 32 ∷ 32 ∷ 32 ∷ 48 ∷ 55 ∷ []) ≡ Wrong)
+pub field_wrong : (read_number (45 ∷ 51 ∷ 50 ∷ 55 ∷ 54 ∷ 57 ∷ []) ≡ None) × (read_number (32 ∷ 32 ∷ 32 ∷ 32 ∷ 48 ∷ 55 ∷ []) ≡ None)
 unfolding computing figures_by figures numeral right_justified text figure_of size_from has_minus pattern_in same read_number
 field_wrong = (refl, refl)
 

@@ -1,6 +1,8 @@
 -- Instances of the rental-shop profile: the answer of the check of a table, by computation, and the pledge at work (`profile_laws/specs/Claim.antt`): a file whose
 -- bound is 64 comes to have 64 threads, and one whose bound is 65, which the check refuses, lacks a row. Assumes nothing.
-use Rattle.std.specs.Prelude.{ℕ, ◌+◌, ◌-◌, ◌<◌, ◌≡◌, true, length, get_or, ℤ, pos}
+use Rattle.profile.specs.declared.ProfileRefusal.TheVariants as ProfileRefusal
+use Rattle.profile.specs.Answers.{Profiled}
+use Rattle.std.specs.Prelude.{ℕ, ◌+◌, ◌-◌, ◌<◌, ◌≡◌, true, length, get_or, ℤ, pos, Err, Ok}
 use Rattle.std.proofs.Common.{arith, ◌∙◌, eq-eqb}
 use Rattle.std.proofs.Math.Path.{refl, ap}
 use mathlib.Core.List.{List, [], ◌∷◌, ◌++◌, map}
@@ -13,7 +15,6 @@ use Rattle.state.specs.State.{State, view}
 use Rattle.rules.specs.Start.{started}
 use Rattle.rules.specs.Calls.{step_end, can_step, step_on, step_call}
 use Rattle.rules.specs.declared.Refusal.TheVariants as Ground
-use Rattle.rules.specs.declared.Stepped.TheVariants as Stepped
 use Rattle.rules_laws.specs.Accepted.{granted}
 use Rattle.rules_laws.specs.Lasting.{step_on_kept}
 use Rattle.engine_laws.specs.Buffers.{SoundBuffer, view_sound}
@@ -22,8 +23,6 @@ use Rattle.engine_laws.specs.Lists.{step, after, RefusedWith}
 use Rattle.interface.specs.Interface.{profile_fields, profile_numbers, profile_result}
 use Rattle.interface.specs.declared.ProfileAnswer.{ProfileAnswer}
 use Rattle.profile.specs.Profile.{largest, is_spawn, node_spawns, spawns_in, has_spawn, call_allowed, node_allowed, calls_allowed, branch_bound_by, call_bound_by, node_bound_by, bound_in, node_bound, definition_bound, within_rows, profile_of, profile_call, refusal_number, threads_number}
-use Rattle.profile.specs.declared.Profiled.{Profiled}
-use Rattle.profile.specs.declared.Profiled.TheVariants.{Passes, WrongLength, WrongTable, ForbiddenCall, ManyThreads}
 use Rattle.examples.specs.Tables.{doublings, doublings_and_one, calls_up, calls_down, calls_itself, repeats}
 use Rattle.examples.specs.Computing.{running}
 use Rattle.examples.specs.Files.{in_order, table_for, table_holds, table_long, table_small, table_accepted, doublings_in_order, one_more_in_order, calls_up_in_order, calls_down_in_order, calls_itself_in_order, repeats_in_order}
@@ -52,41 +51,41 @@ unfolding profile_call
 checked rs e = rw (eq-eqb (length (table_for rs)) table_length (table_long rs e), table_accepted rs e, table_holds rs e)
 
 -- six doublings make 64 threads of one, and pass
-pub doublings_pass : profile_call (table_for doublings) ≡ Passes 64
+pub doublings_pass : profile_call (table_for doublings) ≡ Ok 64
 unfolding checking
 doublings_pass = checked doublings doublings_in_order
 
 -- one thread more is too many
-pub one_more_refused : profile_call (table_for doublings_and_one) ≡ ManyThreads
+pub one_more_refused : profile_call (table_for doublings_and_one) ≡ Err ProfileRefusal.ManyThreads
 unfolding checking
 one_more_refused = checked doublings_and_one one_more_in_order
 
 -- a call upward has the bound of the definition that is called, here of two threads
-pub calls_up_pass : profile_call (table_for calls_up) ≡ Passes 2
+pub calls_up_pass : profile_call (table_for calls_up) ≡ Ok 2
 unfolding checking
 calls_up_pass = checked calls_up calls_up_in_order
 
 -- a call downward is forbidden, though no thread comes to it; and so is a call of a definition by itself beside a spawn
-pub calls_down_refused : profile_call (table_for calls_down) ≡ ForbiddenCall
+pub calls_down_refused : profile_call (table_for calls_down) ≡ Err ProfileRefusal.ForbiddenCall
 unfolding checking
 calls_down_refused = checked calls_down calls_down_in_order
 
-pub calls_itself_refused : profile_call (table_for calls_itself) ≡ ForbiddenCall
+pub calls_itself_refused : profile_call (table_for calls_itself) ≡ Err ProfileRefusal.ForbiddenCall
 unfolding checking
 calls_itself_refused = checked calls_itself calls_itself_in_order
 
 -- beside no spawn such a call is permitted, and counts for one thread: the definition that calls itself has the bound 1, and the first one 2
-pub repeats_pass : profile_call (table_for repeats) ≡ Passes 2
+pub repeats_pass : profile_call (table_for repeats) ≡ Ok 2
 unfolding checking
 repeats_pass = checked repeats repeats_in_order
 
 -- a table of zeros has a table's length, and is that of no file
-pub zeros_refused : profile_call (table_bytes zero_table) ≡ WrongTable
+pub zeros_refused : profile_call (table_bytes zero_table) ≡ Err ProfileRefusal.WrongTable
 unfolding profile_call accepted
 zeros_refused = rw (eq-eqb (length (table_bytes zero_table)) table_length (length_bytes zero_table zero_shaped), bytes_hold zero_table zero_shaped, zero_refused)
 
 -- no bytes are no table
-pub nothing_refused : profile_call [] ≡ WrongLength
+pub nothing_refused : profile_call [] ≡ Err ProfileRefusal.WrongLength
 unfolding profile_call
 nothing_refused = refl
 
@@ -105,13 +104,13 @@ pub answers_in_numbers : (profile_result (table_for doublings) ≡ record { refu
     × (profile_result [] ≡ record { refusal = pos 8; threads = pos 0 })
 unfolding profile_fields refusal_number threads_number
 answers_in_numbers = (
-  numbers_of_lem (table_for doublings) (Passes 64) doublings_pass,
-  numbers_of_lem (table_for doublings_and_one) ManyThreads one_more_refused,
-  numbers_of_lem (table_for calls_down) ForbiddenCall calls_down_refused,
-  numbers_of_lem (table_for calls_itself) ForbiddenCall calls_itself_refused,
-  numbers_of_lem (table_for repeats) (Passes 2) repeats_pass,
-  numbers_of_lem (table_bytes zero_table) WrongTable zeros_refused,
-  numbers_of_lem [] WrongLength nothing_refused,
+  numbers_of_lem (table_for doublings) (Ok 64) doublings_pass,
+  numbers_of_lem (table_for doublings_and_one) (Err ProfileRefusal.ManyThreads) one_more_refused,
+  numbers_of_lem (table_for calls_down) (Err ProfileRefusal.ForbiddenCall) calls_down_refused,
+  numbers_of_lem (table_for calls_itself) (Err ProfileRefusal.ForbiddenCall) calls_itself_refused,
+  numbers_of_lem (table_for repeats) (Ok 2) repeats_pass,
+  numbers_of_lem (table_bytes zero_table) (Err ProfileRefusal.WrongTable) zeros_refused,
+  numbers_of_lem [] (Err ProfileRefusal.WrongLength) nothing_refused,
 )
 
 -- so, by its law, C sees a file loaded to the doublings, and none loaded to zeros
@@ -175,7 +174,7 @@ module _ (table : List ℕ) (ok : accepted table ≡ true) (fit : (i : ℕ) → 
   step_view : (state : List ℕ) → SoundBuffer table state → (t : ℕ) → view (step_call table state t).state ≡ (step_on (table_of table) (view state) t).state
   unfolding step_call
   step_view state b t =
-      call_view table ok Stepped.Refused state b (step_on (table_of table) (view state) t)
+      call_view table ok Err state b (step_on (table_of table) (view state) t)
       (step_on_kept (table_of table) (granted table ok fit) (view state) (view_sound table state b) t)
 
   -- the bytes after the steps hold the state after them
@@ -231,7 +230,7 @@ abbrev crowd : List ℕ
 crowd = reached_by (table_for doublings_and_one) blank (steps crowded)
 
 last_lacks : (step_on (filled_up doublings_and_one) (stepped (filled_up doublings_and_one) (started (filled_up doublings_and_one)) crowded) 32).answer
-    ≡ Stepped.Refused Ground.ThreadRow
+    ≡ Err Ground.ThreadRow
 unfolding running step_on step_end can_step stepped others
 last_lacks = refl
 
@@ -241,5 +240,5 @@ unfolding RefusedBy RefusedWith step_call
 one_more_lacks =
     let ok = table_accepted doublings_and_one one_more_in_order in
     let sound = reached_sound (table_for doublings_and_one) ok (table_small doublings_and_one one_more_in_order) blank blank_long (steps crowded) in
-    rw (call_made (table_for doublings_and_one) ok Stepped.Refused crowd sound (step_on (table_of (table_for doublings_and_one)) (view crowd) 32))
+    rw (call_made (table_for doublings_and_one) ok Err crowd sound (step_on (table_of (table_for doublings_and_one)) (view crowd) 32))
     (rw (table_holds doublings_and_one one_more_in_order, begun_steps doublings_and_one one_more_in_order crowded) last_lacks)

@@ -1,7 +1,7 @@
 -- Instances of the theorem on why a run ends (`engine_laws/specs/Reasons.antt`), of the bytes of a state for each reason: states of which every thread row, or
 -- every channel row, is in use, and states with free rows, where the run goes on (from 63 threads to 64: `OfMoves.antt`). Assumes nothing.
-use Rattle.std.specs.Prelude.{ℕ, ◌+◌, ◌*◌, ◌<◌, ◌≡◌, refl, true, false, cond, ltb, eqb}
-use Rattle.std.proofs.Common.{arith, ◌∙◌, ltb-true, ltb-false, lt-ltb, eqb-true}
+use Rattle.std.specs.Prelude.{ℕ, ◌+◌, ◌*◌, ◌<◌, ◌≡◌, refl, true, false, cond, ltb, eqb, Err, Ok}
+use Rattle.std.proofs.Common.{arith, ap, ◌∙◌, ltb-true, ltb-false, lt-ltb, eqb-true}
 use mathlib.Core.List.{List, [], ◌∷◌}
 use Rattle.std.proofs.Math.ListN.{get_or-eq_default}
 use Rattle.numbers.specs.Rows.{at}
@@ -17,9 +17,8 @@ use Rattle.rules.specs.Holding.{settled}
 use Rattle.rules.specs.Start.{free_row, free_channel_row, entered}
 use Rattle.rules.specs.Calls.{course_of, run_call}
 use Rattle.rules.specs.declared.Refusal.TheVariants as Ground
-use Rattle.rules.specs.declared.Stepped.TheVariants as Stepped
+use Rattle.rules.specs.declared.Reason.{Reason}
 use Rattle.rules.specs.declared.Reason.TheVariants.{AllDone, NoneReady, LackedThread, LackedChannel}
-use Rattle.rules.specs.declared.Ran.TheVariants as Ran
 use Rattle.offers.specs.Apart.{Apart}
 use Rattle.rules_laws.specs.Granted.{Granted}
 use Rattle.rules_laws.specs.Reading.Laws.{offers_elim}
@@ -106,7 +105,7 @@ module _ (tb : Table) (d n : ℕ) (given : ℕ → ℕ → ℕ) (m : ℕ) where
 -- ---- what a run on the bytes of a sound state is answered with
 
 module _ (rs : Table) (e : in_order rs ≡ true) (s : State) (ok : Sound (filled_up rs) s) (n : ℕ) where
-  run_answer : (run_call (table_for rs) (state_bytes s) n).answer ≡ Ran.Done (course_of (filled_up rs) n s).steps (course_of (filled_up rs) n s).reason
+  run_answer : (run_call (table_for rs) (state_bytes s) n).answer ≡ Ok ((course_of (filled_up rs) n s).steps, (course_of (filled_up rs) n s).reason)
   run_answer =
       run_done (table_for rs) (table_accepted rs e) (table_small rs e) (state_bytes s) (bytes_sound (table_for rs) s (rw (table_holds rs e) ok)) n
       ∙ rw (table_holds rs e, view_bytes s ok.orderly.shaped)
@@ -127,35 +126,38 @@ abbrev spawning : ℕ → List ℕ
 spawning n = state_bytes (spawners n)
 
 spawner_run : (n k : ℕ) → (run_call (table_for spawner) (spawning n) k).answer
-    ≡ Ran.Done (course_of (filled_up spawner) k (spawners n)).steps (course_of (filled_up spawner) k (spawners n)).reason
+    ≡ Ok ((course_of (filled_up spawner) k (spawners n)).steps, (course_of (filled_up spawner) k (spawners n)).reason)
 spawner_run n k = run_answer spawner spawner_in_order (spawners n) (spawners_sound n) k
 
 -- with 64 threads the first spawn lacks a row: no step is made, and thread 0 is held up
-pub no_thread_row : (run_call (table_for spawner) (spawning 64) 5).answer ≡ Ran.Done 0 (LackedThread 0)
+pub no_thread_row : (run_call (table_for spawner) (spawning 64) 5).answer ≡ Ok (0, LackedThread 0)
 unfolding running spawners
 no_thread_row = spawner_run 64 5
 
 -- the step call refuses the step that lacks a thread row on ground 13
-pub step_no_thread_row : due_answer (table_for spawner) (spawning 64) ≡ Stepped.Refused Ground.ThreadRow
+pub step_no_thread_row : due_answer (table_for spawner) (spawning 64) ≡ Err Ground.ThreadRow
 unfolding after_turns
 step_no_thread_row =
     (((run_ends (table_for spawner) (spawning 64) (table_small spawner spawner_in_order) (bytes_small (spawners 64)) 5 0 (LackedThread 0) no_thread_row
     ).lacked_thread 0).0 refl).2
 
 -- with one thread the spawn goes ahead; the run ends with the one step that was asked for, for reason 0 and for no other
-pub thread_row_left : (run_call (table_for spawner) (spawning 1) 1).answer ≡ Ran.Done 1 AllDone
+pub thread_row_left : (run_call (table_for spawner) (spawning 1) 1).answer ≡ Ok (1, AllDone)
 unfolding running spawners
 thread_row_left = spawner_run 1 1
 
-pub not_lacked : ¬ ((run_call (table_for spawner) (spawning 1) 1).answer ≡ Ran.Done 0 (LackedThread 0))
-not_lacked e = let f = thread_row_left in clash cc
+pub not_lacked : ¬ ((run_call (table_for spawner) (spawning 1) 1).answer ≡ Ok (0, LackedThread 0))
+not_lacked e =
+    let f = thread_row_left in
+    let q : ◌≡◌ {A = ℕ × Reason} (1, AllDone) (0, LackedThread 0) = cc in
+    let n : ◌≡◌ {A = ℕ} 1 0 = ap (λ (x : ℕ × Reason). x.0) q in clash cc
 
 -- with no thread it is reason 1, unless no step was asked for
-pub nobody_ready : (run_call (table_for spawner) (spawning 0) 1).answer ≡ Ran.Done 0 NoneReady
+pub nobody_ready : (run_call (table_for spawner) (spawning 0) 1).answer ≡ Ok (0, NoneReady)
 unfolding running spawners
 nobody_ready = spawner_run 0 1
 
-pub no_step_asked : (run_call (table_for spawner) (spawning 0) 0).answer ≡ Ran.Done 0 AllDone
+pub no_step_asked : (run_call (table_for spawner) (spawning 0) 0).answer ≡ Ok (0, AllDone)
 unfolding running spawners
 no_step_asked = spawner_run 0 0
 
@@ -184,12 +186,12 @@ makers_sound =
         filled (rw e i) (rw (e, f) (λ z. absurd (omega arith))) v (rw (e, f, get_d_tabulate max_channels (t * 8 + k) (channel_of (filled_up maker) 1 16 (λ t k. t * 8 + k) 128) [] v, lt-ltb (t * 8 + k) 128 v))
 
 -- the makers know all 128 channels: the new lacks a row, though the thread is the last holder of the channel in the slot
-pub no_channel_row : (run_call (table_for maker) (state_bytes makers) 5).answer ≡ Ran.Done 0 (LackedChannel 0)
+pub no_channel_row : (run_call (table_for maker) (state_bytes makers) 5).answer ≡ Ok (0, LackedChannel 0)
 unfolding running makers
 no_channel_row = run_answer maker maker_in_order makers makers_sound 5
 
 -- the step call refuses the step that lacks a channel row on ground 14
-pub step_no_channel_row : due_answer (table_for maker) (state_bytes makers) ≡ Stepped.Refused Ground.ChannelRow
+pub step_no_channel_row : due_answer (table_for maker) (state_bytes makers) ≡ Err Ground.ChannelRow
 unfolding after_turns
 step_no_channel_row =
     (((run_ends (table_for maker) (state_bytes makers) (table_small maker maker_in_order) (bytes_small makers) 5 0 (LackedChannel 0) no_channel_row

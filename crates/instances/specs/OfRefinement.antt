@@ -1,8 +1,7 @@
 -- Instances of the theorems that tie states to 002's agents (`crates/published_laws`): threads that are a bench and that are not, an agent that no series of
 -- reductions reaches from the start of a file, whatever the bench does, a turn that ends otherwise than the engine's step and one that cannot. Assumes nothing.
-use Rattle.std.specs.Prelude.{ℕ, suc, ◌≡◌, refl, true, false, List, [], ◌∷◌}
+use Rattle.std.specs.Prelude.{ℕ, suc, ◌≡◌, refl, true, false, List, [], ◌∷◌, None, Option, Some}
 use Rattle.std.proofs.Common.{arith, sym, ◌∙◌, inl, inr, ⊎_elim}
-use Rattle.std.proofs.Math.Option.{Option, none, some}
 use Rattle.numbers.specs.Search.Laws.{contra}
 use Rattle.table.specs.Table.{Table, table_of}
 use Rattle.loader_laws.specs.PrintedFile.{filled_up}
@@ -50,13 +49,13 @@ use Rattle.instances.specs.OfTurns as Turns
 
 -- ---- the bench of a file with one port: a thread that knows the port; one that knows another channel is none
 
-pub a_bench : Bench (filled_up port_receiver) (Agents.thread [] (ports_and (filled_up port_receiver) none) end)
+pub a_bench : Bench (filled_up port_receiver) (Agents.thread [] (ports_and (filled_up port_receiver) None) end)
 unfolding refers waiting
-a_bench = bench_is (filled_up port_receiver) none (λ c. refl) end refl
+a_bench = bench_is (filled_up port_receiver) None (λ c. refl) end refl
 
-pub no_bench : ¬ Bench (filled_up port_receiver) (Agents.thread [] (some (channel 0) ∷ some (channel 9) ∷ []) end)
+pub no_bench : ¬ Bench (filled_up port_receiver) (Agents.thread [] (Some (channel 0) ∷ Some (channel 9) ∷ []) end)
 unfolding knows mentions refers
-no_bench b = contra {b = knows 9 (Agents.thread [] (some (channel 0) ∷ some (channel 9) ∷ []) end)} refl (b.ports_only 9)
+no_bench b = contra {b = knows 9 (Agents.thread [] (Some (channel 0) ∷ Some (channel 9) ∷ []) end)} refl (b.ports_only 9)
 
 -- ---- whole computations: two threads that wait for each other, one to send and one to receive on channel 0, are not reached from the start of document 01's
 -- listing, by 002's rules and document 01's own, from whatever process of the bench to whatever
@@ -93,12 +92,12 @@ abbrev first : Thread
 first = thread_of tb (thread (started tb) 0)
 
 abbrev idle : Thread
-idle = bench_at none end
+idle = bench_at None end
 
 abbrev pub named : ℕ → Agent
 named ĉ =
     Agents.agent (adding (channels_of (started (filled_up listing))) ĉ)
-    (Agents.thread [] (bind (thread_of (filled_up listing) (thread (started (filled_up listing)) 0)).env 0 (channel ĉ)) (process_at (filled_up listing) 1) ∷ bench_at none end ∷ [])
+    (Agents.thread [] (bind (thread_of (filled_up listing) (thread (started (filled_up listing)) 0)).env 0 (channel ĉ)) (process_at (filled_up listing) 1) ∷ bench_at None end ∷ [])
 
 named_whole : WholeTurn (body_of tb) (agent_of tb idle (started tb)) first (named 5)
 unfolding running agent_of threads_of channels_of thread_of ready_thread process_at unrolled node_process sum_before printed_guard_of guard_by guard_of prefix_of Agents.holds commits
@@ -112,7 +111,7 @@ named_whole = record {
 
 idle_bench : Bench tb idle
 unfolding refers waiting
-idle_bench = bench_is tb none (λ c. refl) end refl
+idle_bench = bench_is tb None (λ c. refl) end refl
 
 first_ready : is_ready (thread (started tb) 0) ≡ true
 unfolding running
@@ -122,9 +121,9 @@ first_allowed : Allowed (move tb (started tb) 0)
 unfolding running Allowed
 first_allowed = tt
 
-pub any_name : UpTo (body_of (filled_up listing)) (for_numbers (filled_up listing)) (agent_of (filled_up listing) (bench_at none end) (started (filled_up listing)))
+pub any_name : UpTo (body_of (filled_up listing)) (for_numbers (filled_up listing)) (agent_of (filled_up listing) (bench_at None end) (started (filled_up listing)))
     (thread_of (filled_up listing) (thread (started (filled_up listing)) 0)) (named 5)
-    (agent_of (filled_up listing) (bench_at none end) (written (filled_up listing) (started (filled_up listing)) 0 (move (filled_up listing) (started (filled_up listing)) 0)))
+    (agent_of (filled_up listing) (bench_at None end) (written (filled_up listing) (started (filled_up listing)) 0 (move (filled_up listing) (started (filled_up listing)) 0)))
 any_name =
     turn_conversely tb (rows_granted listing listing_in_order) (rows_readable listing listing_in_order) (started tb)
     (started_sound tb (rows_granted listing listing_in_order)) 0 (omega arith) first_ready idle idle_bench first_allowed (named 5) named_whole
@@ -140,11 +139,11 @@ unfolding taught
 taught_sound = run_sound teaching teaching_in_order 4
 
 abbrev pub class : Thread
-class = Agents.thread [] (ports_and (filled_up teaching) none) end
+class = Agents.thread [] (ports_and (filled_up teaching) None) end
 
 class_bench : Bench lessons class
 unfolding refers waiting
-class_bench = bench_is lessons none (λ c. refl) end refl
+class_bench = bench_is lessons None (λ c. refl) end refl
 
 -- of three threads one has a commitment, and no more than that
 one_committed : (x y z : Thread) (k : Commitment) (ĉ : ℕ) → x.commitments ≡ [] → y.commitments ≡ [] → z.commitments ≡ k ∷ [] → Sole (x ∷ y ∷ z ∷ []) ĉ

@@ -1,7 +1,7 @@
 -- Instances of the theorems on the refusals that C sees (`guarantee/specs/RefusalsInNumbers.antt`, `LoadInNumbers.antt`): calls to which several grounds apply, with
 -- the one that is answered; calls that no ground refuses; runs that end for want of a row, and the step that is refused there; files that are refused on each
 -- ground, with their lines. Assumes nothing.
-use Rattle.std.specs.Prelude.{ℕ, zero, suc, ◌<◌, ◌≤◌, ◌≡◌, refl, ◌≢◌, true, false, List, [], ℤ, pos, negsuc, length, get_or, set}
+use Rattle.std.specs.Prelude.{ℕ, zero, suc, ◌<◌, ◌≤◌, ◌≡◌, refl, ◌≢◌, true, false, List, [], ℤ, pos, negsuc, length, get_or, set, Err, None, Ok, Some}
 use Rattle.std.proofs.Common.{arith, sym, ap, ◌∙◌, inr, SFits}
 use Rattle.std.proofs.Math.Logic.{inl}
 use Rattle.std.specs.Int.{w32}
@@ -17,7 +17,6 @@ use Rattle.loader.specs.Verdict.{verdict}
 use Rattle.loader.specs.Load.{table_length, table_bytes}
 use Rattle.loader.specs.declared.Ground.{Ground}
 use Rattle.loader.specs.declared.Ground.TheVariants.{Lines, Field, Header, Kind, Range, Types, Unwritten, Unreachable}
-use Rattle.loader.specs.declared.Verdict.TheVariants.{Fault}
 use Rattle.loader_laws.specs.Refused.{Refused, rank}
 use Rattle.loader_laws.specs.Refused.Laws.{refused_iff}
 use Rattle.loader_laws.specs.Yields.{length_bytes}
@@ -26,8 +25,6 @@ use Rattle.rules.specs.Sound.{sound}
 use Rattle.rules.specs.Seats.Entitled.{Entitled}
 use Rattle.rules.proofs.Seats.Entitled.{lacks_right_iff, has_right_iff}
 use Rattle.rules.specs.declared.Right.{Right}
-use Rattle.rules.specs.declared.Right.TheVariants as Right
-use Rattle.rules.specs.declared.Given.TheVariants as Given
 use Rattle.rules_laws.specs.Shape.Laws.{bytes_small}
 use Rattle.engine_laws.specs.Entry.{Admitted, admitted_iff, state_iff}
 use Rattle.engine_laws.specs.Refusals.{step_thread_row_iff, step_channel_row_iff, give_nobody_iff}
@@ -271,7 +268,7 @@ nobody_told = (
   (give_in_numbers receives fresh full 0 fits (bytes_small (begun 0)) full_small 0 (negsuc 4) minus_five).nobody.1
       (all_past port_receiver receiver_in_order (begun 0) (begun_admitted 0) (Right.Give 0) may_at.0, one_port.0, nobody_offers),
   λ e. let (w, l, n) = (giving 0).nobody.0 e in
-      let q : Given.Met 0 ≡ Given.Nobody = sym somebody_there ∙ (give_nobody_iff receives waits 0 7).1 (begun_admitted 1, l, n) in clash cc,
+      let q : Ok (Some 0) ≡ Ok None = sym somebody_there ∙ (give_nobody_iff receives waits 0 7).1 (begun_admitted 1, l, n) in clash cc,
 )
 
 taking : (p : ℕ) → TakeInNumbers receives waits full 0 p
@@ -318,7 +315,7 @@ starts_told = (
 -- ---- loads: document 01's listing with one change each, into whatever buffer. The ground and the first line at fault
 
 module _ (t : List ℕ) where
-  fault : (file : List ℕ) (g : Ground) (l : ℕ) → verdict file ≡ Fault g l → 0 < rank g → FaultAt file t g l
+  fault : (file : List ℕ) (g : Ground) (l : ℕ) → verdict file ≡ Err (g, l) → 0 < rank g → FaultAt file t g l
   unfolding Refused rank
   fault file g l e h = let w = (refused_iff file g l).0 e in (λ z. w.2 Lines 0 h (refl, inl z), w)
 

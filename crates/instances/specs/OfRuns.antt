@@ -1,6 +1,7 @@
 -- Who takes part in a run, at work (`guarantee/specs/MoversInNumbers.antt`): a run in which a thread is met, by the step call that meets it; and a run beside which
 -- a thread only waits. Assumes nothing.
-use Rattle.std.specs.Prelude.{ℕ, ◌<◌, ◌≡◌, refl, true, false, List, [], ◌∷◌, get_or}
+use Rattle.rules.specs.Answers.{Ran}
+use Rattle.std.specs.Prelude.{ℕ, ◌<◌, ◌≡◌, refl, true, false, List, [], ◌∷◌, get_or, Err, Ok}
 use Rattle.std.proofs.Common.{arith, ap, ◌∙◌}
 use Rattle.table.specs.Table.{Table, table_of}
 use Rattle.loader.specs.Load.{accepted}
@@ -13,13 +14,9 @@ use Rattle.rules.specs.Calls.Laws.{step_answered}
 use Rattle.rules.specs.Seats.{seat_admission, seated_step, seated_run}
 use Rattle.rules.specs.Seats.Laws.{seat_granted}
 use Rattle.rules.specs.declared.Right.TheVariants.{StepAndRun}
-use Rattle.rules.specs.declared.Admission.TheVariants as Admission
 use Rattle.rules.specs.declared.Deed.TheVariants.{TookWith}
 use Rattle.rules.specs.declared.Move.TheVariants.{Meets}
 use Rattle.rules.specs.declared.Reason.TheVariants.{AllDone}
-use Rattle.rules.specs.declared.Stepped.TheVariants as Stepped
-use Rattle.rules.specs.declared.Ran.{Ran}
-use Rattle.rules.specs.declared.Ran.TheVariants as Ran
 use Rattle.rules_laws.specs.Frames.{elem, movers}
 use Rattle.engine_laws.specs.Seats.{seat_admitted_iff}
 use Rattle.engine_laws.specs.Buffers.{SoundBuffer}
@@ -46,14 +43,14 @@ use Rattle.instances.specs.Parting.{blank, blank_long}
 -- ---- a run at seat 0 by a list with all rights, from bytes that hold a sound state, which makes the n steps that are asked for
 
 module _ (table : List ℕ) (ok : accepted table ≡ true) (fit : (i : ℕ) → get_or table i 0 < 256) (x : List ℕ) (b : SoundBuffer table x) where
-  pub may : seat_admission table x full 0 StepAndRun ≡ Admission.Admitted
+  pub may : seat_admission table x full 0 StepAndRun ≡ Ok tt
   may = (seat_admitted_iff table x full 0 StepAndRun).1 ((right_lengths table ok x b.long, full_long), ok, full_in_range, full_steps)
 
   plainly : (n : ℕ) → seated_run table x full 0 n ≡ run_call table x n
   unfolding seated_run
-  plainly n = seat_granted table x full 0 StepAndRun Ran.Refused (run_call table x n) may
+  plainly n = seat_granted table x full 0 StepAndRun Err (run_call table x n) may
 
-  module _ (n : ℕ) (e : (run_call table x n).answer ≡ Ran.Done n AllDone) where
+  module _ (n : ℕ) (e : (run_call table x n).answer ≡ Ok (n, AllDone)) where
     moved_by : (who : List ℕ) → ran_movers (table_of table) n (view x) ≡ who → moved table x full 0 (run n) ≡ who
     unfolding moving_by in_turns
     moved_by who f = moved_so table ok x b full 0 (run n) ∙ rw (plainly n, e, f)
@@ -97,7 +94,7 @@ five_steps : ((course_of tb 5 (started tb)).steps ≡ 5) × ((course_of tb 5 (st
 unfolding running ran_movers turn_movers onward_movers movers
 five_steps = (refl, refl, refl)
 
-five_done : (run_call table begun 5).answer ≡ Ran.Done 5 AllDone
+five_done : (run_call table begun 5).answer ≡ Ok (5, AllDone)
 five_done = run_done table accepts small begun begun_sound 5 ∙ rw (held_table, begun_view, five_steps.0, five_steps.1)
 
 -- thread 1 takes part in the third turn, in which it begins to wait, and in the fifth, in which it is met
@@ -133,15 +130,15 @@ fifth_due = rw four_view fifth.0
 fifth_moves : (can_step (view four) 0 ≡ true) × (move (table_of table) (view four) 0 ≡ Meets 0 1 0)
 fifth_moves = rw (held_table, four_view) (fifth.1, fifth.2)
 
-fifth_answer : (step_call table four 0).answer ≡ Stepped.Done (stands_at (thread (view four) 0)) (TookWith 0 1)
+fifth_answer : (step_call table four 0).answer ≡ Ok (stands_at (thread (view four) 0), TookWith 0 1)
 unfolding step_call step_answer
 fifth_answer =
-    rw (call_made table accepts Stepped.Refused four four_sound (step_on (table_of table) (view four) 0))
+    rw (call_made table accepts Err four four_sound (step_on (table_of table) (view four) 0))
     (step_answered (table_of table) (view four) 0 ∙ rw (fifth_moves.0, fifth_moves.1))
 
 fifth_plainly : seated_step table four full 0 0 ≡ step_call table four 0
 unfolding seated_step
-fifth_plainly = seat_granted table four full 0 StepAndRun Stepped.Refused (step_call table four 0) (may table accepts small four four_sound)
+fifth_plainly = seat_granted table four full 0 StepAndRun Err (step_call table four 0) (may table accepts small four four_sound)
 
 pub fifth_meets : moved table four full 0 (step 0) ≡ 0 ∷ 1 ∷ []
 unfolding moving_by unless_refused movers
@@ -157,7 +154,7 @@ two_steps : ((course_of Parting.tb 2 (Parting.state_after 3)).steps ≡ 2) × ((
 unfolding running Parting.state_after ran_movers turn_movers onward_movers movers
 two_steps = (refl, refl, refl, refl)
 
-two_done : (run_call Parting.table three 2).answer ≡ Ran.Done 2 AllDone
+two_done : (run_call Parting.table three 2).answer ≡ Ok (2, AllDone)
 two_done =
     run_done Parting.table Parting.accepts Parting.small three (Parting.bytes_sound 3) 2
     ∙ rw (Parting.held_table, Parting.bytes_view 3, two_steps.0, two_steps.1)

@@ -2,7 +2,8 @@
 -- `profile_laws/specs/SeatedPledge.antt`): a trainee who may not feed a
 -- port is told the same of two states, and a leader is told them apart; a list with one number out of range is refused to everybody; and a list of calls
 -- at seats, whose collection the leader may make and the trainee not. Assumes nothing.
-use Rattle.std.specs.Prelude.{ℕ, ◌<◌, ◌≡◌, refl, ◌≢◌, true, List, [], ◌∷◌, map, length, get_or, pos}
+use Rattle.collector.specs.Answers.{Collected}
+use Rattle.std.specs.Prelude.{ℕ, ◌<◌, ◌≡◌, refl, ◌≢◌, true, List, [], ◌∷◌, map, length, get_or, pos, Err, Ok, Some}
 use Rattle.std.proofs.Common.{arith, sym, ap, ◌∙◌, inr, eq-eqb}
 use Rattle.std.specs.Int.{w32}
 use Rattle.std.proofs.Math.Facts.{to_z_pos}
@@ -14,9 +15,6 @@ use Rattle.rules.specs.Seats.Laws.{seat_granted, seat_refused}
 use Rattle.rules.specs.Calls.{Outcome, give_call, take_call}
 use Rattle.rules.specs.declared.Right.TheVariants as Right
 use Rattle.rules.specs.declared.Refusal.TheVariants as Ground
-use Rattle.rules.specs.declared.Admission.TheVariants as Admission
-use Rattle.rules.specs.declared.Given.TheVariants as Given
-use Rattle.rules.specs.declared.Taken.TheVariants as Taken
 use Rattle.engine.specs.Numbers.{refusal_number}
 use Rattle.engine_laws.specs.Entry.{at_entry, RightLengths}
 use Rattle.engine_laws.specs.Refusals.{give_entry_iff, take_port_iff}
@@ -24,8 +22,6 @@ use Rattle.engine_laws.specs.Seats.{AllLengths, ZeroToThree, right_iff, seat_adm
 use Rattle.engine_laws.specs.SoundCalls.{right_lengths}
 use Rattle.engine_laws.specs.Lists.{step, give, take, run, RefusedWith}
 use Rattle.collector.specs.Collect.{collect_call, seated_collect}
-use Rattle.collector.specs.declared.Collected.{Collected}
-use Rattle.collector.specs.declared.Collected.TheVariants as Collected
 use Rattle.examples.specs.Tables.{port_receiver, doublings}
 use Rattle.examples.specs.Files.{table_for, table_holds, table_accepted, table_small, receiver_in_order, doublings_in_order}
 use Rattle.guarantee.specs.Claim.{Any, on, reached_by, RefusedBy}
@@ -73,12 +69,12 @@ trainee_nineteen =
     (nineteen_iff receives waits shop 1 shop_small feed).1 (all_right, accepts, shop_in_order, trainee_not_entitled.0)
 
 -- the leader at seat 0 meets the thread in one, and is refused with 10 in the other
-leader_admitted : (state : List ℕ) → RightLengths receives state → seat_admission receives state shop 0 (Right.Give 0) ≡ Admission.Admitted
+leader_admitted : (state : List ℕ) → RightLengths receives state → seat_admission receives state shop 0 (Right.Give 0) ≡ Ok tt
 leader_admitted state l = (seat_admitted_iff receives state shop 0 (Right.Give 0)).1 ((l, shop_long), accepts, shop_in_range, leader_may.0)
 
-pub leader_meets : (seated_give receives waits shop 0 0 7).answer ≡ Given.Met 0
+pub leader_meets : (seated_give receives waits shop 0 0 7).answer ≡ Ok (Some 0)
 unfolding seated_give
-leader_meets = rw (seat_granted receives waits shop 0 (Right.Give 0) Given.Refused (give_call receives waits 0 7) (leader_admitted waits (begun_lengths 1))) somebody_there
+leader_meets = rw (seat_granted receives waits shop 0 (Right.Give 0) Err (give_call receives waits 0 7) (leader_admitted waits (begun_lengths 1))) somebody_there
 
 pub leader_ten : refusal_by receives zeros shop 0 feed ≡ pos 10
 unfolding asked RefusedBy RefusedWith refusal_number at_entry
@@ -89,7 +85,7 @@ leader_ten =
 
 -- ---- 19 and 12: each call goes by the number of its own port
 
-no_second_port : (take_call receives waits 1).answer ≡ Taken.Refused Ground.Port
+no_second_port : (take_call receives waits 1).answer ≡ Err Ground.Port
 no_second_port = (take_port_iff receives waits 1).1 (begun_admitted 1, rw (table_holds port_receiver receiver_in_order) (omega arith))
 
 -- the trainee may take at port 1 alone: there the call comes to its own ground, since the file has one port, and at port 0 it does not
@@ -158,18 +154,18 @@ worked_lengths : RightLengths Parting.table worked
 worked_lengths = right_lengths Parting.table Parting.accepts worked (Parting.bytes_sound 5).long
 
 -- the leader's collection takes one thread, and the trainee's is refused with 19
-pub leader_collects : (seated_collect Parting.table worked shop 0).answer ≡ Collected.Done 1
+pub leader_collects : (seated_collect Parting.table worked shop 0).answer ≡ Ok 1
 unfolding seated_collect
 leader_collects =
-    rw (seat_granted Parting.table worked shop 0 Right.Collect Collected.Refused (collect_call Parting.table worked)
+    rw (seat_granted Parting.table worked shop 0 Right.Collect Err (collect_call Parting.table worked)
     ((seat_admitted_iff Parting.table worked shop 0 Right.Collect).1 ((worked_lengths, shop_long), Parting.accepts, shop_in_range, leader_may.1)))
     one_collected
 
-pub trainee_collects_not : (seated_collect Parting.table worked shop 1).answer ≡ Collected.Refused Ground.Seat
+pub trainee_collects_not : (seated_collect Parting.table worked shop 1).answer ≡ Err Ground.Seat
 unfolding seated_collect
 trainee_collects_not =
     ap (λ (o : Outcome Collected). o.answer)
-    (seat_refused Parting.table worked shop 1 Right.Collect Collected.Refused (collect_call Parting.table worked) Ground.Seat
+    (seat_refused Parting.table worked shop 1 Right.Collect Err (collect_call Parting.table worked) Ground.Seat
     ((right_iff Parting.table worked shop 1 Right.Collect).1 ((worked_lengths, shop_long), Parting.accepts, shop_in_range, trainee_may_not.1)))
 
 -- ---- the pledge of the profile: 64 threads are pledged, and steps that the trainee makes come to 64

@@ -1,15 +1,13 @@
 -- Instances of document 02's S-4 (`published_laws/specs/Fitting.antt`, `proofs/Compared.antt`, `guarantee/proofs/SumsInNumbers.antt`): the arithmetic at the ends of its
 -- range, a counter that has one number left, and one at its end; and a thread with a difference and a sum before it, where both fit, and where the difference
 -- does not. Assumes nothing.
-use Rattle.std.specs.Prelude.{ℕ, zero, suc, ◌<◌, ◌≡◌, refl, ◌≢◌, true, false, List, [], ◌∷◌, length, get_or, pos, negsuc}
+use Rattle.std.specs.Prelude.{ℕ, zero, suc, ◌<◌, ◌≡◌, refl, ◌≢◌, true, false, List, [], ◌∷◌, length, get_or, pos, negsuc, Err, None, Ok, Some}
 use Rattle.std.proofs.Common.{arith, ◌∙◌, inl, inr, to_z}
 use Rattle.std.proofs.Math.Path.{ap}
-use Rattle.std.proofs.Math.Option.{none}
 use Rattle.std.specs.Int.{w32}
 use Rattle.numbers.specs.Rows.{at}
 use Rattle.numbers.specs.Search.Laws.{contra}
 use Rattle.numbers.specs.Tests.{clash}
-use Rattle.numbers.specs.declared.Checked.TheVariants.{Exact, Overflow}
 use Rattle.table.specs.Layout.{branch_count}
 use Rattle.table.specs.Table.{Table, table_of}
 use Rattle.loader.specs.Load.{accepted}
@@ -35,7 +33,6 @@ use Rattle.rules.specs.Seats.{seated_step}
 use Rattle.rules.specs.Seats.Laws.{seat_granted}
 use Rattle.rules.specs.declared.Right.TheVariants as Right
 use Rattle.rules.specs.declared.Deed.TheVariants.{Took}
-use Rattle.rules.specs.declared.Stepped.TheVariants as Stepped
 use Rattle.rules_laws.specs.Shape.{Shaped}
 use Rattle.rules_laws.specs.Shape.Laws.{bytes_long, bytes_small, view_bytes}
 use Rattle.engine.specs.Numbers.{act_number, branch_number}
@@ -55,14 +52,14 @@ use Rattle.instances.specs.OfBuffers.{zero_row, zero_at, zero_long}
 
 -- ---- sums and differences. Patterns above 2147483647 are those of negative numbers, and negsuc n is -(n + 1)
 
-pub sums_at_ends : (checked_sum 2147483646 1 ≡ Exact (pos 2147483647)) × (checked_sum 2147483647 1 ≡ Overflow)
-    × (checked_sum 2147483649 4294967295 ≡ Exact (negsuc 2147483647)) × (checked_sum 2147483648 4294967295 ≡ Overflow)
+pub sums_at_ends : (checked_sum 2147483646 1 ≡ Some (pos 2147483647)) × (checked_sum 2147483647 1 ≡ None)
+    × (checked_sum 2147483649 4294967295 ≡ Some (negsuc 2147483647)) × (checked_sum 2147483648 4294967295 ≡ None)
 unfolding running
 sums_at_ends = (refl, refl, refl, refl)
 
 -- -1 - (-2147483648) fits, though 2147483648 by itself does not
-pub differences_at_ends : (checked_difference 4294967295 2147483648 ≡ Exact (pos 2147483647)) × (checked_difference 0 2147483648 ≡ Overflow)
-    × (checked_difference 2147483649 1 ≡ Exact (negsuc 2147483647)) × (checked_difference 2147483648 1 ≡ Overflow)
+pub differences_at_ends : (checked_difference 4294967295 2147483648 ≡ Some (pos 2147483647)) × (checked_difference 0 2147483648 ≡ None)
+    × (checked_difference 2147483649 1 ≡ Some (negsuc 2147483647)) × (checked_difference 2147483648 1 ≡ None)
 unfolding running
 differences_at_ends = (refl, refl, refl, refl)
 
@@ -89,7 +86,7 @@ near_fits (suc (suc i)) l o = omega arith
 
 -- and so, by the laws, the guard counts as the file has it, and the sum is what document 01 has
 pub near_as_before : (guard_holds tb (branch_at tb 2 0) near ≡ printed_guard tb (branch_at tb 2 0) near)
-    × (assigned tb (branch_at tb 2 0) near ≡ Exact (wrapped_value tb (branch_at tb 2 0) near))
+    × (assigned tb (branch_at tb 2 0) near ≡ Some (wrapped_value tb (branch_at tb 2 0) near))
 unfolding running
 near_as_before =
     let q = table_holds counter counter_in_order in
@@ -110,7 +107,7 @@ unfolding running
 far_too_far = inl (refl, inr refl)
 
 pub far_passed_over : (guard_holds tb (branch_at tb 2 0) far ≡ false) × (printed_guard tb (branch_at tb 2 0) far ≡ true)
-    × (assigned tb (branch_at tb 2 0) far ≡ Overflow) × (wrapped_value tb (branch_at tb 2 0) far ≡ negsuc 2147483647)
+    × (assigned tb (branch_at tb 2 0) far ≡ None) × (wrapped_value tb (branch_at tb 2 0) far ≡ negsuc 2147483647)
 unfolding running residue wrapped wrapped_value
 far_passed_over = (refl, refl, refl, refl)
 
@@ -222,7 +219,7 @@ module _ (x y : ℕ) (l : x < 4294967296) (m : y < 4294967296) where
     unfolding step_call
     step_is =
         rw (
-          call_made reckons accepts Stepped.Refused (state_bytes (reckoning x y)) bytes_of (step_on (table_of reckons) (view (state_bytes (reckoning x y))) 0),
+          call_made reckons accepts Err (state_bytes (reckoning x y)) bytes_of (step_on (table_of reckons) (view (state_bytes (reckoning x y))) 0),
           held,
           view_bytes (reckoning x y) reckoning_shaped,
         )
@@ -231,13 +228,13 @@ module _ (x y : ℕ) (l : x < 4294967296) (m : y < 4294967296) where
     seated : seated_step reckons (state_bytes (reckoning x y)) shop 1 0 ≡ step_call reckons (state_bytes (reckoning x y)) 0
     unfolding seated_step
     seated =
-        seat_granted reckons (state_bytes (reckoning x y)) shop 1 Right.StepAndRun Stepped.Refused (step_call reckons (state_bytes (reckoning x y)) 0)
+        seat_granted reckons (state_bytes (reckoning x y)) shop 1 Right.StepAndRun Err (step_call reckons (state_bytes (reckoning x y)) 0)
         ((seat_admitted_iff reckons (state_bytes (reckoning x y)) shop 1 Right.StepAndRun).1
         ((right_lengths reckons accepts (state_bytes (reckoning x y)) bytes_of.long, shop_long), accepts, shop_in_range, trainee_may.1))
 
     -- and in C's numbers
-    module _ (i : ℕ) (e : (step_on (filled_up reckoner) (reckoning x y) 0).answer ≡ Stepped.Done 2 (Took i)) (q : to_z w32 i ≡ pos i) where
-      numbers_are : (step_result reckons (state_bytes (reckoning x y)) shop 1 0).answer ≡ step_numbers (Stepped.Done 2 (Took i))
+    module _ (i : ℕ) (e : (step_on (filled_up reckoner) (reckoning x y) 0).answer ≡ Ok (2, Took i)) (q : to_z w32 i ≡ pos i) where
+      numbers_are : (step_result reckons (state_bytes (reckoning x y)) shop 1 0).answer ≡ step_numbers (Ok (2, Took i))
       unfolding step_result in_numbers
       numbers_are = rw (seated, step_is, e)
 
@@ -270,18 +267,18 @@ both_sound : SoundBuffer reckons (state_bytes both)
 both_sound = bytes_of 5 12 (omega arith) (omega arith) tested_both
 
 -- the first is answered with the difference, branch 0, and the second, where that is passed over, with the sum, branch 1
-both_does : (step_on (filled_up reckoner) (reckoning 5 12) 0).answer ≡ Stepped.Done 2 (Took 0)
+both_does : (step_on (filled_up reckoner) (reckoning 5 12) 0).answer ≡ Ok (2, Took 0)
 unfolding running step_on step_end can_step
 both_does = refl
 
-one_does : (step_on (filled_up reckoner) (reckoning 2147483656 100) 0).answer ≡ Stepped.Done 2 (Took 1)
+one_does : (step_on (filled_up reckoner) (reckoning 2147483656 100) 0).answer ≡ Ok (2, Took 1)
 unfolding running step_on step_end can_step
 one_does = refl
 
-pub both_step : (step_call reckons (state_bytes (reckoning 5 12)) 0).answer ≡ Stepped.Done 2 (Took 0)
+pub both_step : (step_call reckons (state_bytes (reckoning 5 12)) 0).answer ≡ Ok (2, Took 0)
 both_step = step_is 5 12 (omega arith) (omega arith) tested_both ∙ both_does
 
-pub one_step : (step_call reckons (state_bytes (reckoning 2147483656 100)) 0).answer ≡ Stepped.Done 2 (Took 1)
+pub one_step : (step_call reckons (state_bytes (reckoning 2147483656 100)) 0).answer ≡ Ok (2, Took 1)
 one_step = step_is 2147483656 100 (omega arith) (omega arith) tested_one ∙ one_does
 
 -- ---- what C sees: the difference of 5 and 12 is stored as -7; the sum of -2147483640 and 100 as -2147483540; and by the law no step of the second could be
@@ -328,11 +325,11 @@ difference_not_answered a =
 -- difference is true, nothing can be stored, and nothing passes the branch over
 
 abbrev idle : Thread
-idle = Agents.thread [] (ports_and (table_of reckons) none) end
+idle = Agents.thread [] (ports_and (table_of reckons) None) end
 
 idle_bench : Bench (table_of reckons) idle
 unfolding refers waiting
-idle_bench = bench_is (table_of reckons) none (λ c. refl) end refl
+idle_bench = bench_is (table_of reckons) None (λ c. refl) end refl
 
 both_fit : (i : ℕ) → i < branch_count (filled_up reckoner) 2 → TooFar (filled_up reckoner) (branch_at (filled_up reckoner) 2 i) (thread both 0) → ⊥
 unfolding running

@@ -1,8 +1,7 @@
 -- Theorems on turns at work (`published_laws/proofs/Running.antt`, `Wholly.antt`): the turns of a run of five steps from the start of a file, whose they are and
 -- what they end with, answers that would be wrong, and a collection after it. Assumes nothing.
-use Rattle.std.specs.Prelude.{ℕ, ◌≡◌, refl, true, List, [], ◌∷◌}
+use Rattle.std.specs.Prelude.{ℕ, ◌≡◌, refl, true, List, [], ◌∷◌, Ok, None}
 use Rattle.std.proofs.Common.{arith, ◌∙◌, inl, inr, ⊎_elim}
-use Rattle.std.proofs.Math.Option.{none}
 use Rattle.numbers.specs.Search.{tabulate, computing}
 use Rattle.numbers.specs.Tests.{clash}
 use Rattle.table.specs.Table.{Table, table_of}
@@ -14,7 +13,6 @@ use Rattle.rules.specs.Calls.{next_ready, course_of, run_call}
 use Rattle.rules.specs.declared.Move.TheVariants.{Creates}
 use Rattle.rules.specs.declared.Deed.TheVariants.{Took, TookWith}
 use Rattle.rules.specs.declared.Reason.TheVariants.{AllDone}
-use Rattle.rules.specs.declared.Ran.TheVariants as Ran
 use Rattle.rules_laws.specs.Accepted.{granted}
 use Rattle.engine_laws.specs.Buffers.{view_sound}
 use Rattle.collector.specs.Collect.{collected, collect_call, seated_collect}
@@ -47,11 +45,11 @@ use Rattle.instances.specs.Parting.{tb, table, accepts, small, held_table, state
 -- receives on the port; beside it a bench that does nothing
 
 abbrev pub idle : Thread
-idle = Agents.thread [] (ports_and (table_of table) none) end
+idle = Agents.thread [] (ports_and (table_of table) None) end
 
 pub idle_bench : Bench (table_of table) idle
 unfolding refers waiting
-idle_bench = bench_is (table_of table) none (λ c. refl) end refl
+idle_bench = bench_is (table_of table) None (λ c. refl) end refl
 
 -- ---- a run of five steps
 
@@ -59,7 +57,7 @@ five_steps : ((course_of tb 5 (started tb)).steps ≡ 5) × ((course_of tb 5 (st
 unfolding running
 five_steps = (refl, refl)
 
-pub run_five : (run_call table begun 5).answer ≡ Ran.Done 5 AllDone
+pub run_five : (run_call table begun 5).answer ≡ Ok (5, AllDone)
 run_five = run_done table accepts small begun begun_sound 5 ∙ rw (held_table, begun_view, five_steps.0, five_steps.1)
 
 -- the run of five steps is five turns

@@ -1,6 +1,8 @@
 -- Demand 3 of the buffers, at work (`driver/specs/ClaimOfBuffers.antt`): a file that is loaded, started and worked with a run and a collection, which takes a thread;
 -- the same with a give in place of the collection, whose answer names another; and a file that is refused, which leaves every buffer. Assumes nothing.
-use Rattle.std.specs.Prelude.{ℕ, ◌*◌, ◌<◌, ◌≤◌, ◌≡◌, refl, true, false, List, [], ◌∷◌, ltb, length, get_or, take, replicate, pos}
+use Rattle.collector.specs.Answers.{Collected}
+use Rattle.rules.specs.Answers.{Ran}
+use Rattle.std.specs.Prelude.{ℕ, ◌*◌, ◌<◌, ◌≤◌, ◌≡◌, refl, true, false, List, [], ◌∷◌, ltb, length, get_or, take, replicate, pos, Err}
 use Rattle.std.proofs.Common.{arith, ap, ◌∙◌, take_all, to_z, ltb-true, ltb-false, eq-eqb}
 use Rattle.std.proofs.Math.ListN.{get_or-eq_default}
 use Rattle.std.specs.Int.{w32}
@@ -14,14 +16,9 @@ use Rattle.rules.specs.Calls.{Outcome, give_call, run_call}
 use Rattle.rules.specs.Seats.{seated_give, seated_run}
 use Rattle.rules.specs.Seats.Laws.{seat_granted}
 use Rattle.rules.specs.declared.Right.TheVariants as Right
-use Rattle.rules.specs.declared.Given.TheVariants as Given
-use Rattle.rules.specs.declared.Ran.{Ran}
-use Rattle.rules.specs.declared.Ran.TheVariants as Ran
 use Rattle.rules_laws.specs.Frames.{elem}
 use Rattle.engine_laws.specs.Lists.{give, run, after}
 use Rattle.collector.specs.Collect.{collect_call, seated_collect}
-use Rattle.collector.specs.declared.Collected.{Collected}
-use Rattle.collector.specs.declared.Collected.TheVariants as Collected
 use Rattle.interface.specs.Interface.{in_numbers, give_fields, give_numbers, give_result, collect_fields, collect_numbers, collect_result}
 use Rattle.examples.specs.Tables.{parting}
 use Rattle.guarantee.specs.Claim.{Any, on, collect, after_any, after_list, taken_by}
@@ -94,7 +91,7 @@ opened calls a = rw (parting_zero, eq-eqb (length blank) state_length blank_long
 after_run_lem : after_by table begun full 0 (on (run 5)) ≡ worked
 unfolding after_by after_list after_any after seated_run
 after_run_lem = ap (λ (o : Outcome Ran). o.state)
-    (seat_granted table begun full 0 Right.StepAndRun Ran.Refused (run_call table begun 5) (OfRuns.may table accepts small begun begun_sound))
+    (seat_granted table begun full 0 Right.StepAndRun Err (run_call table begun 5) (OfRuns.may table accepts small begun begun_sound))
 
 -- words 0 and 1 of the second answer, which is that to call k
 module _ (k : Any) where
@@ -111,7 +108,7 @@ module _ (k : Any) where
 
 collected_plainly : seated_collect table worked full 0 ≡ collect_call table worked
 unfolding seated_collect
-collected_plainly = seat_granted table worked full 0 Right.Collect Collected.Refused (collect_call table worked) (may 5 Right.Collect full_collects)
+collected_plainly = seat_granted table worked full 0 Right.Collect Err (collect_call table worked) (may 5 Right.Collect full_collects)
 
 one_done : (collect_result table worked full 0).answer.refusal ≡ pos 0
 unfolding collect_result in_numbers collect_numbers collect_fields
@@ -148,7 +145,7 @@ child_freed = rw (before_is, after_is) child_taken
 
 give_done : (give_result table worked full 0 0 (to_z w32 7)).answer ≡ give_fields 0 0
 unfolding give_result in_numbers give_numbers seated_give
-give_done = rw (seat_granted table worked full 0 (Right.Give 0) Given.Refused (give_call table worked 0 7) (may 5 (Right.Give 0) full_gives), parent_met)
+give_done = rw (seat_granted table worked full 0 (Right.Give 0) Err (give_call table worked 0 7) (may 5 (Right.Give 0) full_gives), parent_met)
 
 give_words : (get_or (words_of (answer_to table worked full 0 (on (give 0 7 (pattern_small 7))))) 0 0 ≡ 0) × (get_or (words_of (answer_to table worked full 0 (on (give 0 7 (pattern_small 7))))) 1 0 ≡ 0)
 unfolding words_of answer_to given give_fields

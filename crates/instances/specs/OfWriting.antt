@@ -1,6 +1,7 @@
 -- Instances of the theorems on writing (`writer_laws/specs/Writing.antt`): document 01's listing is written character by character, in a buffer of just its
 -- length and not in a shorter one; a table of zeros and no table at all are refused before the buffer is looked at. Assumes nothing.
-use Rattle.std.specs.Prelude.{ℕ, ◌≤◌, ◌<◌, ◌≡◌, refl, List, [], ◌∷◌, ◌++◌, length, drop, pos}
+use Rattle.writer.specs.declared.WriteRefusal.TheVariants as WriteRefusal
+use Rattle.std.specs.Prelude.{ℕ, ◌≤◌, ◌<◌, ◌≡◌, refl, List, [], ◌∷◌, ◌++◌, length, drop, pos, Err, Ok}
 use Rattle.std.proofs.Common.{ap, eq-eqb, le-leb}
 use Rattle.std.proofs.lemmas.Bool.{lt-leb}
 use Rattle.numbers.specs.Bytes.{joined}
@@ -13,7 +14,6 @@ use Rattle.loader.specs.Load.{table_bytes, accepted}
 use Rattle.loader_laws.specs.PrintedFile.{filled_up}
 use Rattle.loader_laws.specs.Yields.{length_bytes, bytes_hold}
 use Rattle.writer.specs.Write.{printed_form, Outcome, outcome, laid_into, write_call, refusal_number, bytes_number}
-use Rattle.writer.specs.declared.Written.TheVariants.{Done, WrongLength, WrongTable, ShortBuffer}
 use Rattle.interface.specs.Interface.{written_to, written_numbers, write_result}
 use Rattle.writer_laws.specs.Writing.{FileOf, table_iff}
 use Rattle.listing_lines.specs.Lines.{characters}
@@ -53,24 +53,24 @@ unfolding joined characters
 listing_long = refl
 
 -- a buffer of 1168 bytes or more gets it, and keeps what is behind
-pub listing_written : (b : List ℕ) → 1168 ≤ length b → write_call (table_for listing) b ≡ outcome (Done 1168) (joined file_lines ++ drop 1168 b)
+pub listing_written : (b : List ℕ) → 1168 ≤ length b → write_call (table_for listing) b ≡ outcome (Ok 1168) (joined file_lines ++ drop 1168 b)
 unfolding write_call laid_into
 listing_written b h =
     rw (eq-eqb (length (table_for listing)) table_length (table_long listing listing_in_order), table_accepted listing listing_in_order, table_holds listing listing_in_order, listing_text, listing_long, le-leb 1168 (length b) h)
 
 -- a shorter one does not
-pub listing_short : (b : List ℕ) → length b < 1168 → write_call (table_for listing) b ≡ outcome ShortBuffer b
+pub listing_short : (b : List ℕ) → length b < 1168 → write_call (table_for listing) b ≡ outcome (Err WriteRefusal.ShortBuffer) b
 unfolding write_call laid_into
 listing_short b h =
     rw (eq-eqb (length (table_for listing)) table_length (table_long listing listing_in_order), table_accepted listing listing_in_order, table_holds listing listing_in_order, listing_text, listing_long, lt-leb 1168 (length b) h)
 
 -- ---- a table of zeros is that of no file, and no bytes are no table; the buffer has no room either, and that is not looked at
 
-pub zeros_refused : write_call (table_bytes zero_table) [] ≡ outcome WrongTable []
+pub zeros_refused : write_call (table_bytes zero_table) [] ≡ outcome (Err WriteRefusal.WrongTable) []
 unfolding write_call accepted
 zeros_refused = rw (eq-eqb (length (table_bytes zero_table)) table_length (length_bytes zero_table zero_shaped), bytes_hold zero_table zero_shaped, zero_refused)
 
-pub nothing_refused : write_call [] [] ≡ outcome WrongLength []
+pub nothing_refused : write_call [] [] ≡ outcome (Err WriteRefusal.WrongLength) []
 unfolding write_call
 nothing_refused = refl
 

@@ -1,5 +1,8 @@
 -- What the exported calls answer, in the numbers that C sees, and what they leave in the buffers.
-use Rattle.std.specs.Prelude.{List, ℕ, ℤ, pos}
+use Rattle.collector.specs.Answers.{Collected}
+use Rattle.rules.specs.Answers.{Given, Ran, Started, Stepped, Taken}
+use Rattle.profile.specs.Answers.{Profiled}
+use Rattle.std.specs.Prelude.{List, ℕ, ℤ, pos, Err, None, Ok, Some}
 use Rattle.std.specs.Int.{w32}
 use Rattle.std.proofs.Common.{to_z, of_z}
 use Rattle.loader.specs.Load as Load
@@ -8,24 +11,11 @@ use Rattle.writer.specs.Write as Write
 use Rattle.writer.specs.Write.{write_call}
 use Rattle.profile.specs.Profile as Profile
 use Rattle.profile.specs.Profile.{profile_call}
-use Rattle.profile.specs.declared.Profiled.{Profiled}
 use Rattle.state.specs.State.{minus_one}
 use Rattle.rules.specs.Calls.{Outcome, start_call}
 use Rattle.rules.specs.Seats.{seated_step, seated_give, seated_take, seated_run}
-use Rattle.rules.specs.declared.Started.{Started}
-use Rattle.rules.specs.declared.Started.TheVariants as Started
-use Rattle.rules.specs.declared.Stepped.{Stepped}
-use Rattle.rules.specs.declared.Stepped.TheVariants as Stepped
-use Rattle.rules.specs.declared.Given.{Given}
-use Rattle.rules.specs.declared.Given.TheVariants as Given
-use Rattle.rules.specs.declared.Taken.{Taken}
-use Rattle.rules.specs.declared.Taken.TheVariants as Taken
-use Rattle.rules.specs.declared.Ran.{Ran}
-use Rattle.rules.specs.declared.Ran.TheVariants as Ran
 use Rattle.engine.specs.Numbers as Numbers
 use Rattle.collector.specs.Collect.{seated_collect}
-use Rattle.collector.specs.declared.Collected.{Collected}
-use Rattle.collector.specs.declared.Collected.TheVariants as Collected
 use Rattle.interface.specs.declared.LoadAnswer.{LoadAnswer}
 use Rattle.interface.specs.declared.WriteAnswer.{WriteAnswer}
 use Rattle.interface.specs.declared.ProfileAnswer.{ProfileAnswer}
@@ -114,30 +104,30 @@ collect_fields refusal threads = record { refusal = to_z w32 refusal; threads = 
 
 -- the numbers of each answer: all others are 0 where a call is refused, and "nobody" is thread -1, number 0
 unfoldable pub start_numbers : Started → StartAnswer
-start_numbers Started.Done = start_fields 0
-start_numbers (Started.Refused g) = start_fields (Numbers.refusal_number g)
+start_numbers (Ok tt) = start_fields 0
+start_numbers (Err g) = start_fields (Numbers.refusal_number g)
 
 unfoldable pub step_numbers : Stepped → StepAnswer
-step_numbers (Stepped.Done n d) = step_fields 0 n (Numbers.act_number d) (Numbers.branch_number d) (Numbers.partner_number d)
-step_numbers (Stepped.Refused g) = step_fields (Numbers.refusal_number g) 0 0 0 0
+step_numbers (Ok (n, d)) = step_fields 0 n (Numbers.act_number d) (Numbers.branch_number d) (Numbers.partner_number d)
+step_numbers (Err g) = step_fields (Numbers.refusal_number g) 0 0 0 0
 
 unfoldable pub give_numbers : Given → GiveAnswer
-give_numbers (Given.Met u) = give_fields 0 u
-give_numbers Given.Nobody = give_fields 0 minus_one
-give_numbers (Given.Refused g) = give_fields (Numbers.refusal_number g) 0
+give_numbers (Ok (Some u)) = give_fields 0 u
+give_numbers (Ok None) = give_fields 0 minus_one
+give_numbers (Err g) = give_fields (Numbers.refusal_number g) 0
 
 unfoldable pub take_numbers : Taken → TakeAnswer
-take_numbers (Taken.Met u v) = take_fields 0 u v
-take_numbers Taken.Nobody = take_fields 0 minus_one 0
-take_numbers (Taken.Refused g) = take_fields (Numbers.refusal_number g) 0 0
+take_numbers (Ok (Some (u, v))) = take_fields 0 u v
+take_numbers (Ok None) = take_fields 0 minus_one 0
+take_numbers (Err g) = take_fields (Numbers.refusal_number g) 0 0
 
 unfoldable pub run_numbers : Ran → RunAnswer
-run_numbers (Ran.Done n r) = run_fields 0 n (Numbers.reason_number r) (Numbers.held_up_number r)
-run_numbers (Ran.Refused g) = run_fields (Numbers.refusal_number g) 0 0 0
+run_numbers (Ok (n, r)) = run_fields 0 n (Numbers.reason_number r) (Numbers.held_up_number r)
+run_numbers (Err g) = run_fields (Numbers.refusal_number g) 0 0 0
 
 unfoldable pub collect_numbers : Collected → CollectAnswer
-collect_numbers (Collected.Done n) = collect_fields 0 n
-collect_numbers (Collected.Refused g) = collect_fields (Numbers.refusal_number g) 0
+collect_numbers (Ok n) = collect_fields 0 n
+collect_numbers (Err g) = collect_fields (Numbers.refusal_number g) 0
 
 unfoldable pub in_numbers : {A B : Type 0} → (A → B) → Outcome A → StateResult B
 in_numbers f o = result (f o.answer) o.state

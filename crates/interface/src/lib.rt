@@ -12,13 +12,13 @@ ghost use Rattle.interface.specs.Interface.{profile_fields, profile_numbers};
 ghost use Rattle.interface.specs.Interface.{start_fields, start_numbers, step_fields, step_numbers, give_fields, give_numbers};
 ghost use Rattle.interface.specs.Interface.{take_fields, take_numbers, run_fields, run_numbers, collect_fields, collect_numbers};
 
-use collector::Collected;
-use loader::{Ground, Loaded};
-use profile::Profiled;
-use rules::{Deed, Given, Ran, Reason, Refusal, Started, Stepped, Taken};
-use writer::Written;
+use loader::{Ground, LoadRefusal};
+use profile::ProfileRefusal;
+use rules::{Deed, Reason, Refusal};
+use writer::WriteRefusal;
 
 // The number of a ground on which a file is refused: 1 to 7.
+#[tactic(auto, unfolding(loader::specs::Verdict::ground_number))]
 pub fn ground_number(ground: Ground) -> u32
     ensures value { result ≡ ground_number ground }
     ensures upper_bound { result ≤ 8 }
@@ -26,10 +26,7 @@ pub fn ground_number(ground: Ground) -> u32
     match ground {
         Ground::Lines => 1,
         Ground::Field => 2,
-        Ground::Header => 3,
-        Ground::Total => 3,
-        Ground::Kind => 3,
-        Ground::Sums => 3,
+        Ground::Header | Ground::Total | Ground::Kind | Ground::Sums => 3,
         Ground::Range => 4,
         Ground::Types => 5,
         Ground::Unwritten => 6,
@@ -38,6 +35,7 @@ pub fn ground_number(ground: Ground) -> u32
 }
 
 // The number of a ground on which a call is refused: 8 to 14, 18 or 19.
+#[tactic(auto, unfolding(engine::specs::Numbers::refusal_number))]
 pub fn refusal_of(refusal: Refusal) -> u32
     ensures { result ≡ Numbers.refusal_number refusal }
 {
@@ -55,6 +53,7 @@ pub fn refusal_of(refusal: Refusal) -> u32
 }
 
 // The number of what a step did: 0 ended, 1 called, 2 waited, 3 took a branch.
+#[tactic(auto, unfolding(engine::specs::Numbers::act_number))]
 pub fn act_number(deed: Deed) -> u32
     ensures { result ≡ Numbers.act_number deed }
 {
@@ -62,38 +61,34 @@ pub fn act_number(deed: Deed) -> u32
         Deed::Ended => 0,
         Deed::Called => 1,
         Deed::Waited => 2,
-        Deed::Took(_) => 3,
-        Deed::TookWith(_, _) => 3,
+        Deed::Took(_) | Deed::TookWith(_, _) => 3,
     }
 }
 
 // The branch that a step took, and 0 where it took none.
+#[tactic(auto, unfolding(engine::specs::Numbers::branch_number))]
 pub fn branch_number(deed: Deed) -> u32
     ensures { result ≡ Numbers.branch_number deed }
 {
     match deed {
-        Deed::Ended => 0,
-        Deed::Called => 0,
-        Deed::Waited => 0,
-        Deed::Took(i) => i,
-        Deed::TookWith(i, _) => i,
+        Deed::Took(i) | Deed::TookWith(i, _) => i,
+        Deed::Ended | Deed::Called | Deed::Waited => 0,
     }
 }
 
 // The partner or child of a step, and -1 where it has none.
+#[tactic(auto, unfolding(engine::specs::Numbers::partner_number))]
 pub fn partner_number(deed: Deed) -> u32
     ensures { result ≡ Numbers.partner_number deed }
 {
     match deed {
-        Deed::Ended => state::MINUS_ONE,
-        Deed::Called => state::MINUS_ONE,
-        Deed::Waited => state::MINUS_ONE,
-        Deed::Took(_) => state::MINUS_ONE,
         Deed::TookWith(_, u) => u,
+        _ => state::MINUS_ONE,
     }
 }
 
 // The number of the reason for which a run ended.
+#[tactic(auto, unfolding(engine::specs::Numbers::reason_number))]
 pub fn reason_number(reason: Reason) -> u32
     ensures { result ≡ Numbers.reason_number reason }
 {
@@ -106,14 +101,13 @@ pub fn reason_number(reason: Reason) -> u32
 }
 
 // The thread that lacked a row when a run ended, and -1 where none did.
+#[tactic(auto, unfolding(engine::specs::Numbers::held_up_number))]
 pub fn held_up_number(reason: Reason) -> u32
     ensures { result ≡ Numbers.held_up_number reason }
 {
     match reason {
-        Reason::AllDone => state::MINUS_ONE,
-        Reason::NoneReady => state::MINUS_ONE,
-        Reason::LackedThread(t) => t,
-        Reason::LackedChannel(t) => t,
+        Reason::LackedThread(t) | Reason::LackedChannel(t) => t,
+        Reason::AllDone | Reason::NoneReady => state::MINUS_ONE,
     }
 }
 
@@ -126,25 +120,26 @@ pub struct LoadAnswer {
 }
 
 // The refusal of a load, 0 for none.
-pub fn refusal_number(answer: Loaded) -> u32
+#[tactic(auto, unfolding(loader::specs::Load::refusal_number))]
+pub fn refusal_number(answer: Result<(), LoadRefusal>) -> u32
     ensures value { result ≡ refusal_number answer }
     ensures upper_bound { result ≤ 8 }
 {
     match answer {
-        Loaded::Done => 0,
-        Loaded::FileRefused(ground, _) => ground_number(ground),
-        Loaded::WrongLength => 8,
+        Ok(()) => 0,
+        Err(LoadRefusal::FileRefused(ground, _)) => ground_number(ground),
+        Err(LoadRefusal::WrongLength) => 8,
     }
 }
 
 // The line at fault that a load names, 0 for none.
-pub fn line_number(answer: Loaded) -> usize
+#[tactic(auto, unfolding(loader::specs::Load::line_number))]
+pub fn line_number(answer: Result<(), LoadRefusal>) -> usize
     ensures { result ≡ line_number answer }
 {
     match answer {
-        Loaded::Done => 0,
-        Loaded::FileRefused(_, line) => line,
-        Loaded::WrongLength => 0,
+        Err(LoadRefusal::FileRefused(_, line)) => line,
+        _ => 0,
     }
 }
 
@@ -157,28 +152,25 @@ pub struct WriteAnswer {
 }
 
 // The refusal of a write, 0 for none.
-pub fn write_refusal(answer: Written) -> u32
+#[tactic(auto, unfolding(writer::specs::Write::refusal_number))]
+pub fn write_refusal(answer: Result<usize, WriteRefusal>) -> u32
     ensures value { result ≡ Write.refusal_number answer }
     ensures upper_bound { result ≤ 15 }
 {
     match answer {
-        Written::Done(_) => 0,
-        Written::WrongLength => 8,
-        Written::WrongTable => 9,
-        Written::ShortBuffer => 15,
+        Ok(_) => 0,
+        Err(WriteRefusal::WrongLength) => 8,
+        Err(WriteRefusal::WrongTable) => 9,
+        Err(WriteRefusal::ShortBuffer) => 15,
     }
 }
 
 // The bytes of the file that a write made, 0 for none.
-pub fn bytes_number(answer: Written) -> usize
+#[tactic(auto, using(crate::proofs::Arms::bytes_is))]
+pub fn bytes_number(answer: Result<usize, WriteRefusal>) -> usize
     ensures { result ≡ Write.bytes_number answer }
 {
-    match answer {
-        Written::Done(bytes) => bytes,
-        Written::WrongLength => 0,
-        Written::WrongTable => 0,
-        Written::ShortBuffer => 0,
-    }
+    answer.unwrap_or(0)
 }
 
 // The answer of the check of a table: the refusal, 0 for none, and the threads, 0 where the call was refused.
@@ -190,29 +182,25 @@ pub struct ProfileAnswer {
 }
 
 // The refusal of the check of a table, 0 for none.
-pub fn profile_refusal(answer: Profiled) -> u32
+#[tactic(auto, unfolding(profile::specs::Profile::refusal_number))]
+pub fn profile_refusal(answer: Result<u32, ProfileRefusal>) -> u32
     ensures { result ≡ Profile.refusal_number answer }
 {
     match answer {
-        Profiled::Passes(_) => 0,
-        Profiled::WrongLength => 8,
-        Profiled::WrongTable => 9,
-        Profiled::ForbiddenCall => 16,
-        Profiled::ManyThreads => 17,
+        Ok(_) => 0,
+        Err(ProfileRefusal::WrongLength) => 8,
+        Err(ProfileRefusal::WrongTable) => 9,
+        Err(ProfileRefusal::ForbiddenCall) => 16,
+        Err(ProfileRefusal::ManyThreads) => 17,
     }
 }
 
 // The threads that the procedure of a table can come to have, 0 where it does not pass.
-pub fn threads_number(answer: Profiled) -> u32
+#[tactic(auto, using(crate::proofs::Arms::threads_is))]
+pub fn threads_number(answer: Result<u32, ProfileRefusal>) -> u32
     ensures { result ≡ Profile.threads_number answer }
 {
-    match answer {
-        Profiled::Passes(threads) => threads,
-        Profiled::WrongLength => 0,
-        Profiled::WrongTable => 0,
-        Profiled::ForbiddenCall => 0,
-        Profiled::ManyThreads => 0,
-    }
+    answer.unwrap_or(0)
 }
 
 // The answers of the calls on a state. Each has the refusal, 0 for none, and then what was done, 0 where the call was refused.
@@ -264,6 +252,7 @@ pub struct CollectAnswer {
 }
 
 // The functions `profile_fields` to `collect_fields` make an answer of the patterns of its numbers.
+#[tactic(auto, unfolding(crate::specs::Interface::profile_fields), using(crate::proofs::Arms::signed_back))]
 fn profile_fields(refusal: u32, threads: u32) -> ProfileAnswer
     ensures { result ≡ profile_fields refusal threads }
 {
@@ -273,6 +262,7 @@ fn profile_fields(refusal: u32, threads: u32) -> ProfileAnswer
     }
 }
 
+#[tactic(auto, unfolding(crate::specs::Interface::start_fields), using(crate::proofs::Arms::signed_back))]
 fn start_fields(refusal: u32) -> StartAnswer
     ensures { result ≡ start_fields refusal }
 {
@@ -281,6 +271,7 @@ fn start_fields(refusal: u32) -> StartAnswer
     }
 }
 
+#[tactic(auto, unfolding(crate::specs::Interface::step_fields), using(crate::proofs::Arms::signed_back))]
 fn step_fields(refusal: u32, node: u32, act: u32, branch: u32, partner: u32) -> StepAnswer
     ensures { result ≡ step_fields refusal node act branch partner }
 {
@@ -293,6 +284,7 @@ fn step_fields(refusal: u32, node: u32, act: u32, branch: u32, partner: u32) -> 
     }
 }
 
+#[tactic(auto, unfolding(crate::specs::Interface::give_fields), using(crate::proofs::Arms::signed_back))]
 fn give_fields(refusal: u32, thread: u32) -> GiveAnswer
     ensures { result ≡ give_fields refusal thread }
 {
@@ -302,6 +294,7 @@ fn give_fields(refusal: u32, thread: u32) -> GiveAnswer
     }
 }
 
+#[tactic(auto, unfolding(crate::specs::Interface::take_fields), using(crate::proofs::Arms::signed_back))]
 fn take_fields(refusal: u32, thread: u32, number: u32) -> TakeAnswer
     ensures { result ≡ take_fields refusal thread number }
 {
@@ -312,6 +305,7 @@ fn take_fields(refusal: u32, thread: u32, number: u32) -> TakeAnswer
     }
 }
 
+#[tactic(auto, unfolding(crate::specs::Interface::run_fields), using(crate::proofs::Arms::signed_back))]
 fn run_fields(refusal: u32, steps: u32, reason: u32, thread: u32) -> RunAnswer
     ensures { result ≡ run_fields refusal steps reason thread }
 {
@@ -323,6 +317,7 @@ fn run_fields(refusal: u32, steps: u32, reason: u32, thread: u32) -> RunAnswer
     }
 }
 
+#[tactic(auto, unfolding(crate::specs::Interface::collect_fields), using(crate::proofs::Arms::signed_back))]
 fn collect_fields(refusal: u32, threads: u32) -> CollectAnswer
     ensures { result ≡ collect_fields refusal threads }
 {
@@ -333,26 +328,29 @@ fn collect_fields(refusal: u32, threads: u32) -> CollectAnswer
 }
 
 // The functions `profile_numbers` to `collect_numbers` give the answer of a call in the numbers of documents 01 and 02.
-pub fn profile_numbers(answer: Profiled) -> ProfileAnswer
+#[tactic(auto, unfolding(crate::specs::Interface::profile_numbers))]
+pub fn profile_numbers(answer: Result<u32, ProfileRefusal>) -> ProfileAnswer
     ensures { result ≡ profile_numbers answer }
 {
     profile_fields(profile_refusal(answer), threads_number(answer))
 }
 
-pub fn start_numbers(answer: Started) -> StartAnswer
+#[tactic(auto, unfolding(crate::specs::Interface::start_numbers))]
+pub fn start_numbers(answer: Result<(), Refusal>) -> StartAnswer
     ensures { result ≡ start_numbers answer }
 {
     match answer {
-        Started::Done => start_fields(0),
-        Started::Refused(ground) => start_fields(refusal_of(ground)),
+        Ok(()) => start_fields(0),
+        Err(ground) => start_fields(refusal_of(ground)),
     }
 }
 
-pub fn step_numbers(answer: Stepped) -> StepAnswer
+#[tactic(auto, unfolding(crate::specs::Interface::step_numbers))]
+pub fn step_numbers(answer: Result<(u32, Deed), Refusal>) -> StepAnswer
     ensures { result ≡ step_numbers answer }
 {
     match answer {
-        Stepped::Done(node, deed) => {
+        Ok((node, deed)) => {
             step_fields(
                 0,
                 node,
@@ -361,46 +359,50 @@ pub fn step_numbers(answer: Stepped) -> StepAnswer
                 partner_number(deed),
             )
         }
-        Stepped::Refused(ground) => step_fields(refusal_of(ground), 0, 0, 0, 0),
+        Err(ground) => step_fields(refusal_of(ground), 0, 0, 0, 0),
     }
 }
 
-pub fn give_numbers(answer: Given) -> GiveAnswer
+#[tactic(auto, unfolding(crate::specs::Interface::give_numbers))]
+pub fn give_numbers(answer: Result<Option<u32>, Refusal>) -> GiveAnswer
     ensures { result ≡ give_numbers answer }
 {
     match answer {
-        Given::Met(thread) => give_fields(0, thread),
-        Given::Nobody => give_fields(0, state::MINUS_ONE),
-        Given::Refused(ground) => give_fields(refusal_of(ground), 0),
+        Ok(Some(thread)) => give_fields(0, thread),
+        Ok(None) => give_fields(0, state::MINUS_ONE),
+        Err(ground) => give_fields(refusal_of(ground), 0),
     }
 }
 
-pub fn take_numbers(answer: Taken) -> TakeAnswer
+#[tactic(auto, unfolding(crate::specs::Interface::take_numbers))]
+pub fn take_numbers(answer: Result<Option<(u32, u32)>, Refusal>) -> TakeAnswer
     ensures { result ≡ take_numbers answer }
 {
     match answer {
-        Taken::Met(thread, number) => take_fields(0, thread, number),
-        Taken::Nobody => take_fields(0, state::MINUS_ONE, 0),
-        Taken::Refused(ground) => take_fields(refusal_of(ground), 0, 0),
+        Ok(Some((thread, number))) => take_fields(0, thread, number),
+        Ok(None) => take_fields(0, state::MINUS_ONE, 0),
+        Err(ground) => take_fields(refusal_of(ground), 0, 0),
     }
 }
 
-pub fn run_numbers(answer: Ran) -> RunAnswer
+#[tactic(auto, unfolding(crate::specs::Interface::run_numbers))]
+pub fn run_numbers(answer: Result<(u32, Reason), Refusal>) -> RunAnswer
     ensures { result ≡ run_numbers answer }
 {
     match answer {
-        Ran::Done(steps, reason) => {
+        Ok((steps, reason)) => {
             run_fields(0, steps, reason_number(reason), held_up_number(reason))
         }
-        Ran::Refused(ground) => run_fields(refusal_of(ground), 0, 0, 0),
+        Err(ground) => run_fields(refusal_of(ground), 0, 0, 0),
     }
 }
 
-pub fn collect_numbers(answer: Collected) -> CollectAnswer
+#[tactic(auto, unfolding(crate::specs::Interface::collect_numbers))]
+pub fn collect_numbers(answer: Result<u32, Refusal>) -> CollectAnswer
     ensures { result ≡ collect_numbers answer }
 {
     match answer {
-        Collected::Done(threads) => collect_fields(0, threads),
-        Collected::Refused(ground) => collect_fields(refusal_of(ground), 0),
+        Ok(threads) => collect_fields(0, threads),
+        Err(ground) => collect_fields(refusal_of(ground), 0),
     }
 }

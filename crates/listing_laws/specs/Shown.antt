@@ -1,9 +1,11 @@
 -- What a listing shows. Every number in it is one from 0 to 32767 or -1, and its column is that number in decimal; and each step of the run has its line.
 -- Assumes nothing.
+use Rattle.std.specs.declared.ops.ControlFlow.TheVariants.{Break, Continue}
+use Rattle.rules.specs.Answers.{Turn}
 use Prim.Native.Nat.{ℕ, zero, suc, ◌+◌, ◌-◌, ◌%◌, ◌<◌, ◌≤◌}
 use Rattle.std.proofs.Common.{arith, add-one, ◌∙◌, inl, inr, ⊎_elim, lt-ltb, le-ltb, ltb-true}
 use Rattle.std.proofs.Math.Path.{◌≡◌, refl, sym, ap}
-use Rattle.std.specs.Prelude.{◌⊎◌, Bool, List, [], ◌∷◌, ltb}
+use Rattle.std.specs.Prelude.{◌⊎◌, Bool, List, [], ◌∷◌, ltb, Err, Ok}
 use Rattle.std.proofs.Math.Bool.{true, not}
 use Rattle.numbers.specs.Count.{bit}
 use Rattle.numbers.specs.Count.Laws.{bit_le}
@@ -16,7 +18,6 @@ use Rattle.table.specs.Layout.{branch_count}
 use Rattle.file.specs.File.{line_count, file_table}
 use Rattle.loader.specs.Verdict.{ground_number, verdict}
 use Rattle.loader.specs.declared.Ground.{Ground}
-use Rattle.loader.specs.declared.Verdict.TheVariants as Verdict
 use Rattle.loader_laws.specs.Lowest.{number_range, fault_line}
 use Rattle.loader_laws.specs.Grounds.{branches_few}
 use Rattle.loader.specs.Load.{table_bytes}
@@ -30,11 +31,8 @@ use Rattle.rules.specs.declared.Move.{Move}
 use Rattle.rules.specs.declared.Move.TheVariants.{Ends, Calls, Waits, Goes, Creates, Spawns, Meets, LacksThread, LacksChannel}
 use Rattle.rules.specs.declared.Deed.{Deed}
 use Rattle.rules.specs.declared.Deed.TheVariants.{Ended, Called, Waited, Took, TookWith}
-use Rattle.rules.specs.declared.Stepped.TheVariants.{Done}
 use Rattle.rules.specs.declared.Reason.{Reason}
 use Rattle.rules.specs.declared.Reason.TheVariants.{AllDone, NoneReady, LackedThread, LackedChannel}
-use Rattle.rules.specs.declared.Turn.{Turn}
-use Rattle.rules.specs.declared.Turn.TheVariants.{Went, Stopped}
 use Rattle.engine.specs.Numbers.{act_number, branch_number, partner_number, reason_number, held_up_number}
 use Rattle.rules_laws.specs.Granted.{Granted}
 use Rattle.rules_laws.specs.Accepted.{granted}
@@ -82,19 +80,19 @@ none = inr refl
 
 -- ---- the turns of a run
 
-by_turn : (w : Turn) (s : State) (f : State → Course) → 0 < (onward w s f).steps → w ≡ Went
+by_turn : (w : Turn) (s : State) (f : State → Course) → 0 < (onward w s f).steps → w ≡ Continue tt
 unfolding onward
-by_turn Went s f h = refl
-by_turn (Stopped r) s f h = absurd (omega arith)
+by_turn (Continue tt) s f h = refl
+by_turn (Break r) s f h = absurd (omega arith)
 
 -- a run that makes a step begins with one
-went_first : (tb : Table) (m : ℕ) (s : State) → 0 < (course_of tb m s).steps → (take_turn tb s).turn ≡ Went
+went_first : (tb : Table) (m : ℕ) (s : State) → 0 < (course_of tb m s).steps → (take_turn tb s).turn ≡ Continue tt
 unfolding course_of
 went_first tb zero s h = absurd (omega arith)
 went_first tb (suc m) s h = by_turn (take_turn tb s).turn (take_turn tb s).state (course_of tb m) h
 
 module _ (tb : Table) (s : State) (n : ℕ) where
-  went_after : (i : ℕ) (s₁ : State) → Come tb s i s₁ → i < (course_of tb n s).steps → (take_turn tb s₁).turn ≡ Went
+  went_after : (i : ℕ) (s₁ : State) → Come tb s i s₁ → i < (course_of tb n s).steps → (take_turn tb s₁).turn ≡ Continue tt
   unfolding Come after
   went_after i s₁ c h =
       let l : i ≤ n = omega (arith, course_few tb n s) in
@@ -114,7 +112,7 @@ module _ (tb : Table) (s : State) (n : ℕ) where
   came (suc i) h = let c = comes i (came i (omega arith)) (omega arith) in rw (come_state tb s (suc i) _ c) c
 
   -- each of its turns is a step, and leads to the state of the next
-  went : (i : ℕ) → i < (course_of tb n s).steps → (take_turn tb (course_of tb i s).state).turn ≡ Went
+  went : (i : ℕ) → i < (course_of tb n s).steps → (take_turn tb (course_of tb i s).state).turn ≡ Continue tt
   went i h = went_after i (course_of tb i s).state (came i (omega arith)) h
 
   leads : (i : ℕ) → i < (course_of tb n s).steps → (course_of tb (suc i) s).state ≡ (take_turn tb (course_of tb i s).state).state
@@ -136,17 +134,17 @@ module _ (tb : Table) (g : Granted tb) (few : (n : ℕ) → n < nodes tb → bra
 
     -- what a move that is a step is answered with, in numbers
     Answers : ℕ → Move → Type 0
-    Answers n m = (d : Deed) × (step_answer n m ≡ Done n d) × AllShown (act_number d ∷ branch_number d ∷ partner_number d ∷ [])
+    Answers n m = (d : Deed) × (step_answer n m ≡ Ok (n, d)) × AllShown (act_number d ∷ branch_number d ∷ partner_number d ∷ [])
 
-    alone : (n : ℕ) (m : Move) (i : ℕ) → step_answer n m ≡ Done n (Took i) → i < branch_count tb (stands_at (thread s t)) → Answers n m
+    alone : (n : ℕ) (m : Move) (i : ℕ) → step_answer n m ≡ Ok (n, Took i) → i < branch_count tb (stands_at (thread s t)) → Answers n m
     unfolding Answers AllShown act_number branch_number partner_number
     alone n m i e h = (Took i, e, (low 3 (omega arith), (low i (branch_low i h), (none, tt))))
 
-    together : (n : ℕ) (m : Move) (i u : ℕ) → step_answer n m ≡ Done n (TookWith i u) → i < branch_count tb (stands_at (thread s t)) → u < max_threads → Answers n m
+    together : (n : ℕ) (m : Move) (i u : ℕ) → step_answer n m ≡ Ok (n, TookWith i u) → i < branch_count tb (stands_at (thread s t)) → u < max_threads → Answers n m
     unfolding Answers AllShown act_number branch_number partner_number
     together n m i u e h k = (TookWith i u, e, (low 3 (omega arith), (low i (branch_low i h), (low u (omega arith), tt))))
 
-    answered : (n : ℕ) (m : Move) → Chosen tb s t m → turn_by t m ≡ Went → Answers n m
+    answered : (n : ℕ) (m : Move) → Chosen tb s t m → turn_by t m ≡ Continue tt → Answers n m
     unfolding Answers AllShown Chosen step_answer turn_for turn_by act_number branch_number partner_number
     answered n Ends c w = (Ended, refl, (low 0 (omega arith), (low 0 (omega arith), (none, tt))))
     answered n Calls c w = (Called, refl, (low 1 (omega arith), (low 0 (omega arith), (none, tt))))
@@ -159,19 +157,19 @@ module _ (tb : Table) (g : Granted tb) (few : (n : ℕ) → n < nodes tb → bra
     answered n LacksChannel c w = clash cc
 
   -- the next ready thread, where a turn is a step
-  ready_next : (take_turn tb s).turn ≡ Went → (next_ready s < max_threads) × (turn_by (next_ready s) (move tb s (next_ready s)) ≡ Went)
+  ready_next : (take_turn tb s).turn ≡ Continue tt → (next_ready s < max_threads) × (turn_by (next_ready s) (move tb s (next_ready s)) ≡ Continue tt)
   unfolding take_turn
   ready_next w =
       case_b (ltb (next_ready s) max_threads)
       (λ y. (ltb-true (next_ready s) max_threads y, sym (end_turn tb s (next_ready s) (turn_by (next_ready s) (move tb s (next_ready s)))) ∙ rw y at w))
-      (λ y. clash (let z : ◌≡◌ {A = Turn} (Stopped NoneReady) Went = rw y at w in cc))
+      (λ y. clash (let z : ◌≡◌ {A = Turn} (Break NoneReady) (Continue tt) = rw y at w in cc))
 
-  turn_leads : (take_turn tb s).turn ≡ Went → (take_turn tb s).state ≡ past_turn (perform tb s (next_ready s) (move tb s (next_ready s))) (next_ready s)
+  turn_leads : (take_turn tb s).turn ≡ Continue tt → (take_turn tb s).state ≡ past_turn (perform tb s (next_ready s) (move tb s (next_ready s))) (next_ready s)
   unfolding take_turn turn_end
   turn_leads w = let (l, b) = ready_next w in rw (lt-ltb (next_ready s) max_threads l, b)
 
-  turn_shown : (k : ℕ) → k ≤ max_steps → (take_turn tb s).turn ≡ Went
-      → (n : ℕ) × (d : Deed) × (step_answer (stands_at (thread s (next_ready s))) (move tb s (next_ready s)) ≡ Done n d)
+  turn_shown : (k : ℕ) → k ≤ max_steps → (take_turn tb s).turn ≡ Continue tt
+      → (n : ℕ) × (d : Deed) × (step_answer (stands_at (thread s (next_ready s))) (move tb s (next_ready s)) ≡ Ok (n, d))
       × AllShown (k ∷ next_ready s ∷ n ∷ act_number d ∷ branch_number d ∷ partner_number d ∷ [])
   unfolding Answers AllShown
   turn_shown k h w =
@@ -185,8 +183,8 @@ module _ (tb : Table) (g : Granted tb) (few : (n : ℕ) → n < nodes tb → bra
 
 module _ (tb : Table) where
   Held : Turn → Type 0
-  Held Went = Unit {0}
-  Held (Stopped r) = Shown (held_up_number r)
+  Held (Continue tt) = Unit {0}
+  Held (Break r) = Shown (held_up_number r)
 
   move_held : (t : ℕ) → t < max_threads → (m : Move) → Held (turn_by t m)
   unfolding Held step_answer reason_for turn_for turn_by held_up_number
@@ -209,8 +207,8 @@ module _ (tb : Table) where
 
   onward_held : (w : Turn) (s : State) (f : State → Course) → Held w → ((x : State) → Shown (held_up_number (f x).reason)) → Shown (held_up_number (onward w s f).reason)
   unfolding onward one_more Held
-  onward_held Went s f h k = k s
-  onward_held (Stopped r) s f h k = h
+  onward_held (Continue tt) s f h k = k s
+  onward_held (Break r) s f h k = h
 
   -- the thread held up
   held_shown : (n : ℕ) (s : State) → Shown (held_up_number (course_of tb n s).reason)
@@ -232,12 +230,12 @@ bits_few p (suc n) = omega (arith, sum_suc (λ i. bit (p i)) n, bit_le (p n), bi
 -- ---- the listing of a file
 
 -- a refused file
-pub refusal_shown : (file : List ℕ) (g : Ground) (l : ℕ) → verdict file ≡ Verdict.Fault g l → AllShown (ground_number g ∷ l ∷ [])
+pub refusal_shown : (file : List ℕ) (g : Ground) (l : ℕ) → verdict file ≡ Err (g, l) → AllShown (ground_number g ∷ l ∷ [])
 unfolding AllShown
 refusal_shown file g l e = (low (ground_number g) (omega (arith, (number_range g).1)), (low l (omega (arith, fault_line file g l e)), tt))
 
 -- an accepted one: its table, and the run from its start
-module _ (file : List ℕ) (e : verdict file ≡ Verdict.Sound) where
+module _ (file : List ℕ) (e : verdict file ≡ Ok tt) where
   abbrev tb : Table
   tb = file_table file
 
@@ -255,7 +253,7 @@ module _ (file : List ℕ) (e : verdict file ≡ Verdict.Sound) where
 
   -- each step of the run is done, so that it has its line, and the line's numbers are shown
   pub step_shown : (i : ℕ) → i < run.steps → let s : State = (course_of tb i (started tb)).state in
-      (n : ℕ) × (d : Deed) × (step_answer (stands_at (thread s (next_ready s))) (move tb s (next_ready s)) ≡ Done n d)
+      (n : ℕ) × (d : Deed) × (step_answer (stands_at (thread s (next_ready s))) (move tb s (next_ready s)) ≡ Ok (n, d))
       × AllShown (suc i ∷ next_ready s ∷ n ∷ act_number d ∷ branch_number d ∷ partner_number d ∷ [])
   step_shown i h =
       turn_shown tb grants few_branches (course_of tb i (started tb)).state (sound_after i) (suc i) (omega (arith, course_few tb max_steps (started tb)))

@@ -1,5 +1,6 @@
 -- The lines of a listing, as bytes: a line of numbers in columns, the heading, the line of a step, and what is counted in the closing line.
-use Rattle.std.specs.Prelude.{ℕ, ◌%◌, not, List, [], ◌∷◌, ◌++◌, map}
+use Rattle.rules.specs.Answers.{Stepped}
+use Rattle.std.specs.Prelude.{ℕ, ◌%◌, not, List, [], ◌∷◌, ◌++◌, map, Err, Ok}
 use Prim.Native.Char.{code}
 use Prim.Native.String.{String, [] as ends, ◌∷◌ as ◌then◌}
 use Rattle.numbers.specs.Bytes.{joined}
@@ -8,8 +9,6 @@ use Rattle.numbers.specs.Search.{sum_to}
 use Rattle.text.specs.Text.{text}
 use Rattle.state.specs.State.{State, max_channels}
 use Rattle.rules.specs.Moves.{is_free_channel}
-use Rattle.rules.specs.declared.Stepped.{Stepped}
-use Rattle.rules.specs.declared.Stepped.TheVariants.{Done, Refused}
 use Rattle.engine.specs.Numbers.{act_number, branch_number, partner_number}
 
 -- the characters of a quoted text, each as its number
@@ -31,8 +30,8 @@ heading = characters "  STEPTHREAD  NODE   ACTBRANCH  WITH\n"
 
 -- the line of step k, by thread t and what the step answers; a step that is refused has none
 unfoldable pub step_line : ℕ → ℕ → Stepped → List ℕ
-step_line k t (Done n d) = line (k ∷ t ∷ n ∷ act_number d ∷ branch_number d ∷ partner_number d ∷ [])
-step_line k t (Refused r) = []
+step_line k t (Ok (n, d)) = line (k ∷ t ∷ n ∷ act_number d ∷ branch_number d ∷ partner_number d ∷ [])
+step_line k t (Err r) = []
 
 -- how many channels are in use, the ports among them
 unfoldable pub channels_in_use : State → ℕ

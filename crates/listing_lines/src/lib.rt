@@ -11,23 +11,20 @@ ghost use Rattle.listing_lines.specs.Lines.{line, heading, step_line, channels_i
 ghost use Rattle.listing_lines.specs.Laid.{gone_line, gone_lines};
 
 use loader::Ground;
-use rules::Stepped;
+use rules::{Deed, Refusal};
 
 const HEADING: [u8; 37] = *b"  STEPTHREAD  NODE   ACTBRANCH  WITH\n";
-
-const COLUMN: usize = 6;
 
 // Bytes, laid into a buffer from a place on.
 fn put_bytes(out: &mut [u8], at: usize, bytes: &[u8])
     requires { at + length bytes.now ≤ length out.old }
     ensures { out.new ≡ sets out.old at bytes.now }
 {
-    for i in 0..bytes.len() {
-        out[at + i] = bytes[i];
-    }
+    out[at..at + bytes.len()].copy_from_slice(bytes);
 }
 
 // The heading, at the front of a buffer.
+#[tactic(auto, unfolding(crate::specs::Lines::heading, crate::specs::Lines::characters))]
 pub fn put_heading(out: &mut [u8])
     requires { 37 ≤ length out.old }
     ensures { out.new ≡ sets out.old 0 heading }
@@ -41,15 +38,16 @@ pub fn put_line(out: &mut [u8], at: usize, row: &[u32]) -> usize
     ensures value { result ≡ at + length row.now * 6 + 1 }
     ensures out_after { out.new ≡ sets out.old at (line row.now) }
 {
-    for i in 0..row.len() {
-        text::put_field(out, at + i * COLUMN, (row[i] % 65536) as u16);
+    for (i, n) in row.iter().enumerate() {
+        text::put_field(out, at + i * text::FIELD, (*n % 65536) as u16);
     }
-    let end = at + row.len() * COLUMN;
-    out[end] = 10;
+    let end = at + row.len() * text::FIELD;
+    out[end] = b'\n';
     end + 1
 }
 
 // The one line of a refused file. Answers its length.
+#[tactic(auto, using(crate::specs::Laid::Laws::refusal_long, crate::specs::Laid::Laws::refusal_laid))]
 pub fn list_refusal(out: &mut [u8], ground: Ground, fault: usize) -> usize
     requires { 13 ≤ length out.old }
     ensures value { result ≡ length (line (ground_number ground ∷ fault ∷ [])) }
@@ -60,36 +58,32 @@ pub fn list_refusal(out: &mut [u8], ground: Ground, fault: usize) -> usize
 }
 
 // The line of step k, of thread t, laid into a buffer from a place on; a step that is refused has none.
-pub fn put_step(out: &mut [u8], at: usize, k: u32, t: u32, answer: Stepped)
+#[tactic(auto, unfolding(crate::specs::Lines::step_line))]
+pub fn put_step(out: &mut [u8], at: usize, k: u32, t: u32, answer: Result<(u32, Deed), Refusal>)
     requires { at + 37 ≤ length out.old }
     ensures { out.new ≡ sets out.old at (step_line k t answer) }
 {
-    match answer {
-        Stepped::Done(node, deed) => {
-            let act = interface::act_number(deed);
-            let branch = interface::branch_number(deed);
-            let partner = interface::partner_number(deed);
-            put_line(out, at, &[k, t, node, act, branch, partner]);
-        }
-        Stepped::Refused(_) => {}
+    if let Ok((node, deed)) = answer {
+        let act = interface::act_number(deed);
+        let branch = interface::branch_number(deed);
+        let partner = interface::partner_number(deed);
+        put_line(out, at, &[k, t, node, act, branch, partner]);
     }
 }
 
 // Whether channel c is in use, as a number to count with.
+#[tactic(auto, unfolding(rules::specs::Moves::is_free_channel, numbers::specs::Count::bit))]
 fn in_use(state: &[u32; state::WORDS], c: u32) -> u32
     ensures { result ≡ bit (not (is_free_channel (state_of state.now) c)) }
 {
-    if state::channel_word(state, c as usize, state::TYPE) == 0 {
-        return 0;
-    }
-    1
+    u32::from(state::channel_word(state, c as usize, state::TYPE) != 0)
 }
 
 // How many channels are in use, the ports among them.
 pub fn channels_in_use(state: &[u32; state::WORDS]) -> u32
     ensures { result ≡ channels_in_use (state_of state.now) }
 {
-    let mut n = 0u32;
+    let mut n = 0;
     for c in 0..state::CHANNELS {
         n += in_use(state, c);
     }
@@ -97,6 +91,7 @@ pub fn channels_in_use(state: &[u32; state::WORDS]) -> u32
 }
 
 // The line of thread t, if its row was in use and is free now. Answers the place behind it.
+#[tactic(auto, using(crate::specs::Laid::Laws::length_line), unfolding(crate::specs::Laid::gone_line))]
 fn put_gone(
     out: &mut [u8],
     at: usize,
@@ -108,14 +103,14 @@ fn put_gone(
     ensures value { result ≡ at + length (gone_line (state_of before.now) (state_of after.now) t) }
     ensures out_after { out.new ≡ sets out.old at (gone_line (state_of before.now) (state_of after.now) t) }
 {
-    if state::thread_word(before, t as usize, state::STATUS) == state::FREE {
-        return at;
+    if state::thread_word(before, t as usize, state::STATUS) == state::FREE
+        || state::thread_word(after, t as usize, state::STATUS) != state::FREE
+    {
+        at
+    } else {
+        let node = state::thread_word(before, t as usize, state::NODE);
+        put_line(out, at, &[t, node])
     }
-    if state::thread_word(after, t as usize, state::STATUS) != state::FREE {
-        return at;
-    }
-    let node = state::thread_word(before, t as usize, state::NODE);
-    put_line(out, at, &[t, node])
 }
 
 // The lines of all threads whose rows were in use and are free now, lowest first. Answers the place behind them.

@@ -4,14 +4,14 @@ pub mod Turns
 pub mod Steps
 pub mod Ends
 pub mod Whole
+use Rattle.std.specs.declared.ops.ControlFlow.TheVariants.{Break, Continue}
+use Rattle.rules.specs.Answers.{Turn}
 use Rattle.std.specs.Prelude.{ℕ, suc, ◌+◌, ◌*◌, ◌-◌, ◌≤◌, ◌≡◌, List, [], ◌++◌}
 use Rattle.numbers.specs.Bytes.{joined}
 use Rattle.numbers.specs.Search.{tabulate}
 use Rattle.table.specs.Table.{Table}
 use Rattle.state.specs.State.{State}
 use Rattle.rules.specs.Calls.{Course, course, course_of}
-use Rattle.rules.specs.declared.Turn.{Turn}
-use Rattle.rules.specs.declared.Turn.TheVariants.{Went, Stopped}
 use Rattle.calls.specs.Course.{after}
 use Rattle.listing_text.specs.Listing.{turn_line, closing_line, taken_lines}
 use Rattle.listing_text.specs.declared.Run.{Run}
@@ -26,8 +26,8 @@ past n = 37 + n * 37
 
 -- the line of a turn, if it was a step
 unfoldable pub shown : Turn → List ℕ → List ℕ
-shown Went l = l
-shown (Stopped r) l = []
+shown (Continue tt) l = l
+shown (Break r) l = []
 
 -- the line of the turn that follows i steps, in state s, if it was a step
 abbrev pub shown_turn : Turn → Table → ℕ → State → List ℕ

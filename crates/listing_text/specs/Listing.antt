@@ -1,13 +1,12 @@
 -- The listing of a procedure file: from the bytes of the file to the bytes that are printed.
-use Rattle.std.specs.Prelude.{ℕ, suc, cond, List, [], ◌∷◌, ◌++◌}
+use Rattle.loader.specs.Answers.{Verdict}
+use Rattle.std.specs.Prelude.{ℕ, suc, cond, List, [], ◌∷◌, ◌++◌, Err, Ok}
 use Rattle.numbers.specs.Bytes.{joined}
 use Rattle.numbers.specs.Search.{tabulate}
 use Rattle.table.specs.Table.{Table}
 use Rattle.file.specs.File.{file_table}
 use Rattle.file.specs.EmptyFile.{procedure_text}
 use Rattle.loader.specs.Verdict.{ground_number, verdict}
-use Rattle.loader.specs.declared.Verdict.{Verdict}
-use Rattle.loader.specs.declared.Verdict.TheVariants.{Sound, Fault}
 use Rattle.state.specs.State.{State, max_threads, thread, stands_at}
 use Rattle.rules.specs.Start.{started}
 use Rattle.rules.specs.Moves.{move}
@@ -54,8 +53,8 @@ module _ (tb : Table) where
 
 -- a refused one has one line alone: the ground and the line at fault
 unfoldable pub listing_by : Verdict → List ℕ → List ℕ
-listing_by (Fault g l) file = line (ground_number g ∷ l ∷ [])
-listing_by Sound file = run_lines (file_table file)
+listing_by (Err (g, l)) file = line (ground_number g ∷ l ∷ [])
+listing_by (Ok tt) file = run_lines (file_table file)
 
 -- a file is listed by the text for which it stands
 unfoldable pub listing : List ℕ → List ℕ

@@ -1,21 +1,22 @@
 // The listing of a procedure file, made in a buffer: the file is loaded, run and collected, and what came of it is printed in columns of six characters.
 #![tactic(auto)]
 
-ghost use Rattle.std.specs.Prelude.{◌≡◌, true, suc, ◌+◌, ◌*◌, ◌<◌, ◌≤◌, length, take, drop};
+ghost use Rattle.std.specs.Prelude.{◌≡◌, true, ◌+◌, ◌*◌, ◌<◌, ◌≤◌, length, take, drop};
 ghost use Rattle.std.proofs.lemmas.List.Edits.{sets};
 ghost use Rattle.table.specs.Table.{table_of};
-ghost use Rattle.table.specs.Index.{Indexed};
 ghost use Rattle.loader.specs.Load.{accepted};
 ghost use Rattle.state.specs.State.{state_of};
 ghost use Rattle.rules.specs.Holding.{settled};
 ghost use Rattle.rules.specs.Calls.{turned, take_turn, course_of};
 ghost use Rattle.rules_laws.specs.Granted.{Granted};
 ghost use Rattle.rules_laws.specs.Soundness.{Sound};
-ghost use Rattle.listing_text.specs.Listing.{max_steps, turn_line, step_lines, run_lines, listing};
+ghost use Rattle.listing_text.specs.Listing.{max_steps, step_lines, run_lines, listing};
 ghost use Rattle.listing_text.specs.Laying.{longest, past, shown_turn, ended, end_of};
 
-use loader::Loaded;
-use rules::{Reason, Turn};
+use loader::LoadRefusal;
+use rules::Reason;
+use std::ops::ControlFlow;
+use table::Table;
 
 const STEPS: u32 = 1000;
 
@@ -34,26 +35,24 @@ struct Run {
 
 // One turn of a run that has made i steps: the next ready thread makes its step, and the turn moves past it. The line of the step is laid behind those before.
 fn list_turn(
-    table: &[u8],
-    index: &[u32],
+    table: &Table,
     state: &mut [u32; state::WORDS],
     out: &mut [u8],
     i: u32,
-) -> Turn
-    requires indexed { Indexed (table_of table.now) index.now }
-    requires granted { Granted (table_of table.now) }
-    requires sound { Sound (table_of table.now) (state_of state.old) }
+) -> ControlFlow<Reason>
+    requires granted { Granted table.now }
+    requires sound { Sound table.now (state_of state.old) }
     requires i_lt_max_steps { i < max_steps }
     requires out_len { length out.old ≡ longest }
-    ensures state_after { turned result (state_of state.new) ≡ take_turn (table_of table.now) (state_of state.old) }
-    ensures sound_after { Sound (table_of table.now) (state_of state.new) }
-    ensures out_after { out.new ≡ sets out.old (past i) (shown_turn result (table_of table.now) i (state_of state.old)) }
+    ensures state_after { turned result (state_of state.new) ≡ take_turn table.now (state_of state.old) }
+    ensures sound_after { Sound table.now (state_of state.new) }
+    ensures out_after { out.new ≡ sets out.old (past i) (shown_turn result table.now i (state_of state.old)) }
 {
     let t = next_rows::next_ready(state, state::THREADS);
     if t < state::THREADS {
         let node = state::thread_word(state, t as usize, state::NODE);
-        let round = turns::turn_of(table, index, state, t, state::THREADS);
-        turns::settle_waiting(table, index, state);
+        let round = turns::turn_of(table, state, t, state::THREADS);
+        turns::settle_waiting(table, state);
         let m = round.decided;
         listing_lines::put_step(
             out,
@@ -62,32 +61,25 @@ fn list_turn(
             t,
             turns::step_answer(node, m),
         );
-        let turn = round.turn;
-        return turn;
+        round.turn
+    } else {
+        ControlFlow::Break(Reason::NoneReady)
     }
-    Turn::Stopped(Reason::NoneReady)
 }
 
 // At most 1,000 turns, and the lines of their steps behind the heading.
-fn list_steps(table: &[u8], index: &[u32], state: &mut [u32; state::WORDS], out: &mut [u8]) -> Run
-    requires indexed { Indexed (table_of table.now) index.now }
-    requires granted { Granted (table_of table.now) }
-    requires sound { Sound (table_of table.now) (state_of state.old) }
+fn list_steps(table: &Table, state: &mut [u32; state::WORDS], out: &mut [u8]) -> Run
+    requires granted { Granted table.now }
+    requires sound { Sound table.now (state_of state.old) }
     requires out_len { length out.old ≡ longest }
-    ensures state_after { ended result (state_of state.new) ≡ course_of (table_of table.now) max_steps (state_of state.old) }
-    ensures sound_after { Sound (table_of table.now) (state_of state.new) }
-    ensures steps_value { result.steps * 37 ≡ length (step_lines (table_of table.now) (state_of state.old)) }
-    ensures out_after { out.new ≡ sets out.old 37 (step_lines (table_of table.now) (state_of state.old)) }
+    ensures state_after { ended result (state_of state.new) ≡ course_of table.now max_steps (state_of state.old) }
+    ensures sound_after { Sound table.now (state_of state.new) }
+    ensures steps_value { result.steps * 37 ≡ length (step_lines table.now (state_of state.old)) }
+    ensures out_after { out.new ≡ sets out.old 37 (step_lines table.now (state_of state.old)) }
 {
     for i in 0..STEPS {
-        match list_turn(table, index, state, out, i) {
-            Turn::Went => {}
-            Turn::Stopped(reason) => {
-                return Run {
-                    steps: i,
-                    reason: reason,
-                };
-            }
+        if let ControlFlow::Break(reason) = list_turn(table, state, out, i) {
+            return Run { steps: i, reason };
         }
     }
     Run {
@@ -97,22 +89,15 @@ fn list_steps(table: &[u8], index: &[u32], state: &mut [u32; state::WORDS], out:
 }
 
 // A collection after a run: the closing line, and the lines of the threads that it takes. Answers the place behind them.
-fn list_end(
-    table: &[u8],
-    index: &[u32],
-    state: &mut [u32; state::WORDS],
-    out: &mut [u8],
-    run: Run,
-) -> usize
-    requires indexed { Indexed (table_of table.now) index.now }
-    requires state_value { settled (table_of table.now) (state_of state.old) ≡ state_of state.old }
+fn list_end(table: &Table, state: &mut [u32; state::WORDS], out: &mut [u8], run: Run) -> usize
+    requires state_value { settled table.now (state_of state.old) ≡ state_of state.old }
     requires steps_le_max_steps { run.steps ≤ max_steps }
     requires out_len { length out.old ≡ longest }
-    ensures value { result ≡ past run.steps + length (end_of (table_of table.now) run (state_of state.old)) }
-    ensures out_after { out.new ≡ sets out.old (past run.steps) (end_of (table_of table.now) run (state_of state.old)) }
+    ensures value { result ≡ past run.steps + length (end_of table.now run (state_of state.old)) }
+    ensures out_after { out.new ≡ sets out.old (past run.steps) (end_of table.now run (state_of state.old)) }
 {
     let before = *state;
-    let count = collector::collect_in(table, index, state);
+    let count = collector::collect_in(table, state);
     let why = run.reason;
     let reason = interface::reason_number(why);
     let held_up = interface::held_up_number(why);
@@ -131,12 +116,14 @@ fn list_table(table: &[u8], out: &mut [u8]) -> usize
 {
     let mut index = [0u32; table::INDEX];
     let mut gaps = [0u32; loader::GAPS];
+    let Some(table) = loader::accept(table, &mut index, &mut gaps) else {
+        return 0;
+    };
     let mut state = [0u32; state::WORDS];
-    loader::accept(table, &mut index, &mut gaps);
-    starts::write_started(table, &index, &mut state);
+    starts::write_started(&table, &mut state);
     listing_lines::put_heading(out);
-    let run = list_steps(table, &index, &mut state, out);
-    list_end(table, &index, &mut state, out, run)
+    let run = list_steps(&table, &mut state, out);
+    list_end(&table, &mut state, out, run)
 }
 
 // The listing of a file, at the front of a buffer. Answers how many characters it has; what stands behind them in the buffer stays.
@@ -147,8 +134,10 @@ pub fn list(file: &[u8], out: &mut [u8; LONGEST]) -> usize
 {
     let mut table = [0u8; table::BYTES];
     match loader::load(file, &mut table) {
-        Loaded::FileRefused(ground, fault) => listing_lines::list_refusal(out, ground, fault),
-        Loaded::Done => list_table(&table, out),
-        Loaded::WrongLength => 0,
+        Err(LoadRefusal::FileRefused(ground, fault)) => listing_lines::list_refusal(
+            out, ground, fault,
+        ),
+        Ok(()) => list_table(&table, out),
+        Err(LoadRefusal::WrongLength) => 0,
     }
 }

@@ -1,16 +1,14 @@
 -- What loading answers, and what it leaves in the table's buffer.
 pub mod Laws
-use Rattle.std.specs.Prelude.{ℕ, Bool, ◌&&◌, cond, List, eqb, length}
+use Rattle.loader.specs.declared.LoadRefusal.TheVariants as LoadRefusal
+use Rattle.loader.specs.Answers.{Loaded, Verdict}
+use Rattle.std.specs.Prelude.{ℕ, Bool, ◌&&◌, cond, List, eqb, length, Err, Ok}
 use Rattle.numbers.specs.Bytes.{encode, joined}
 pub use Rattle.table.specs.Table.{table_length}
 use Rattle.table.specs.Table.{Table, table_of}
 use Rattle.file.specs.File.{file_table}
 use Rattle.file.specs.EmptyFile.{procedure_text}
 use Rattle.loader.specs.Verdict.{ground_number, verdict, acceptable}
-use Rattle.loader.specs.declared.Verdict.{Verdict}
-use Rattle.loader.specs.declared.Verdict.TheVariants.{Sound, Fault}
-use Rattle.loader.specs.declared.Loaded.{Loaded}
-use Rattle.loader.specs.declared.Loaded.TheVariants.{Done, FileRefused, WrongLength}
 
 -- the bytes of a table: its numbers of 16 bits, row by row
 unfoldable pub table_bytes : Table → List ℕ
@@ -26,8 +24,8 @@ outcome a t = record { answer = a; table = t }
 
 -- a file in order is written if the buffer has the table's length; nothing else changes the buffer
 unfoldable pub after_verdict : Verdict → List ℕ → List ℕ → Outcome
-after_verdict (Fault g l) file t = outcome (FileRefused g l) t
-after_verdict Sound file t = cond (eqb (length t) table_length) (outcome Done (table_bytes (file_table file))) (outcome WrongLength t)
+after_verdict (Err (g, l)) file t = outcome (Err (LoadRefusal.FileRefused g l)) t
+after_verdict (Ok tt) file t = cond (eqb (length t) table_length) (outcome (Ok tt) (table_bytes (file_table file))) (outcome (Err LoadRefusal.WrongLength) t)
 
 -- a file is judged and read by the text for which it stands
 unfoldable pub loaded : List ℕ → List ℕ → Outcome
@@ -35,14 +33,14 @@ loaded file t = after_verdict (verdict (procedure_text file)) (procedure_text fi
 
 -- the numbers of document 01 for each answer: the refusal, 0 where there is none, and the line at fault
 unfoldable pub refusal_number : Loaded → ℕ
-refusal_number Done = 0
-refusal_number (FileRefused g l) = ground_number g
-refusal_number WrongLength = 8
+refusal_number (Ok tt) = 0
+refusal_number (Err (LoadRefusal.FileRefused g l)) = ground_number g
+refusal_number (Err LoadRefusal.WrongLength) = 8
 
 unfoldable pub line_number : Loaded → ℕ
-line_number Done = 0
-line_number (FileRefused g l) = l
-line_number WrongLength = 0
+line_number (Ok tt) = 0
+line_number (Err (LoadRefusal.FileRefused g l)) = l
+line_number (Err LoadRefusal.WrongLength) = 0
 
 -- ground 9, of a buffer
 unfoldable pub accepted : List ℕ → Bool

@@ -2,7 +2,8 @@
 pub mod Laws
 pub mod Rest
 pub mod Computing
-use Rattle.std.specs.Prelude.{ℕ, suc, Bool, true, false, ◌&&◌, ◌||◌, cond, List, ltb, eqb}
+use Rattle.loader.specs.Answers.{Verdict}
+use Rattle.std.specs.Prelude.{ℕ, suc, Bool, true, false, ◌&&◌, ◌||◌, cond, List, ltb, eqb, Err, Ok}
 use Rattle.numbers.specs.Search.{every, first}
 use Rattle.table.specs.Table.{Table, max_rows, line_total}
 use Rattle.table.specs.Form.{header_in_range, kind_wrong, sums_agree}
@@ -12,8 +13,6 @@ use Rattle.flow.specs.Flow.{reads_unwritten, unreachable}
 use Rattle.file.specs.File.{line_count, not_lines, malformed, file_table}
 use Rattle.loader.specs.declared.Ground.{Ground}
 use Rattle.loader.specs.declared.Ground.TheVariants.{Lines, Field, Header, Total, Kind, Sums, Range, Types, Unwritten, Unreachable}
-use Rattle.loader.specs.declared.Verdict.{Verdict}
-use Rattle.loader.specs.declared.Verdict.TheVariants.{Sound, Fault}
 
 -- the numbers of document 01. Ground 3 is four tests in order
 unfoldable pub ground_number : Ground → ℕ
@@ -30,12 +29,12 @@ ground_number Unreachable = 7
 
 -- the first of n lines that the test p finds at fault, on ground g; the verdict v where there is none
 unfoldable pub at_fault : Ground → (ℕ → Bool) → ℕ → Verdict → Verdict
-at_fault g p n v = cond (ltb (first p n) n) (Fault g (suc (first p n))) v
+at_fault g p n v = cond (ltb (first p n) n) (Err (g, suc (first p n))) v
 
 module _ (tb : Table) (n : ℕ) where
   -- grounds 6 and 7, of a table of n lines
   unfoldable pub judged_flow : Verdict
-  judged_flow = at_fault Unwritten (reads_unwritten tb) n (at_fault Unreachable (unreachable tb) n Sound)
+  judged_flow = at_fault Unwritten (reads_unwritten tb) n (at_fault Unreachable (unreachable tb) n (Ok tt))
 
   -- grounds 4 to 7
   unfoldable pub judged_rows : Verdict
@@ -47,17 +46,17 @@ module _ (tb : Table) (n : ℕ) where
       cond (header_in_range tb)
       (cond (eqb n (line_total tb))
       (at_fault Kind (kind_wrong tb) n
-      (cond (sums_agree tb) judged_rows (Fault Sums 1)))
-      (Fault Total 1))
-      (Fault Header 1)
+      (cond (sums_agree tb) judged_rows (Err (Sums, 1))))
+      (Err (Total, 1)))
+      (Err (Header, 1))
 
 unfoldable pub verdict : List ℕ → Verdict
-verdict file = cond (not_lines file) (Fault Lines 0) (at_fault Field (malformed file) (line_count file) (judged (file_table file) (line_count file)))
+verdict file = cond (not_lines file) (Err (Lines, 0)) (at_fault Field (malformed file) (line_count file) (judged (file_table file) (line_count file)))
 
 -- ground 9: a table passes when grounds 3 to 7 find no fault in it, with the header's number of lines, and the rest is 0
 unfoldable pub is_sound : Verdict → Bool
-is_sound Sound = true
-is_sound (Fault g l) = false
+is_sound (Ok tt) = true
+is_sound (Err (g, l)) = false
 
 unfoldable pub rest_zero : Table → ℕ → Bool
 rest_zero tb r = ltb r (line_total tb) || rest_unused tb r 0

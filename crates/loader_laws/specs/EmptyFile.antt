@@ -1,6 +1,7 @@
 -- A file of no bytes (document 02, S-2): it loads, to the table of the three lines of a procedure that ends. Every other file is judged as document 01 says,
 -- and ground 1 is that a file is not whole lines, or too many. Assumes nothing.
-use Rattle.std.specs.Prelude.{ℕ, ◌≡◌, refl, ◌≢◌, ◌↔◌, List, [], length}
+use Rattle.loader.specs.declared.LoadRefusal.TheVariants as LoadRefusal
+use Rattle.std.specs.Prelude.{ℕ, ◌≡◌, refl, ◌≢◌, ◌↔◌, List, [], length, Err, Ok}
 use native.Mathlib.Omega.{arith}
 use Rattle.std.proofs.Common.{◌∙◌}
 use Rattle.std.proofs.Math.Logic.{inr, ⊎_elim}
@@ -15,7 +16,6 @@ use Rattle.loader.specs.Load.{table_bytes, outcome, after_verdict, loaded}
 use Rattle.loader.specs.Load.Laws.{ending_sound}
 use Rattle.loader.specs.declared.Ground.{Ground}
 use Rattle.loader.specs.declared.Ground.TheVariants.{Lines}
-use Rattle.loader.specs.declared.Loaded.TheVariants.{Done, FileRefused, WrongLength}
 use Rattle.loader_laws.specs.PrintedFile.{filled_up, sound_own}
 use Rattle.loader_laws.specs.Yields.{sound_loads}
 use Rattle.loader_laws.specs.Refused.{NotWhole, Refused, rank, LowestOf}
@@ -35,11 +35,11 @@ module _ (t : List ℕ) where
   empty_as_ending = rw (sound_own ending_text ending_sound)
 
   -- a buffer of the table's length gets their table
-  pub empty_loads : length t ≡ table_length → loaded [] t ≡ outcome Done (table_bytes (filled_up ending_rows))
+  pub empty_loads : length t ≡ table_length → loaded [] t ≡ outcome (Ok tt) (table_bytes (filled_up ending_rows))
   empty_loads l = empty_as_ending ∙ sound_loads ending_text t ending_sound l ∙ rw ending_table
 
   -- any other is refused, on ground 8
-  pub empty_refused : length t ≢ table_length → loaded [] t ≡ outcome WrongLength t
+  pub empty_refused : length t ≢ table_length → loaded [] t ≡ outcome (Err LoadRefusal.WrongLength) t
   unfolding loaded after_verdict procedure_text
   empty_refused n = rw (ending_sound, ne_eqb (length t) table_length n)
 
@@ -52,7 +52,7 @@ module _ (file t : List ℕ) where
   other_loads n = rw (text_own file n)
 
   -- a file is refused with a ground and a line exactly when it has bytes, and document 01 has this ground for its lowest, with this line for the first
-  pub ground_iff : (g : Ground) (l : ℕ) → ((loaded file t).answer ≡ FileRefused g l) ↔ ((length file ≢ 0) × LowestOf (Refused file) g l)
+  pub ground_iff : (g : Ground) (l : ℕ) → ((loaded file t).answer ≡ Err (LoadRefusal.FileRefused g l)) ↔ ((length file ≢ 0) × LowestOf (Refused file) g l)
   ground_iff g l = (
     λ e. let w = (answer_iff file t g l).0 e in
         let n : length file ≢ 0 = λ z. (in_order_iff ending_text).0 ending_sound g l (rw (text_none file z) at w.0) in
@@ -61,7 +61,7 @@ module _ (file t : List ℕ) where
   )
 
   -- ground 1 names no line, and a file has it exactly when it is not whole lines, or over 865 of them
-  pub lines_iff : (l : ℕ) → ((loaded file t).answer ≡ FileRefused Lines l) ↔ ((l ≡ 0) × NotWhole file)
+  pub lines_iff : (l : ℕ) → ((loaded file t).answer ≡ Err (LoadRefusal.FileRefused Lines l)) ↔ ((l ≡ 0) × NotWhole file)
   unfolding Refused rank
   lines_iff l = (
     λ e. let (n, w) = (ground_iff Lines l).0 e in let (q, x) = w.0 in (q, ⊎_elim (λ z. absurd (n z)) (λ y. y) x),

@@ -1,9 +1,10 @@
 -- The verdict as a chain of tests: it is the lowest ground whose test finds a line, with the first such line. Assumes nothing.
+use Rattle.loader.specs.Answers.{Verdict}
 use Prim.Native.Nat.{ℕ, zero, suc, ◌-◌, ◌≤◌, ◌<◌}
 use native.Mathlib.Omega.{arith}
 use Rattle.std.proofs.Math.Path.{◌≡◌, refl}
 use Rattle.std.proofs.Common.{sym, ◌∙◌, ap, inl, inr}
-use Rattle.std.specs.Prelude.{◌⊎◌, ◌↔◌, Bool, true, false, not, ◌&&◌, cond, List, ltb, eqb}
+use Rattle.std.specs.Prelude.{◌⊎◌, ◌↔◌, Bool, true, false, not, ◌&&◌, cond, List, ltb, eqb, Err, Ok}
 use Rattle.std.proofs.Math.Logic.{⊎_elim}
 use borrow.Author.Tests.{lt-ltb, ltb-true, ltb-false, eq-eqb, ne_eqb, eqb-true}
 use Rattle.numbers.specs.Search.{first}
@@ -18,8 +19,6 @@ use Rattle.file.specs.File.{line_count, not_lines, malformed, file_table}
 use Rattle.loader.specs.Verdict.{ground_number, at_fault, judged_flow, judged_rows, judged, verdict}
 use Rattle.loader.specs.declared.Ground.{Ground}
 use Rattle.loader.specs.declared.Ground.TheVariants.{Lines, Field, Header, Total, Kind, Sums, Range, Types, Unwritten, Unreachable}
-use Rattle.loader.specs.declared.Verdict.{Verdict}
-use Rattle.loader.specs.declared.Verdict.TheVariants.{Sound, Fault}
 use Rattle.loader.specs.Verdict.Laws.{no_sound}
 use Rattle.loader_laws.specs.PrintedFile.{lines_lined}
 use Rattle.loader_laws.specs.Refused.{rank, LowestOf}
@@ -124,7 +123,7 @@ First p l = (p l ≡ true) × ((m : ℕ) → m < l → p m ≡ false)
 
 -- the verdict v names the first line that p finds, on ground g, and is w where there is none
 abbrev Asks : (ℕ → Bool) → Ground → Verdict → Verdict → Type 0
-Asks p g w v = ((l : ℕ) × (v ≡ Fault g l) × First p l) ⊎ ((v ≡ w) × ((l : ℕ) → p l ≡ false))
+Asks p g w v = ((l : ℕ) × (v ≡ Err (g, l)) × First p l) ⊎ ((v ≡ w) × ((l : ℕ) → p l ≡ false))
 
 module _ (p : ℕ → Bool) (n : ℕ) where
   -- of the lines up to the first that p finds, none before it is at fault
@@ -146,19 +145,19 @@ module _ (p : ℕ → Bool) (n : ℕ) where
       (λ y. rw y (inl (suc f, refl, (rw (y, first_passes p n (ltb-true f n y)), λ m h. none_before m (omega arith)))))
       (λ y. rw y (inr (refl, none_on (omega (arith, ltb-false f n y, first_le p n)))))
 
-only_asks : (g : Ground) (k : ℕ) (t : Bool) (w : Verdict) → Asks (only k t) g w (cond t (Fault g k) w)
+only_asks : (g : Ground) (k : ℕ) (t : Bool) (w : Verdict) → Asks (only k t) g w (cond t (Err (g, k)) w)
 unfolding only
 only_asks g k true w = inl (k, refl, (rw (eq-eqb k k refl), λ m h. rw (ne_eqb m k (λ e. omega arith))))
 only_asks g k false w = inr (refl, λ l. and_no_right (eqb l k))
 
-not_asks : (g : Ground) (k : ℕ) (t : Bool) (w : Verdict) → Asks (only k (not t)) g w (cond t w (Fault g k))
+not_asks : (g : Ground) (k : ℕ) (t : Bool) (w : Verdict) → Asks (only k (not t)) g w (cond t w (Err (g, k)))
 not_asks g k true w = only_asks g k false w
 not_asks g k false w = only_asks g k true w
 
 -- of the grounds of rank k and above, v is the lowest at fault under t, with its first line
 Lowest : (Ground → ℕ → Bool) → ℕ → Verdict → Type 0
-Lowest t k Sound = (g : Ground) (l : ℕ) → k ≤ rank g → t g l ≡ false
-Lowest t k (Fault g l) = (k ≤ rank g) × First (t g) l × ((h : Ground) (m : ℕ) → k ≤ rank h → rank h < rank g → t h m ≡ false)
+Lowest t k (Ok tt) = (g : Ground) (l : ℕ) → k ≤ rank g → t g l ≡ false
+Lowest t k (Err (g, l)) = (k ≤ rank g) × First (t g) l × ((h : Ground) (m : ℕ) → k ≤ rank h → rank h < rank g → t h m ≡ false)
 
 module _ (t : Ground → ℕ → Bool) (g : Ground) where
   -- ground g has no line at fault
@@ -168,8 +167,8 @@ module _ (t : Ground → ℕ → Bool) (g : Ground) where
 
   passed : (w : Verdict) → ((l : ℕ) → t g l ≡ false) → Lowest t (suc (rank g)) w → Lowest t (rank g) w
   unfolding Lowest
-  passed Sound z s = λ h l a. skip z h l a (λ b. s h l b)
-  passed (Fault k l) z s = let (a, f, b) = s in (omega arith, f, λ h m c d. skip z h m c (λ e. b h m e d))
+  passed (Ok tt) z s = λ h l a. skip z h l a (λ b. s h l b)
+  passed (Err (k, l)) z s = let (a, f, b) = s in (omega arith, f, λ h m c d. skip z h m c (λ e. b h m e d))
 
   -- one test more
   step : (v w : Verdict) → Asks (t g) g w v → Lowest t (suc (rank g)) w → Lowest t (rank g) v
@@ -194,7 +193,7 @@ verdict_lowest file =
     (step t Range _ _ (lines_ask (out_of_range tb) n Range _)
     (step t Types _ _ (lines_ask (types_disagree tb) n Types _)
     (step t Unwritten _ _ (lines_ask (reads_unwritten tb) n Unwritten _)
-    (step t Unreachable _ Sound (lines_ask (unreachable tb) n Unreachable Sound)
+    (step t Unreachable _ (Ok tt) (lines_ask (unreachable tb) n Unreachable (Ok tt))
     (λ g l h. absurd (let q = (ranked g).1 in let z : ⊥ = omega arith in z)))))))))))
 
 -- ---- what the verdict names
@@ -218,30 +217,30 @@ Names file = LowestOf (λ g l. fault_at file g l ≡ true)
 
 module _ (file : List ℕ) where
   -- the verdict, whichever it is
-  named : (v : Verdict) → Lowest (fault_at file) 0 v → (g : Ground) (l : ℕ) → (v ≡ Fault g l) ↔ Names file g l
+  named : (v : Verdict) → Lowest (fault_at file) 0 v → (g : Ground) (l : ℕ) → (v ≡ Err (g, l)) ↔ Names file g l
   unfolding Lowest
-  named Sound s g l = (
+  named (Ok tt) s g l = (
     λ e. no_sound g l (sym e),
     λ a. contra a.0 (s g l (omega arith)),
   )
-  named (Fault h m) s g l =
+  named (Err (h, m)) s g l =
       let (k, f, b) = s in
       let c : Names file h m = (f.0, λ i y e. contra e (f.1 i y), λ o i y e. contra e (b o i (omega arith) y)) in (
-        λ e. let p : h ≡ g = cc in let q : m ≡ l = cc in rw (p, q) at c,
+        λ e. let w : (h, m) ≡ (g, l) = cc in let p : h ≡ g = ap (λ (x : Ground × ℕ). x.0) w in let q : m ≡ l = ap (λ (x : Ground × ℕ). x.1) w in rw (p, q) at c,
         λ a. let (p, q) = lowest_one (λ o i. fault_at file o i ≡ true) h g m l c a in cc,
       )
 
-  none_named : (v : Verdict) → Lowest (fault_at file) 0 v → (v ≡ Sound) ↔ ((g : Ground) (l : ℕ) → fault_at file g l ≡ false)
+  none_named : (v : Verdict) → Lowest (fault_at file) 0 v → (v ≡ Ok tt) ↔ ((g : Ground) (l : ℕ) → fault_at file g l ≡ false)
   unfolding Lowest
-  none_named Sound s = (λ e g l. s g l (omega arith), λ a. refl)
-  none_named (Fault h m) s = (no_sound h m, λ a. contra s.1.0 (a h m))
+  none_named (Ok tt) s = (λ e g l. s g l (omega arith), λ a. refl)
+  none_named (Err (h, m)) s = (no_sound h m, λ a. contra s.1.0 (a h m))
 
   -- a file is refused on the lowest ground that has a line at fault, with the first such line
-  pub lowest_iff : (g : Ground) (l : ℕ) → (verdict file ≡ Fault g l) ↔ Names file g l
+  pub lowest_iff : (g : Ground) (l : ℕ) → (verdict file ≡ Err (g, l)) ↔ Names file g l
   lowest_iff = named (verdict file) (verdict_lowest file)
 
   -- a file is in order just when no ground has a line of it at fault
-  pub sound_iff : (verdict file ≡ Sound) ↔ ((g : Ground) (l : ℕ) → fault_at file g l ≡ false)
+  pub sound_iff : (verdict file ≡ Ok tt) ↔ ((g : Ground) (l : ℕ) → fault_at file g l ≡ false)
   sound_iff = none_named (verdict file) (verdict_lowest file)
 
   -- ---- the line named is one of the file's
@@ -269,8 +268,8 @@ module _ (file : List ℕ) where
   fault_within Unreachable l h e = on_line_lem _ _ l e
 
   -- 0, for ground 1, or one of the lines
-  pub fault_line : (g : Ground) (l : ℕ) → verdict file ≡ Fault g l → l ≤ max_rows
+  pub fault_line : (g : Ground) (l : ℕ) → verdict file ≡ Err (g, l) → l ≤ max_rows
   unfolding verdict
   fault_line g l e = case_b (not_lines file)
-      (λ y. let q : ◌≡◌ {A = Verdict} (Fault Lines 0) (Fault g l) = rw y at e in let z : 0 ≡ l = cc in omega arith)
+      (λ y. let q : ◌≡◌ {A = Verdict} (Err (Lines, 0)) (Err (g, l)) = rw y at e in let w : (Lines, 0) ≡ (g, l) = cc in let z : 0 ≡ l = ap (λ (x : Ground × ℕ). x.1) w in omega arith)
       (λ y. let n = lines_lined file y in omega (arith, n.few, fault_within g l n.some ((lowest_iff g l).0 e).0))

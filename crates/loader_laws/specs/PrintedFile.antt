@@ -1,5 +1,6 @@
 -- A file that loads is the print of its table, and the print of rows is read back as them. Assumes nothing.
-use Rattle.std.specs.Prelude.{ℕ, suc, ◌+◌, ◌*◌, ◌-◌, ◌%◌, ◌≤◌, ◌<◌, ◌≡◌, refl, Bool, true, false, ltb, leb, get_or, take, replicate}
+use Rattle.loader.specs.Answers.{Verdict}
+use Rattle.std.specs.Prelude.{ℕ, suc, ◌+◌, ◌*◌, ◌-◌, ◌%◌, ◌≤◌, ◌<◌, ◌≡◌, refl, Bool, true, false, ltb, leb, get_or, take, replicate, None, Ok, Option, Some}
 use Rattle.std.proofs.Common.{arith, sym, ◌∙◌, length-append, length-take-le, get_or-take, get_or-append-add, ext_get_or}
 use mathlib.Core.List.{List, [], ◌++◌}
 use Rattle.std.proofs.Math.ListN.{length, get_or-append}
@@ -12,8 +13,6 @@ use Rattle.numbers.specs.Tests.{and_left, and_right}
 use Rattle.text.specs.Text.{file_text, field_of, read_number}
 use Rattle.text.specs.Text.Laws.{length_file, prints_read, prints_end, read_prints}
 use Rattle.text.specs.Text.Characters.{Characters, file_fits}
-use Rattle.text.specs.declared.Reading.{Reading}
-use Rattle.text.specs.declared.Reading.TheVariants.{Value, Wrong}
 use Rattle.table.specs.Table.{Table, max_rows, row_numbers}
 use Rattle.file.specs.File.{is_value, value_of, line_count, not_lines, field_is_number, well_formed, malformed, number_at, row_at, file_table}
 use Rattle.file.specs.EmptyFile.{procedure_text}
@@ -22,13 +21,11 @@ use Rattle.loader.specs.Verdict.{at_fault, judged, verdict}
 use Rattle.loader.specs.Verdict.Laws.{no_sound}
 use Rattle.loader.specs.declared.Ground.{Ground}
 use Rattle.loader.specs.declared.Ground.TheVariants.{Lines, Field}
-use Rattle.loader.specs.declared.Verdict.{Verdict}
-use Rattle.loader.specs.declared.Verdict.TheVariants.{Sound}
 
 -- ---- what a file in order has passed
 
 -- a test that finds no line at fault, and the verdict that follows it
-pub fault_sound : (g : Ground) (p : ℕ → Bool) (n : ℕ) (v : Verdict) → at_fault g p n v ≡ Sound → (first p n ≡ n) × (v ≡ Sound)
+pub fault_sound : (g : Ground) (p : ℕ → Bool) (n : ℕ) (v : Verdict) → at_fault g p n v ≡ Ok tt → (first p n ≡ n) × (v ≡ Ok tt)
 unfolding at_fault
 fault_sound g p n v e = case_b (ltb (first p n) n)
     (λ y. no_sound g (suc (first p n)) (rw y at e))
@@ -39,10 +36,10 @@ unfolding at_fault
 sound_fault g p n v e = rw (le-ltb (first p n) n (omega arith))
 
 -- a reading that is a number is the reading of that number
-value_read : (q : Reading) → is_value q ≡ true → q ≡ Value (value_of q)
+value_read : (q : Option ℕ) → is_value q ≡ true → q ≡ Some (value_of q)
 unfolding is_value value_of
-value_read (Value v) e = refl
-value_read Wrong e = contra e refl
+value_read (Some v) e = refl
+value_read None e = contra e refl
 
 -- what ground 1 asks
 pub record Lined (file : List ℕ) : Type 0 where
@@ -63,7 +60,7 @@ pub record Read (file : List ℕ) : Type 0 where
   pub lined : Lined file
   pub formed : (i : ℕ) → i < line_count file → malformed file i ≡ false
 
-pub sound_read : (file : List ℕ) → verdict file ≡ Sound → Read file × (judged (file_table file) (line_count file) ≡ Sound)
+pub sound_read : (file : List ℕ) → verdict file ≡ Ok tt → Read file × (judged (file_table file) (line_count file) ≡ Ok tt)
 unfolding verdict
 sound_read file e = case_b (not_lines file)
     (λ y. no_sound Lines 0 (rw y at e))
@@ -72,7 +69,7 @@ sound_read file e = case_b (not_lines file)
     (record { lined = lines_lined file y; formed = λ i h. first_below (malformed file) n i (omega arith) }, s))
 
 -- a file in order has lines, and stands for itself
-pub sound_own : (file : List ℕ) → verdict file ≡ Sound → procedure_text file ≡ file
+pub sound_own : (file : List ℕ) → verdict file ≡ Ok tt → procedure_text file ≡ file
 sound_own file e = text_own file (λ z. let s = (sound_read file e).0.lined.some in absurd (omega arith))
 
 -- ---- the rows of a file's table
@@ -91,7 +88,7 @@ module _ (file : List ℕ) where
   length_table = length_tabulate max_rows (row_at file)
 
   -- a field of a line in order is read as its number
-  pub field_read : (i k : ℕ) → malformed file i ≡ false → k < 12 → read_number (field_of file i k) ≡ Value (number_at file i k)
+  pub field_read : (i k : ℕ) → malformed file i ≡ false → k < 12 → read_number (field_of file i k) ≡ Some (number_at file i k)
   unfolding malformed well_formed field_is_number number_at
   field_read i k e h = value_read (read_number (field_of file i k)) (every_elim (field_is_number file i) row_numbers k (and_left _ _ (not-false _ e)) h)
 
@@ -121,11 +118,11 @@ module _ (file : List ℕ) (g : Read file) where
       rw (line_row i h', get_d_tabulate row_numbers j (number_at file i) 0 l) (field_read file i j (g.formed i h') l))
       (λ i h. end_read file i (g.formed i (omega (arith, length_rows))))
 
-pub sound_printed : (file : List ℕ) → verdict file ≡ Sound → file ≡ file_text (take (line_count file) (file_table file))
+pub sound_printed : (file : List ℕ) → verdict file ≡ Ok tt → file ≡ file_text (take (line_count file) (file_table file))
 sound_printed file e = read_printed file (sound_read file e).0
 
 -- a file that loads is bytes
-pub sound_bytes : (file : List ℕ) → verdict file ≡ Sound → Characters file
+pub sound_bytes : (file : List ℕ) → verdict file ≡ Ok tt → Characters file
 sound_bytes file e = rw (sound_printed file e) (file_fits (take (line_count file) (file_table file)))
 
 -- ---- the print of rows

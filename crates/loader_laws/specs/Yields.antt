@@ -1,5 +1,7 @@
 -- A table that loading yields. Ground 9 accepts just these, as tables and as bytes. Assumes nothing.
-use Rattle.std.specs.Prelude.{ℕ, suc, ◌+◌, ◌*◌, ◌-◌, ◌≤◌, ◌<◌, ◌≡◌, refl, ◌↔◌, true, List, [], ◌∷◌, ◌++◌, ltb, eqb, length, get_or, take, drop, replicate}
+use Rattle.loader.specs.declared.LoadRefusal.TheVariants as LoadRefusal
+use Rattle.loader.specs.Answers.{Loaded, Verdict}
+use Rattle.std.specs.Prelude.{ℕ, suc, ◌+◌, ◌*◌, ◌-◌, ◌≤◌, ◌<◌, ◌≡◌, refl, ◌↔◌, true, List, [], ◌∷◌, ◌++◌, ltb, eqb, length, get_or, take, drop, replicate, Err, None, Ok, Option, Some}
 use Rattle.std.proofs.Common.{arith, sym, ◌∙◌, ap, map-id, length-drop, take-append-drop, length-take-le, get_or-take, get_or-drop, get_or-append-add, ext_get_or}
 use Rattle.std.proofs.lemmas.List.{length-replicate, get_or-replicate}
 use Rattle.std.proofs.Math.ListN.{get_or-append}
@@ -16,23 +18,17 @@ use Rattle.ranges.specs.Ranges.{unused_from, rest_unused}
 use Rattle.text.specs.Text.{file_text, field_of, read_number}
 use Rattle.text.specs.Text.Laws.{reads_value, length_joined}
 use Rattle.text.specs.Text.Characters.{Characters}
-use Rattle.text.specs.declared.Reading.{Reading}
-use Rattle.text.specs.declared.Reading.TheVariants.{Value, Wrong}
 use Rattle.file.specs.File.{line_count, value_of, number_at, file_table}
 use Rattle.file.specs.EmptyFile.{procedure_text}
 use Rattle.loader.specs.Verdict.{judged, verdict, is_sound, rest_zero, acceptable}
 use Rattle.loader.specs.Verdict.Laws.{no_sound, is_sound_lem, judged_header, lines_few}
 use Rattle.loader.specs.Load.{table_length, table_bytes, Outcome, outcome, after_verdict, loaded, accepted}
 use Rattle.loader.specs.declared.Ground.TheVariants.{Total}
-use Rattle.loader.specs.declared.Verdict.{Verdict}
-use Rattle.loader.specs.declared.Verdict.TheVariants.{Sound, Fault}
-use Rattle.loader.specs.declared.Loaded.{Loaded}
-use Rattle.loader.specs.declared.Loaded.TheVariants.{Done, FileRefused, WrongLength}
 use Rattle.loader_laws.specs.PrintedFile.{Printable, filled_up, sound_bytes, sound_read, sound_own, row_read, row_rest, length_table, print_judged, print_table}
 
 -- some file in order has this table
 abbrev pub Yields : Table → Type 0
-Yields tb = (file : List ℕ) × (verdict file ≡ Sound) × (file_table file ≡ tb)
+Yields tb = (file : List ℕ) × (verdict file ≡ Ok tt) × (file_table file ≡ tb)
 
 -- a table as a buffer holds it: 865 rows of 12 numbers of 16 bits
 pub record Shaped (tb : Table) : Type 0 where
@@ -43,7 +39,7 @@ pub record Shaped (tb : Table) : Type 0 where
 -- ---- what the verdict on a table says of its lines
 
 module _ (tb : Table) (n : ℕ) where
-  pub judged_total : judged tb n ≡ Sound → n ≡ line_total tb
+  pub judged_total : judged tb n ≡ Ok tt → n ≡ line_total tb
   unfolding judged
   judged_total e = case_b (eqb n (line_total tb)) (λ y. eqb-true n (line_total tb) y)
       (λ y. no_sound Total 1 (rw (judged_header tb n e, y) at e))
@@ -92,7 +88,7 @@ module _ (tb : Table) where
   unfolding acceptable rest_zero
   acceptable_yields s e =
       let n = line_total tb in
-      let j : judged tb n ≡ Sound = is_sound_lem (judged tb n) (and_left _ _ e) in
+      let j : judged tb n ≡ Ok tt = is_sound_lem (judged tb n) (and_left _ _ e) in
       let z = and_right (is_sound (judged tb n)) _ e in
       let few : n ≤ max_rows = lines_few tb (judged_header tb n j) in
       let p = lines_printable tb s n (omega arith) few in
@@ -103,7 +99,7 @@ module _ (tb : Table) where
   unfolding acceptable rest_zero is_sound
   yields_acceptable y =
       let (file, v, t) = y in
-      let j : judged tb (line_count file) ≡ Sound = rw t at (sound_read file v).1 in
+      let j : judged tb (line_count file) ≡ Ok tt = rw t at (sound_read file v).1 in
       let n : line_count file ≡ line_total tb = judged_total tb (line_count file) j in
       let z = every_intro (rest_zero tb) max_rows (λ r h. case_b (ltb r (line_total tb)) (λ y. rw y)
       (λ y. rw y (row_zero tb r (rw t at (row_rest file r (omega (arith, ltb-false r (line_total tb) y)) h))))) in
@@ -158,10 +154,10 @@ module _ (b : List ℕ) (long : length b ≡ table_length) (fit : (i : ℕ) → 
     small = λ i k h l. rw (at_in max_rows row_numbers (shorts b) i k h l) (numbers_fit 2 b fit (i * row_numbers + k));
   }
 
-value_small : (f : List ℕ) (q : Reading) → read_number f ≡ q → value_of q < 65536
+value_small : (f : List ℕ) (q : Option ℕ) → read_number f ≡ q → value_of q < 65536
 unfolding value_of
-value_small f (Value v) e = (reads_value f v e).0
-value_small f Wrong e = omega arith
+value_small f (Some v) e = (reads_value f v e).0
+value_small f None e = omega arith
 
 pub file_shaped : (file : List ℕ) → Shaped (file_table file)
 unfolding number_at
@@ -179,31 +175,31 @@ file_shaped file = record {
 
 -- some file of bytes, loaded into some buffer, leaves these bytes in it
 abbrev pub YieldsBytes : List ℕ → Type 0
-YieldsBytes b = (file : List ℕ) × (t : List ℕ) × Characters file × (loaded file t ≡ outcome Done b)
+YieldsBytes b = (file : List ℕ) × (t : List ℕ) × Characters file × (loaded file t ≡ outcome (Ok tt) b)
 
-after_done : (v : Verdict) (file t b : List ℕ) → after_verdict v file t ≡ outcome Done b → (v ≡ Sound) × (table_bytes (file_table file) ≡ b)
+after_done : (v : Verdict) (file t b : List ℕ) → after_verdict v file t ≡ outcome (Ok tt) b → (v ≡ Ok tt) × (table_bytes (file_table file) ≡ b)
 unfolding after_verdict
-after_done (Fault g l) file t b e = let a : ◌≡◌ {A = Loaded} (FileRefused g l) Done = ap (λ (o : Outcome). o.answer) e in clash cc
-after_done Sound file t b e = case_b (eqb (length t) table_length)
-    (λ y. let q : outcome Done (table_bytes (file_table file)) ≡ outcome Done b = rw y at e in (refl, ap (λ (o : Outcome). o.table) q))
-    (λ y. let q : outcome WrongLength t ≡ outcome Done b = rw y at e in let a : ◌≡◌ {A = Loaded} WrongLength Done = ap (λ (o : Outcome). o.answer) q in clash cc)
+after_done (Err (g, l)) file t b e = let a : ◌≡◌ {A = Loaded} (Err (LoadRefusal.FileRefused g l)) (Ok tt) = ap (λ (o : Outcome). o.answer) e in clash cc
+after_done (Ok tt) file t b e = case_b (eqb (length t) table_length)
+    (λ y. let q : outcome (Ok tt) (table_bytes (file_table file)) ≡ outcome (Ok tt) b = rw y at e in (refl, ap (λ (o : Outcome). o.table) q))
+    (λ y. let q : outcome (Err LoadRefusal.WrongLength) t ≡ outcome (Ok tt) b = rw y at e in let a : ◌≡◌ {A = Loaded} (Err LoadRefusal.WrongLength) (Ok tt) = ap (λ (o : Outcome). o.answer) q in clash cc)
 
 -- a file that stands for a text in order loads into every buffer of the table's length, whatever it held
-pub text_loads : (file t : List ℕ) → verdict (procedure_text file) ≡ Sound → length t ≡ table_length → loaded file t ≡ outcome Done (table_bytes (file_table (procedure_text file)))
+pub text_loads : (file t : List ℕ) → verdict (procedure_text file) ≡ Ok tt → length t ≡ table_length → loaded file t ≡ outcome (Ok tt) (table_bytes (file_table (procedure_text file)))
 unfolding loaded after_verdict
 text_loads file t e l = rw (e, eq-eqb (length t) table_length l)
 
 -- so does a file in order
-pub sound_loads : (file t : List ℕ) → verdict file ≡ Sound → length t ≡ table_length → loaded file t ≡ outcome Done (table_bytes (file_table file))
+pub sound_loads : (file t : List ℕ) → verdict file ≡ Ok tt → length t ≡ table_length → loaded file t ≡ outcome (Ok tt) (table_bytes (file_table file))
 sound_loads file t e l = let q = sound_own file e in rw q at (text_loads file t (rw q e) l)
 
 -- a load that is done is of a file that stands for a text in order, and leaves its table
-pub done_sound : (file t b : List ℕ) → loaded file t ≡ outcome Done b → (verdict (procedure_text file) ≡ Sound) × (table_bytes (file_table (procedure_text file)) ≡ b)
+pub done_sound : (file t b : List ℕ) → loaded file t ≡ outcome (Ok tt) b → (verdict (procedure_text file) ≡ Ok tt) × (table_bytes (file_table (procedure_text file)) ≡ b)
 unfolding loaded
 done_sound file t b e = after_done (verdict (procedure_text file)) (procedure_text file) t b e
 
 -- such a file is bytes
-pub text_bytes : (file : List ℕ) → verdict (procedure_text file) ≡ Sound → Characters file
+pub text_bytes : (file : List ℕ) → verdict (procedure_text file) ≡ Ok tt → Characters file
 unfolding procedure_text
 text_bytes [] e = λ i. omega arith
 text_bytes (c ∷ s) e = sound_bytes (c ∷ s) e
@@ -231,14 +227,14 @@ unfolding table_bytes
 file_small file = encode_below 2 (joined (file_table file))
 
 -- ground 9 accepts them, if the file is in order
-pub file_accepted : (file : List ℕ) → verdict file ≡ Sound → accepted (table_bytes (file_table file)) ≡ true
+pub file_accepted : (file : List ℕ) → verdict file ≡ Ok tt → accepted (table_bytes (file_table file)) ≡ true
 file_accepted file e =
     let b = table_bytes (file_table file) in
     (accepted_iff b (file_small file)).1 (file, b, sound_bytes file e, sound_loads file b e (length_bytes (file_table file) (file_shaped file)))
 
 -- what a load that is done leaves in the table's buffer is such bytes
-module _ (file t : List ℕ) (e : (loaded file t).answer ≡ Done) where
-  left : (verdict (procedure_text file) ≡ Sound) × (table_bytes (file_table (procedure_text file)) ≡ (loaded file t).table)
+module _ (file t : List ℕ) (e : (loaded file t).answer ≡ Ok tt) where
+  left : (verdict (procedure_text file) ≡ Ok tt) × (table_bytes (file_table (procedure_text file)) ≡ (loaded file t).table)
   left = done_sound file t (loaded file t).table (ap (λ (a : Loaded). outcome a (loaded file t).table) e)
 
   pub loaded_small : (i : ℕ) → get_or (loaded file t).table i 0 < 256

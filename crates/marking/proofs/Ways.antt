@@ -6,52 +6,13 @@ use mathlib.Core.Path.{◌≡◌, sym, ◌∙◌}
 use mathlib.Core.Bool.{Bool, true, false}
 use mathlib.Core.List.{List}
 use lib.Dec.{ltb, eqb}
-use lib.ListN.{length, get_or, set, length-set, replicate, length-replicate, get_or-replicate, get_or-eq_default}
-use lib.Seq.{set_out, get_or-set_same, get_or-set_other}
-use borrow.Author.Tests.{ltb-true, ltb-false, lt-ltb, le-ltb, eqb-true, eqb-false, ne_eqb}
+use lib.ListN.{set, length-set, replicate, length-replicate, get_or-replicate}
+use lib.Seq.{get_or-set_same, get_or-set_other}
+use borrow.Author.Tests.{ltb-true, ltb-false, lt-ltb, le-ltb, eqb-true, eqb-false}
 use Rattle.numbers.specs.Search.{tabulate}
 use Rattle.numbers.specs.Search.Laws.{case_b, get_d_tabulate, length_tabulate, is_tabulate}
-use Rattle.table.specs.Table.{Table}
-use Rattle.state.specs.State.{max_channels, State, thread, status}
-use Rattle.threads.specs.Threads.{offers_marked, with_held}
-use Rattle.marking.specs.Marking.{ports_to, comes, marked_if, known_if}
-
--- mark_at, set_mark
-module _ (l : List Bool) (i : ℕ) where
-  pub mark_past : length l ≤ i → false ≡ get_or l i false
-  mark_past h = sym (get_or-eq_default l false {n = i} h)
-
-  pub set_past : length l ≤ i → l ≡ set l i true
-  set_past h = sym (set_out l i true h)
-
--- visit: x is whether thread t comes, and y what is answered
-pub came_so : (x y z : Bool) → x ≡ z → x ≡ y → y ≡ z
-came_so x y z e f = sym f ∙ e
-
-pub thread_marked : (m m₁ : List Bool) (t : ℕ) → m₁ ≡ set m t true → m₁ ≡ marked_if true m t
-unfolding marked_if
-thread_marked m m₁ t e = e
-
-pub channels_known : (tb : Table) (row : List ℕ) (k k₁ : List Bool) → k₁ ≡ with_held tb row k → k₁ ≡ known_if true tb row k
-unfolding known_if
-channels_known tb row k k₁ e = e
-
--- joins_now: x is whether thread t is marked, y its status
-module _ (tb : Table) (s : State) (m k : List Bool) (t : ℕ) (x : Bool) (e : x ≡ get_or m t false) where
-  pub joined_before : x ≡ true → false ≡ comes tb s m k t
-  unfolding comes
-  joined_before f = rw (← e, f)
-
-  module _ (f : x ≡ false) (y : ℕ) (g : y ≡ status (thread s t)) where
-    pub joins_ready : y ≡ 1 → true ≡ comes tb s m k t
-    unfolding comes
-    joins_ready h = rw (← e, f, ← g, h)
-
-    pub joins_offering : (r : Bool) → (y ≡ 1 → ⊥) → r ≡ offers_marked tb (thread s t) k → r ≡ comes tb s m k t
-    unfolding comes
-    joins_offering r h i = rw (← e, f, ← g, ne_eqb y 1 h) i
-
-pub ruleset joining = (joined_before, joins_ready, joins_offering)
+use Rattle.state.specs.State.{max_channels}
+use Rattle.marking.specs.Marking.{ports_to}
 
 -- know_ports
 pub ports_none : (k : List Bool) → k ≡ replicate max_channels false → k ≡ ports_to 0

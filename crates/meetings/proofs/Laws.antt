@@ -19,9 +19,6 @@ use Rattle.rules.specs.declared.Move.TheVariants.{Meets}
 use Rattle.thread_rows.specs.WrittenRows.Laws.{stored_after}
 use Rattle.meetings.specs.Sides.{Facing, passed}
 
-pub side_arm : (r : Direction) (a b : Act) → a ≡ b → r ≡ side_of b → r ≡ side_of a
-side_arm r a b e f = rw e f
-
 -- ---- thread t, which stands at node x, goes on at node n by its branch i, which is in row r and of direction d: s₁ after the head of its row is written, and
 -- s₂ with v in slot k besides
 
@@ -31,10 +28,6 @@ module _ (tb : Table) (b : List ℕ) (t i v x r n k : ℕ) (c : Act) (d : Direct
   same_row : met d (thread (state_of b) t) n k v ≡ met_by tb (thread (state_of b) t) i v
   unfolding met_by
   same_row = rw (g, f, o, z, q, p)
-
-  pub sender_goes : d ≡ Out → s₁ ≡ with_thread (state_of b) t (met_by tb (thread (state_of b) t) i v)
-  unfolding met
-  sender_goes h = rw (← same_row, h) e
 
   pub receiver_goes : (s₂ : State) → s₂ ≡ with_thread s₁ t (stored (thread s₁ t) k v) → t < max_threads → d ≡ In
       → s₂ ≡ with_thread (state_of b) t (met_by tb (thread (state_of b) t) i v)
@@ -67,9 +60,6 @@ passed_on tb s b₁ s₂ s₃ t a u b n m k v x y z d e f c o p i q j g h l =
 swapped : (s : State) (t u : ℕ) (x y : List ℕ) → u ≢ t → with_thread (with_thread s u x) t y ≡ with_thread (with_thread s t y) u x
 unfolding with_thread
 swapped s t u x y n = ap (λ (l : List (List ℕ)). with_threads s l) (set_comm s.threads u t x y n)
-
-pub turned_about : (t u : ℕ) → u ≢ t → t ≢ u
-turned_about t u n e = n (sym e)
 
 -- s₁ after the writes; branch i of thread t, which stands at node x, is in row a and of direction r, and branch j of thread u, which stands at y, in row b
 module _ (tb : Table) (s s₁ : State) (t a i u b j x y : ℕ) (r : Direction) (c : Act) (e : r ≡ side_of c) (f : c ≡ act_of tb a) (p : a ≡ branch_at tb x i)

@@ -2,8 +2,6 @@
 #![tactic(auto)]
 
 ghost use Rattle.std.specs.Prelude.{◌≡◌, ◌≢◌, ◌<◌};
-ghost use Rattle.table.specs.Table.{table_of};
-ghost use Rattle.table.specs.Index.{Indexed};
 ghost use Rattle.state.specs.State.{max_threads, state_of, thread};
 ghost use Rattle.rules.specs.Moves.{met_by, value_by, side_of, written};
 ghost use Rattle.rules.specs.declared.Move.TheVariants.{Meets};
@@ -11,97 +9,76 @@ ghost use Rattle.thread_rows.specs.WrittenRows.{rewritten};
 ghost use Rattle.meetings.specs.Sides.{Facing, passed};
 
 use rules::{Act, Direction};
-use table::field;
+use table::{Table, field};
 
 // The direction of an act.
+#[tactic(auto, unfolding(rules::specs::Moves::side_of))]
 fn side_of(act: Act) -> Direction
     ensures { result ≡ side_of act }
 {
     match act {
-        Act::Tau => Direction::Out,
         Act::Meeting(d) => d,
-        Act::New => Direction::Out,
-        Act::Spawn => Direction::Out,
-        Act::Assignment => Direction::Out,
+        Act::Tau | Act::New | Act::Spawn | Act::Assignment => Direction::Out,
     }
 }
 
 // What thread t gives at a meeting by its branch i.
-pub fn value_by(table: &[u8], index: &[u32], state: &[u32; state::WORDS], t: u32, i: u32) -> u32
-    requires { Indexed (table_of table.now) index.now }
-    ensures { result ≡ value_by (table_of table.now) (thread (state_of state.now) t) i }
+#[tactic(auto, unfolding(rules::specs::Moves::value_by))]
+pub fn value_by(table: &Table, state: &[u32; state::WORDS], t: u32, i: u32) -> u32
+    ensures { result ≡ value_by table.now (thread (state_of state.now) t) i }
 {
-    let row = program::branch_at(table, index, thread_rows::stands_at(state, t), i);
-    program::slot(state, t, table::cell_of(table, index, row, field::B))
+    let row = program::branch_at(table, thread_rows::stands_at(state, t), i);
+    program::slot(state, t, table.cell(row, field::B))
 }
 
 // Thread t goes on after a meeting by its branch i with somebody who gives v: a receiver has v in its slot.
-pub fn write_met(
-    table: &[u8],
-    index: &[u32],
-    state: &mut [u32; state::WORDS],
-    t: u32,
-    i: u32,
-    v: u32,
-)
-    requires indexed { Indexed (table_of table.now) index.now }
+#[tactic(auto, unfolding(rules::specs::Moves::met_by, rules::specs::Moves::met))]
+pub fn write_met(table: &Table, state: &mut [u32; state::WORDS], t: u32, i: u32, v: u32)
     requires t_lt_max_threads { t < max_threads }
-    ensures { state_of state.new ≡ rewritten (state_of state.old) t (λ row. met_by (table_of table.now) row i v) }
+    ensures { state_of state.new ≡ rewritten (state_of state.old) t (λ row. met_by table.now row i v) }
 {
     let node = thread_rows::stands_at(state, t);
-    let row = program::branch_at(table, index, node, i);
-    let next = program::next_of(table, index, node, row);
-    let slot = table::cell_of(table, index, row, field::B);
-    let side = side_of(program::act_of(table, index, row));
+    let row = program::branch_at(table, node, i);
+    let next = program::next_of(table, node, row);
+    let slot = table.cell(row, field::B);
+    let side = side_of(program::act_of(table, row));
     thread_rows::resume(state, t, next);
-    match side {
-        Direction::Out => {}
-        Direction::In => thread_rows::store(state, t, slot, v),
+    if let Direction::In = side {
+        thread_rows::store(state, t, slot, v);
     }
 }
 
 // Threads t and u go on after the meeting of their branches i and j, each with what the other one gives.
-pub fn write_meeting(
-    table: &[u8],
-    index: &[u32],
-    state: &mut [u32; state::WORDS],
-    t: u32,
-    i: u32,
-    u: u32,
-    j: u32,
-)
-    requires indexed { Indexed (table_of table.now) index.now }
+pub fn write_meeting(table: &Table, state: &mut [u32; state::WORDS], t: u32, i: u32, u: u32, j: u32)
     requires t_lt_max_threads { t < max_threads }
     requires u_lt_max_threads { u < max_threads }
     requires distinct { u ≢ t }
-    ensures { state_of state.new ≡ written (table_of table.now) (state_of state.old) t (Meets i u j) }
+    ensures { state_of state.new ≡ written table.now (state_of state.old) t (Meets i u j) }
 {
-    let given = value_by(table, index, state, u, j);
-    let gives = value_by(table, index, state, t, i);
-    write_met(table, index, state, t, i, given);
-    write_met(table, index, state, u, j, gives);
+    let given = value_by(table, state, u, j);
+    let gives = value_by(table, state, t, i);
+    write_met(table, state, t, i, given);
+    write_met(table, state, u, j, gives);
 }
 
 // Thread t goes on after the send in a row, and thread u after the receive in another, with what t gives in its slot.
 fn write_passed(
-    table: &[u8],
-    index: &[u32],
+    table: &Table,
     state: &mut [u32; state::WORDS],
     t: u32,
     send: usize,
     u: u32,
     receive: usize,
 )
-    requires indexed { Indexed (table_of table.now) index.now }
     requires t_lt_max_threads { t < max_threads }
     requires u_lt_max_threads { u < max_threads }
     requires distinct { u ≢ t }
-    ensures { state_of state.new ≡ passed (table_of table.now) (state_of state.old) t send u receive }
+    ensures { state_of state.new ≡ passed table.now (state_of state.old) t send u receive }
 {
-    let slot = table::cell_of(table, index, receive, field::B);
-    let v = program::slot(state, t, table::cell_of(table, index, send, field::B));
-    let next = program::next_of(table, index, thread_rows::stands_at(state, t), send);
-    let after = program::next_of(table, index, thread_rows::stands_at(state, u), receive);
+    let slot = table.cell(receive, field::B);
+    let v = program::slot(state, t, table.cell(send, field::B));
+    let next = program::next_of(table, thread_rows::stands_at(state, t), send);
+    let after = program::next_of(table, thread_rows::stands_at(state, u), receive);
     thread_rows::resume(state, t, next);
     thread_rows::resume(state, u, after);
     thread_rows::store(state, u, slot, v);
@@ -109,25 +86,23 @@ fn write_passed(
 
 // Threads t and u go on after the meeting of their branches i and j, by who of the two sends: fewer words are read and written than by `write_meeting`.
 pub fn write_directed(
-    table: &[u8],
-    index: &[u32],
+    table: &Table,
     state: &mut [u32; state::WORDS],
     t: u32,
     i: u32,
     u: u32,
     j: u32,
 )
-    requires indexed { Indexed (table_of table.now) index.now }
     requires t_lt_max_threads { t < max_threads }
     requires u_lt_max_threads { u < max_threads }
     requires distinct { u ≢ t }
-    requires facing { Facing (table_of table.now) (state_of state.old) t i u j }
-    ensures { state_of state.new ≡ written (table_of table.now) (state_of state.old) t (Meets i u j) }
+    requires facing { Facing table.now (state_of state.old) t i u j }
+    ensures { state_of state.new ≡ written table.now (state_of state.old) t (Meets i u j) }
 {
-    let own = program::branch_at(table, index, thread_rows::stands_at(state, t), i);
-    let other = program::branch_at(table, index, thread_rows::stands_at(state, u), j);
-    match side_of(program::act_of(table, index, own)) {
-        Direction::Out => write_passed(table, index, state, t, own, u, other),
-        Direction::In => write_passed(table, index, state, u, other, t, own),
+    let own = program::branch_at(table, thread_rows::stands_at(state, t), i);
+    let other = program::branch_at(table, thread_rows::stands_at(state, u), j);
+    match side_of(program::act_of(table, own)) {
+        Direction::Out => write_passed(table, state, t, own, u, other),
+        Direction::In => write_passed(table, state, u, other, t, own),
     }
 }

@@ -1,4 +1,5 @@
 -- What the conversions of signed numbers and their patterns need. Assumes nothing.
+use Rattle.std.specs.Prelude.{None, Option, Some}
 use Rattle.std.proofs.Common.{◌≡◌, ℕ, zero, suc, ◌-◌, ◌<◌, ◌≤◌, true, false, T, leb, ℤ, pos, negsuc, ◌+ℤ◌, ◌-ℤ◌, nat_abs, sym, refl, ap, ◌∙◌, arith, to_z-of_z, w32, w64, Fits, SFits, to_z, of_z, ltb-true, le-ltb, lt-ltb, leb-true}
 use native.Mathlib.Decide.{dec_lt}
 use lib.IntN.{sub_ℕ}
@@ -7,8 +8,6 @@ use mir.Facts.{to_z_pos, of_z-to_z, sfits_to_z, Fits-of_z}
 use Rattle.numbers.specs.Search.Laws.{case_b}
 use Rattle.numbers.specs.Signed.{in_range, narrowed, lower}
 use Rattle.numbers.specs.Signed.Laws.{to_z_high, narrowed_fits}
-use Rattle.numbers.specs.declared.Checked.{Checked}
-use Rattle.numbers.specs.declared.Checked.TheVariants.{Exact, Overflow}
 
 -- -1 - n, which turns every bit of a pattern
 flip_pos : (n : ℕ) → negsuc 0 -ℤ pos n ≡ negsuc n
@@ -82,7 +81,7 @@ between : (m n : ℕ) (z : ℤ) → le_z (negsuc m) z ≡ true → le_z z (pos n
 between m n (pos k) l h p q = record { sfits = omega (arith, leb-true k n h, leb-true n 2147483647 q) }
 between m n (negsuc k) l h p q = record { sfits = omega (arith, leb-true k m l, leb-true m 2147483647 p) }
 
-above_overflows : (z : ℤ) → le_z z (pos 2147483647) ≡ false → narrowed z ≡ Overflow
+above_overflows : (z : ℤ) → le_z z (pos 2147483647) ≡ false → narrowed z ≡ None
 unfolding narrowed in_range
 above_overflows z h = case_b (le_z (negsuc 2147483647) z) (λ y. rw (y, h)) (λ y. rw y)
 
@@ -96,14 +95,14 @@ module _ (z : ℤ) (f : SFits w64 z) where
     pub narrow_casts : SFits w32 (to_z w64 (of_z w64 z))
     narrow_casts = rw (to_z-of_z f) within_fits
 
-    pub narrow_exact : Exact (to_z w32 (of_z w32 (to_z w64 (of_z w64 z)))) ≡ narrowed z
+    pub narrow_exact : Some (to_z w32 (of_z w32 (to_z w64 (of_z w64 z)))) ≡ narrowed z
     narrow_exact = rw (to_z-of_z f, to_z-of_z within_fits) (sym (narrowed_fits z within_fits))
 
   -- it is above the range, or below it
-  pub narrow_above : le_z (to_z w64 (of_z w64 z)) (pos 2147483647) ≡ false → Overflow ≡ narrowed z
+  pub narrow_above : le_z (to_z w64 (of_z w64 z)) (pos 2147483647) ≡ false → None ≡ narrowed z
   narrow_above h = sym (above_overflows z (rw (to_z-of_z f) at h))
 
-  pub narrow_below : le_z (negsuc 2147483647) (to_z w64 (of_z w64 z)) ≡ false → Overflow ≡ narrowed z
+  pub narrow_below : le_z (negsuc 2147483647) (to_z w64 (of_z w64 z)) ≡ false → None ≡ narrowed z
   unfolding narrowed in_range
   narrow_below h = rw (rw (to_z-of_z f) at h)
 
@@ -143,7 +142,7 @@ module _ (a b : ℤ) (f : SFits w32 a) (g : SFits w32 b) where
   pub difference_fits : SFits w64 (to_z w64 (of_z w64 (to_z w32 (of_z w32 a))) -ℤ to_z w64 (of_z w64 (to_z w32 (of_z w32 b))))
   difference_fits = rw (wide_is a f, wide_is b g) (difference_small a b f g)
 
-  module _ (r : Checked) where
+  module _ (r : Option ℤ) where
     pub sum_narrowed : r ≡ narrowed (to_z w64 (of_z w64 (to_z w64 (of_z w64 (to_z w32 (of_z w32 a))) +ℤ to_z w64 (of_z w64 (to_z w32 (of_z w32 b)))))) → r ≡ narrowed (a +ℤ b)
     sum_narrowed e = e ∙ ap narrowed (to_z-of_z sum_fits ∙ rw (wide_is a f, wide_is b g))
 

@@ -1,6 +1,7 @@
 -- Over the numbers below n: whether all pass a test, the first that does, a sum, a list. Their laws are in `Search/Laws.antt`; they stay shut
 -- elsewhere, since they are long where they are written out, and `computing` opens them where an example is to compute.
 pub mod Laws
+pub mod Chains
 use Rattle.std.specs.Prelude.{ℕ, zero, suc, ◌+◌, Bool, true, false, cond, List, [], ◌∷◌, nat_lt}
 
 -- whether p holds of each number below n

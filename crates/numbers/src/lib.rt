@@ -2,25 +2,27 @@
 // the end does nothing.
 #![tactic(auto)]
 
-ghost use Rattle.std.specs.Prelude.{◌≡◌, ◌<◌, [], ◌∷◌, ◌+ℤ◌, ◌-ℤ◌, slice_index, slice_set};
+ghost use Rattle.std.specs.Prelude.{◌≡◌, ◌<◌, [], ◌∷◌, ◌+ℤ◌, ◌-ℤ◌, slice_index, slice_set, get_or, set};
 ghost use Rattle.std.specs.Int.{w32};
 ghost use Rattle.std.proofs.Common.{to_z, of_z};
 ghost use Rattle.numbers.specs.Bytes.{little, shorts, words};
 ghost use Rattle.numbers.specs.Signed.{narrowed, lower, sum, difference, widened};
 
 // The number of two bytes, the lower first.
+#[tactic(auto, unfolding(crate::specs::Bytes::little))]
 pub fn pair(a: u8, b: u8) -> u32
     ensures value { result ≡ little (a ∷ b ∷ []) }
     ensures upper_bound { result < 65536 }
 {
-    a as u32 + b as u32 * 256
+    u16::from_le_bytes([a, b]) as u32
 }
 
 // The number of four bytes, the lowest first.
+#[tactic(auto, unfolding(crate::specs::Bytes::little))]
 fn quad(a: u8, b: u8, c: u8, d: u8) -> u32
     ensures { result ≡ little (a ∷ b ∷ c ∷ d ∷ []) }
 {
-    a as u32 + b as u32 * 256 + c as u32 * 65536 + d as u32 * 16777216
+    u32::from_le_bytes([a, b, c, d])
 }
 
 // The 16-bit number at place i.
@@ -30,9 +32,10 @@ pub fn short_at(s: &[u8], i: usize) -> u32
 {
     if i < s.len() / 2 {
         let at = i * 2;
-        return pair(s[at], s[at + 1]);
+        pair(s[at], s[at + 1])
+    } else {
+        0
     }
-    0
 }
 
 // The 16-bit number at place i becomes v.
@@ -52,9 +55,10 @@ pub fn word_at(s: &[u8], i: usize) -> u32
 {
     if i < s.len() / 4 {
         let at = i * 4;
-        return quad(s[at], s[at + 1], s[at + 2], s[at + 3]);
+        quad(s[at], s[at + 1], s[at + 2], s[at + 3])
+    } else {
+        0
     }
-    0
 }
 
 // The word at place i becomes v.
@@ -70,43 +74,49 @@ pub fn put_word(s: &mut [u8], i: usize, v: u32)
     }
 }
 
+// The item at place i of a list; `outside` where there is none.
+pub fn item_at<T: Copy>(list: &[T], i: usize, outside: T) -> T
+    ensures { result ≡ get_or list.now i outside }
+{
+    list.get(i).copied().unwrap_or(outside)
+}
+
+// The item at place i of a list becomes v.
+pub fn put_item<T: Copy>(list: &mut [T], i: usize, v: T)
+    ensures { list.new ≡ set list.old i v }
+{
+    // Not by `get_mut`, whose clause does not say what the list is after a write through its answer.
+    if i < list.len() {
+        list[i] = v;
+    }
+}
+
 // The number at place i of a list of numbers.
 pub fn cell_at(s: &[u32], i: usize) -> u32
     ensures { result ≡ slice_index s.now i }
 {
-    if i < s.len() {
-        return s[i];
-    }
-    0
+    item_at(s, i, 0)
 }
 
 // The number at place i of a list of numbers becomes v.
 pub fn put_cell(s: &mut [u32], i: usize, v: u32)
     ensures { s.new ≡ slice_set s.old i v }
 {
-    if i < s.len() {
-        s[i] = v;
-    }
+    put_item(s, i, v);
 }
 
 // The number whose pattern is x.
 pub fn signed(x: u32) -> i32
     ensures { result ≡ to_z w32 x }
 {
-    if x < 2147483648 {
-        return x as i32;
-    }
-    -1 - ((4294967295 - x) as i32)
+    x.cast_signed()
 }
 
 // The pattern of x.
 pub fn pattern(x: i32) -> u32
     ensures { result ≡ of_z w32 x }
 {
-    if x < 0 {
-        return 4294967295 - ((-1 - x) as u32);
-    }
-    x as u32
+    x.cast_unsigned()
 }
 
 // Whether the number of pattern x is below that of pattern y.
@@ -116,59 +126,52 @@ pub fn below(x: u32, y: u32) -> bool
     signed(x) < signed(y)
 }
 
-// What a sum or a difference comes to: just this number, or one that does not fit into 32 signed bits.
-#[derive(Clone, Copy)]
-pub enum Checked {
-    Exact(i32),
-    Overflow,
-}
-
 // The number z, if it fits into 32 signed bits.
-fn narrow(z: i64) -> Checked
+#[tactic(auto, unfolding(crate::specs::Signed::narrowed, crate::specs::Signed::in_range))]
+fn narrow(z: i64) -> Option<i32>
     ensures { result ≡ narrowed z }
 {
-    if -2147483648 <= z {
-        if z <= 2147483647 {
-            return Checked::Exact(z as i32);
-        }
+    if -2147483648 <= z && z <= 2147483647 {
+        Some(z as i32)
+    } else {
+        None
     }
-    Checked::Overflow
 }
 
 // The sum, if it fits.
-pub fn checked_add(a: i32, b: i32) -> Checked
+pub fn checked_add(a: i32, b: i32) -> Option<i32>
     ensures { result ≡ narrowed (a +ℤ b) }
 {
     narrow(a as i64 + b as i64)
 }
 
 // The difference, if it fits.
-pub fn checked_sub(a: i32, b: i32) -> Checked
+pub fn checked_sub(a: i32, b: i32) -> Option<i32>
     ensures { result ≡ narrowed (a -ℤ b) }
 {
     narrow(a as i64 - b as i64)
 }
 
 // The pattern of the sum, by the patterns of the two numbers.
+#[tactic(auto, unfolding(crate::specs::Signed::sum))]
 pub fn add(x: u32, y: u32) -> u32
     ensures { result ≡ sum x y }
 {
-    std::num::wrapping_add_u32(x, y)
+    x.wrapping_add(y)
 }
 
 // The pattern of the difference, by the patterns of the two numbers.
+#[tactic(auto, unfolding(crate::specs::Signed::difference))]
 pub fn subtract(x: u32, y: u32) -> u32
     ensures { result ≡ difference x y }
 {
-    std::num::wrapping_sub_u32(x, y)
+    x.wrapping_sub(y)
 }
 
 // The 32-bit pattern of the number whose 16-bit pattern is v: a negative one gets its upper 16 bits set.
+#[tactic(auto, unfolding(crate::specs::Signed::widened))]
 pub fn widen(v: u32) -> u32
     ensures { result ≡ widened v }
 {
-    if v < 32768 {
-        return v;
-    }
-    add(v, 4294901760)
+    if v < 32768 { v } else { add(v, 4294901760) }
 }

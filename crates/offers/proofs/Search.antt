@@ -1,12 +1,13 @@
 -- What the search for a partner has shown at each place. Assumes nothing.
+use Rattle.std.specs.Prelude.{None, Option, Some}
+use Rattle.rules.specs.Answers.{Partner}
 use Prim.Native.Nat.{ℕ, ◌+◌, ◌-◌, ◌<◌, ◌≤◌}
 use native.Mathlib.Omega.{arith}
 use mathlib.Core.Path.{◌≡◌, refl, sym, ◌∙◌}
 use mathlib.Core.Bool.{Bool, true, false, not}
 use mathlib.Core.List.{List}
 use lib.Dec.{ltb, eqb}
-use borrow.Author.Tests.{ltb-true, ltb-false, eqb-true, eq-eqb, ne_eqb}
-use Rattle.numbers.specs.Rows.{at}
+use borrow.Author.Tests.{ltb-true, ltb-false, eqb-true, eq-eqb}
 use Rattle.numbers.specs.Search.{first}
 use Rattle.numbers.specs.Search.Laws.{case_b, contra, first_more, first_below, first_void, first_rest, some_intro}
 use Rattle.numbers.specs.Tests.{and_right}
@@ -16,18 +17,14 @@ use Rattle.rules.specs.Program.{opposite, same}
 use Rattle.rules.specs.Offers.{offers_in, offers_at, offers, answers, partner_of}
 use Rattle.rules.specs.Moves.{first_from}
 use Rattle.rules.specs.declared.Direction.{Direction}
-use Rattle.rules.specs.declared.Partner.{Partner}
-use Rattle.rules.specs.declared.Partner.TheVariants.{Nobody, At}
 use Rattle.offers.specs.Apart.{Apart}
-use Rattle.next_rows.specs.Around.{from_more, from_hit, from_ge, from_before, from_passes}
+use Rattle.next_rows.specs.Around.{from_ge, from_before, from_passes}
 use Rattle.offers.specs.Partners.{none_answers}
 use Rattle.offers.specs.Offer.{offer_on, is_of}
 use Rattle.offers.specs.Offer.Laws.{same_other, offers_in_lem}
 use Rattle.offers.specs.Seen.{seen_as, seen_in}
 use Rattle.next_rows.specs.UsedBelow.{UsedBelow, top_le, free_from}
 use Rattle.offers.specs.Tried.{is_waiting_thread, tried, first_row, row_tried, answers_tried, only_waiting, silent, found_at}
-use Rattle.offers.specs.declared.Offer.{Offer}
-use Rattle.offers.specs.declared.Offer.TheVariants.{Nothing, Of}
 use Rattle.offers.specs.declared.Seen.{Seen}
 use Rattle.offers.specs.declared.Seen.TheVariants.{Answers, Competes, Neither}
 
@@ -43,15 +40,15 @@ competes? Answers = false
 competes? Competes = true
 competes? Neither = false
 
-seen_answering : (o : Offer) (d : Direction) → answers? (seen_as o d) ≡ is_of o d
+seen_answering : (o : Option Direction) (d : Direction) → answers? (seen_as o d) ≡ is_of o d
 unfolding answers? seen_as is_of
-seen_answering Nothing d = refl
-seen_answering (Of e) d = case_b (same e d) (λ y. rw y) (λ n. rw n)
+seen_answering None d = refl
+seen_answering (Some e) d = case_b (same e d) (λ y. rw y) (λ n. rw n)
 
-seen_competing : (o : Offer) (d : Direction) → competes? (seen_as o d) ≡ true → is_of o (opposite d) ≡ true
+seen_competing : (o : Option Direction) (d : Direction) → competes? (seen_as o d) ≡ true → is_of o (opposite d) ≡ true
 unfolding competes? seen_as is_of
-seen_competing Nothing d h = contra h refl
-seen_competing (Of e) d h = case_b (same e d) (λ y. contra h (rw y)) (λ n. same_other e d n)
+seen_competing None d h = contra h refl
+seen_competing (Some e) d h = case_b (same e d) (λ y. contra h (rw y)) (λ n. same_other e d n)
 
 module _ (tb : Table) (row : List ℕ) (d : Direction) (c r : ℕ) (v : Seen) (e : v ≡ seen_in tb row d c r) where
   answers_is : answers? v ≡ offers_in tb row d c r
@@ -106,18 +103,18 @@ module _ (tb : Table) (s : State) (t : ℕ) (d : Direction) (c : ℕ) where
   answers_rest i top e l used =
       first_rest (answers tb s t d c) i max_threads e (λ k j. only_waiting tb s t d c k (rw (free_from s top used k (omega arith))))
 
-  pub nobody_is : (f : Partner) (u top : ℕ) → f ≡ Nobody → first (answers tb s t d c) u ≡ u → top ≤ u → UsedBelow s top → f ≡ partner_of tb s t d c
+  pub nobody_is : (f : Partner) (u top : ℕ) → f ≡ None → first (answers tb s t d c) u ≡ u → top ≤ u → UsedBelow s top → f ≡ partner_of tb s t d c
   nobody_is f u top e past h k = e ∙ none_answers tb s t d c (answers_rest u top past h k)
 
   -- all threads were tried
-  pub none_is : (f : Partner) (u : ℕ) → f ≡ Nobody → first (answers tb s t d c) u ≡ u → max_threads ≤ u → u ≤ max_threads → f ≡ partner_of tb s t d c
+  pub none_is : (f : Partner) (u : ℕ) → f ≡ None → first (answers tb s t d c) u ≡ u → max_threads ≤ u → u ≤ max_threads → f ≡ partner_of tb s t d c
   none_is f u e past h l = let q : u ≡ 64 = omega arith in e ∙ none_answers tb s t d c (rw q at past)
 
   module _ (u : ℕ) where
     -- it answers, and none before it does
     pub found_is : (r i n : ℕ) → r ≡ first_row tb s u n → (v : Seen) → v ≡ seen_in tb (thread s u) d c (r + i) → i < n
         → first (answers tb s t d c) u ≡ u → c < max_channels → n ≡ tried tb s t u
-        → first (offers_at tb (thread s u) d c) i ≡ i → v ≡ Answers → (top : ℕ) → u < top → UsedBelow s top → At u i ≡ partner_of tb s t d c
+        → first (offers_at tb (thread s u) d c) i ≡ i → v ≡ Answers → (top : ℕ) → u < top → UsedBelow s top → Some (u, i) ≡ partner_of tb s t d c
     unfolding answers?
     found_is r i n f v e h past l b g o top m k =
         found_at tb s t d c u n i b g (answers? v) (offer_is tb s d c u r i n f v e h) (rw o) h l past (omega (arith, top_le s top k))
@@ -126,7 +123,7 @@ module _ (tb : Table) (s : State) (t : ℕ) (d : Direction) (c : ℕ) where
     module _ (n i : ℕ) (b : n ≡ tried tb s t u) (g : first (offers_at tb (thread s u) d c) i ≡ i) (h : n ≤ i) (j : i ≤ n) (l : c < max_channels) where
       -- it offers the asker's own direction, so that no other thread offers what is looked for
       pub competing_ends : (o : Bool) → (o ≡ true → offers tb (thread s u) (opposite d) c ≡ true) → o ≡ true
-          → Apart tb s.threads → (top : ℕ) → UsedBelow s top → u < top → Nobody ≡ partner_of tb s t d c
+          → Apart tb s.threads → (top : ℕ) → UsedBelow s top → u < top → None ≡ partner_of tb s t d c
       unfolding answers Apart
       competing_ends o k e apart top used m =
           let low : u < max_threads = omega (arith, top_le s top used) in
@@ -138,16 +135,6 @@ module _ (tb : Table) (s : State) (t : ℕ) (d : Direction) (c : ℕ) where
           (λ y. y)))
 
 -- ---- the next thread that waits
-
--- the word of thread u was read, and none from m upward and below u waits
-module _ (s : State) (m u w : ℕ) (e : first_from u m (is_waiting_thread s) ≡ u) (f : w ≡ at s.threads u 0) (l : m ≤ u) where
-  pub waiting_hit : (n : ℕ) → w ≡ 2 → u < n → u ≡ first_from n m (is_waiting_thread s)
-  unfolding is_waiting_thread
-  waiting_hit n g h = from_hit (is_waiting_thread s) m u e true (rw (← f, g)) l n refl h
-
-  pub waiting_more : (w ≡ 2 → ⊥) → first_from (u + 1) m (is_waiting_thread s) ≡ u + 1
-  unfolding is_waiting_thread
-  waiting_more g = from_more (is_waiting_thread s) m u e false (rw (← f, ne_eqb w 2 g)) l refl
 
 -- it waits
 pub waits_here : (s : State) (n m r : ℕ) → r ≡ first_from n m (is_waiting_thread s) → r < n → is_waiting (thread s r) ≡ true

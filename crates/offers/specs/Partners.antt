@@ -1,5 +1,6 @@
 -- What an offer and a partner that is found say of the state, and which partner is found. Assumes nothing.
-use Rattle.std.specs.Prelude.{ℕ, ◌<◌, ◌≡◌, true, not, ◌&&◌, List, ◌≢◌, ltb, eqb}
+use Rattle.rules.specs.Answers.{Partner}
+use Rattle.std.specs.Prelude.{ℕ, ◌<◌, ◌≡◌, true, not, ◌&&◌, List, ◌≢◌, ltb, eqb, None, Some}
 use Rattle.std.proofs.Math.Path.{refl, sym}
 use Rattle.std.proofs.Common.{◌∙◌}
 use borrow.Author.Tests.{lt-ltb, ltb-true, eq-eqb}
@@ -11,8 +12,6 @@ use Rattle.table.specs.Layout.{branch_count}
 use Rattle.state.specs.State.{State, max_threads, max_channels, thread, stands_at, is_waiting}
 use Rattle.rules.specs.Offers.{offers_at, offering_branch, offers, answers, answering, partner_of}
 use Rattle.rules.specs.declared.Direction.{Direction}
-use Rattle.rules.specs.declared.Partner.{Partner}
-use Rattle.rules.specs.declared.Partner.TheVariants.{Nobody, At}
 
 -- a thread that offers waits, on a channel, and its offering branch is one of its branches and offers
 pub offers_says : (tb : Table) (row : List ℕ) (d : Direction) (c : ℕ) → offers tb row d c ≡ true
@@ -40,8 +39,8 @@ module _ (tb : Table) (s : State) (t : ℕ) (d : Direction) (c : ℕ) where
 
   -- what is said of an answer to the search
   unfoldable Answered : Partner → Type 0
-  Answered Nobody = Unit {0}
-  Answered (At u j) = OffersBy u j
+  Answered None = Unit {0}
+  Answered (Some (u, j)) = OffersBy u j
 
   answering_in : answering tb s t d c < max_threads → OffersBy (answering tb s t d c) (offering_branch tb (thread s (answering tb s t d c)) d c)
   unfolding answering answers
@@ -58,22 +57,22 @@ module _ (tb : Table) (s : State) (t : ℕ) (d : Direction) (c : ℕ) where
   partner_answered =
       case_b (ltb (answering tb s t d c) max_threads) (λ a. rw a (answering_in (ltb-true (answering tb s t d c) max_threads a))) (λ a. rw a tt)
 
-  pub partner_in : (u j : ℕ) → partner_of tb s t d c ≡ At u j → OffersBy u j
+  pub partner_in : (u j : ℕ) → partner_of tb s t d c ≡ Some (u, j) → OffersBy u j
   unfolding Answered
-  partner_in u j e = let h : Answered (At u j) = rw e at partner_answered in h
+  partner_in u j e = let h : Answered (Some (u, j)) = rw e at partner_answered in h
 
   -- its bound, as it is needed where p was answered and matched
-  pub partner_below : (p : Partner) (u j : ℕ) → p ≡ partner_of tb s t d c → p ≡ At u j → u < max_threads
+  pub partner_below : (p : Partner) (u j : ℕ) → p ≡ partner_of tb s t d c → p ≡ Some (u, j) → u < max_threads
   partner_below p u j e f = let (l, o, a, b, g) = partner_in u j (sym e ∙ f) in l
 
   -- none of the threads answers
-  pub none_answers : first (answers tb s t d c) max_threads ≡ max_threads → Nobody ≡ partner_of tb s t d c
+  pub none_answers : first (answers tb s t d c) max_threads ≡ max_threads → None ≡ partner_of tb s t d c
   unfolding partner_of answering
   none_answers e = rw e
 
   -- thread u answers, and none before it
   pub one_answers : (u : ℕ) → first (answers tb s t d c) u ≡ u → answers tb s t d c u ≡ true → u < max_threads
-      → At u (offering_branch tb (thread s u) d c) ≡ partner_of tb s t d c
+      → Some (u, offering_branch tb (thread s u) d c) ≡ partner_of tb s t d c
   unfolding partner_of answering
   one_answers u past a l =
       let q : first (answers tb s t d c) max_threads ≡ u = sym (first_hit (answers tb s t d c) u max_threads (answers tb s t d c u) past refl a l) in

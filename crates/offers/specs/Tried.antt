@@ -1,6 +1,6 @@
 -- The search for a partner as its loops make it: how many branches of a thread are tried, and from which row on. `answers_tried` and `row_tried`
 -- carry these back to the rules' own definitions. Assumes nothing.
-use Rattle.std.specs.Prelude.{ℕ, ◌+◌, ◌<◌, ◌≤◌, ◌≡◌, refl, Bool, true, cond, ltb}
+use Rattle.std.specs.Prelude.{ℕ, ◌+◌, ◌<◌, ◌≤◌, ◌≡◌, refl, Bool, true, cond, ltb, None, Some}
 use native.Mathlib.Omega.{arith}
 use Rattle.std.proofs.Common.{sym, ◌∙◌}
 use Rattle.std.proofs.Math.Bool.{false}
@@ -16,7 +16,6 @@ use Rattle.state.specs.State.{State, max_threads, max_channels, thread, stands_a
 use Rattle.rules.specs.Program.{branch_at}
 use Rattle.rules.specs.Offers.{offers_at, offering_branch, offers, answers, partner_of}
 use Rattle.rules.specs.declared.Direction.{Direction}
-use Rattle.rules.specs.declared.Partner.TheVariants.{Nobody, At}
 use Rattle.offers.specs.Partners.{none_answers, one_answers}
 
 -- the threads whose branches are tried
@@ -83,7 +82,7 @@ module _ (tb : Table) (s : State) (t u : ℕ) where
 
 module _ (tb : Table) (s : State) (t : ℕ) (d : Direction) (c : ℕ) where
   -- what is no channel has no partner
-  pub no_channel : max_channels ≤ c → Nobody ≡ partner_of tb s t d c
+  pub no_channel : max_channels ≤ c → None ≡ partner_of tb s t d c
   unfolding answers offers
   no_channel h =
       none_answers tb s t d c (first_void (answers tb s t d c) max_threads (λ u l. rw (le-ltb c 128 h) (case_b (eqb u t) (λ e. rw e) (λ e. rw e))))
@@ -113,5 +112,5 @@ module _ (tb : Table) (s : State) (t : ℕ) (d : Direction) (c : ℕ) where
           let w : n ≡ branch_count tb (stands_at (thread s u)) = b ∙ tried_all tb s t u i (rw (← b) h) in
           rw (← w) (sym (first_hit (offers_at tb (thread s u) d c) i n x g o y h))
 
-      pub found_at : first (answers tb s t d c) u ≡ u → u < max_threads → At u i ≡ partner_of tb s t d c
+      pub found_at : first (answers tb s t d c) u ≡ u → u < max_threads → Some (u, i) ≡ partner_of tb s t d c
       found_at past m = rw (← branch_is) (one_answers tb s t d c u past answered m)

@@ -1,4 +1,9 @@
 -- What the exported calls answer and leave, from what the functions below them ensure. Assumes nothing.
+use Rattle.loader.specs.declared.LoadRefusal.TheVariants as LoadRefusal
+use Rattle.std.specs.Prelude.{Err, Ok}
+use Rattle.rules.specs.Answers.{Given}
+use Rattle.writer.specs.Answers.{Written}
+use Rattle.loader.specs.Answers.{Loaded, Verdict}
 use Prim.Native.Nat.{ℕ, ◌≤◌}
 use native.Mathlib.Omega.{arith}
 use mathlib.Core.Path.{◌≡◌, refl, ◌∙◌, ap}
@@ -13,18 +18,12 @@ use mir.Facts.{to_z_pos, to_z-of_z}
 use Rattle.file.specs.EmptyFile.{procedure_text}
 use Rattle.loader.specs.Verdict.{verdict}
 use Rattle.loader.specs.Load.{Outcome, outcome, loaded, after_verdict, refusal_number, line_number, table_length, table_bytes}
-use Rattle.loader.specs.declared.Verdict.{Verdict}
-use Rattle.loader.specs.declared.Verdict.TheVariants.{Sound, Fault}
-use Rattle.loader.specs.declared.Loaded.{Loaded}
-use Rattle.loader.specs.declared.Loaded.TheVariants.{Done, WrongLength}
 use Rattle.loader_laws.specs.Lowest.{fault_line}
 use Rattle.writer.specs.Write as Write
 use Rattle.writer.specs.Write.{write_call, bytes_number}
 use Rattle.writer.specs.Write.Laws.{bytes_few}
-use Rattle.writer.specs.declared.Written.{Written}
 use Rattle.rules.specs.Calls as Calls
 use Rattle.rules.specs.Seats.{seated_give}
-use Rattle.rules.specs.declared.Given.{Given}
 use Rattle.interface.specs.Interface.{loaded_to, numbered, load_result, written_to, written_numbers, write_result, result, in_numbers, give_numbers, give_result}
 use Rattle.interface.specs.declared.GiveAnswer.{GiveAnswer}
 
@@ -32,10 +31,10 @@ use Rattle.interface.specs.declared.GiveAnswer.{GiveAnswer}
 
 line_few : (file t : List ℕ) (v : Verdict) → verdict file ≡ v → line_number (after_verdict v file t).answer ≤ 865
 unfolding after_verdict line_number
-line_few file t (Fault g l) e = fault_line file g l e
-line_few file t Sound e = go (eqb (length t) table_length)
+line_few file t (Err (g, l)) e = fault_line file g l e
+line_few file t (Ok tt) e = go (eqb (length t) table_length)
   where
-    go : (b : Bool) → line_number (cond b (outcome Done (table_bytes (Rattle.file.specs.File.file_table file))) (outcome WrongLength t)).answer ≤ 865
+    go : (b : Bool) → line_number (cond b (outcome (Ok tt) (table_bytes (Rattle.file.specs.File.file_table file))) (outcome (Err LoadRefusal.WrongLength) t)).answer ≤ 865
     go true = omega arith
     go false = omega arith
 

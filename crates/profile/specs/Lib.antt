@@ -1,3 +1,4 @@
+pub mod Answers
 pub mod Profile
 pub mod Equations
 pub mod Rising

@@ -1,6 +1,8 @@
 -- The rental-shop profile (document 02, S-3): which calls it allows, how many threads a procedure can come to have, and what the check of a table answers.
 -- Nodes are counted over the whole file, branches within their choice.
-use Rattle.std.specs.Prelude.{ℕ, zero, suc, ◌+◌, max, Bool, not, ◌&&◌, ◌||◌, cond, List, ltb, leb, eqb, length}
+use Rattle.profile.specs.declared.ProfileRefusal.TheVariants as ProfileRefusal
+use Rattle.profile.specs.Answers.{Profiled}
+use Rattle.std.specs.Prelude.{ℕ, zero, suc, ◌+◌, max, Bool, not, ◌&&◌, ◌||◌, cond, List, ltb, leb, eqb, length, Err, Ok}
 use Rattle.numbers.specs.Rows.{at}
 use Rattle.numbers.specs.Search.{every, some}
 use Rattle.table.specs.Fields as Field
@@ -10,8 +12,6 @@ use Rattle.table.specs.declared.Part.TheVariants.{Nodes}
 use Rattle.loader.specs.Load.{accepted}
 use Rattle.state.specs.State.{max_threads}
 use Rattle.rules.specs.Program.{kind_of, callee, branch_at, next_of, child_of}
-use Rattle.profile.specs.declared.Profiled.{Profiled}
-use Rattle.profile.specs.declared.Profiled.TheVariants.{Passes, WrongLength, WrongTable, ForbiddenCall, ManyThreads}
 
 -- the largest of the numbers f 0 to f (n - 1); 0 where there are none
 unfoldable pub largest : (ℕ → ℕ) → ℕ → ℕ
@@ -82,28 +82,28 @@ module _ (tb : Table) where
 
 -- ---- the check: grounds 8, 9, 16 and 17 in this order; of a table that passes, the thread bound of definition 0
 unfoldable pub within_rows : ℕ → Profiled
-within_rows threads = cond (leb threads max_threads) (Passes threads) ManyThreads
+within_rows threads = cond (leb threads max_threads) (Ok threads) (Err ProfileRefusal.ManyThreads)
 
 unfoldable pub profile_of : Table → Profiled
-profile_of tb = cond (calls_allowed tb) (within_rows (definition_bound tb 0)) ForbiddenCall
+profile_of tb = cond (calls_allowed tb) (within_rows (definition_bound tb 0)) (Err ProfileRefusal.ForbiddenCall)
 
 unfoldable pub profile_call : List ℕ → Profiled
 profile_call table =
     cond (eqb (length table) table_length)
-    (cond (accepted table) (profile_of (table_of table)) WrongTable)
-    WrongLength
+    (cond (accepted table) (profile_of (table_of table)) (Err ProfileRefusal.WrongTable))
+    (Err ProfileRefusal.WrongLength)
 
 -- the numbers of document 02 for each answer: the refusal, 0 where there is none, and the threads, 0 where the call is refused
 unfoldable pub refusal_number : Profiled → ℕ
-refusal_number (Passes n) = 0
-refusal_number WrongLength = 8
-refusal_number WrongTable = 9
-refusal_number ForbiddenCall = 16
-refusal_number ManyThreads = 17
+refusal_number (Ok n) = 0
+refusal_number (Err ProfileRefusal.WrongLength) = 8
+refusal_number (Err ProfileRefusal.WrongTable) = 9
+refusal_number (Err ProfileRefusal.ForbiddenCall) = 16
+refusal_number (Err ProfileRefusal.ManyThreads) = 17
 
 unfoldable pub threads_number : Profiled → ℕ
-threads_number (Passes n) = n
-threads_number WrongLength = 0
-threads_number WrongTable = 0
-threads_number ForbiddenCall = 0
-threads_number ManyThreads = 0
+threads_number (Ok n) = n
+threads_number (Err ProfileRefusal.WrongLength) = 0
+threads_number (Err ProfileRefusal.WrongTable) = 0
+threads_number (Err ProfileRefusal.ForbiddenCall) = 0
+threads_number (Err ProfileRefusal.ManyThreads) = 0

@@ -1,7 +1,9 @@
 -- The calls on a sound state: none makes it heavier, and none lacks a thread row while it weighs no more than there are rows. Assumes nothing.
+use Rattle.std.specs.declared.ops.ControlFlow.TheVariants.{Break, Continue}
+use Rattle.rules.specs.Answers.{Partner, Stepped, Turn}
 use Prim.Native.Nat.{ℕ, zero, suc, ◌≤◌, ◌<◌}
 use native.Mathlib.Omega.{arith}
-use Rattle.std.specs.Prelude.{◌≡◌, true, ◌≢◌, ltb}
+use Rattle.std.specs.Prelude.{◌≡◌, true, ◌≢◌, ltb, Err, None, Ok, Some}
 use Rattle.std.proofs.Math.Path.{refl}
 use Rattle.std.proofs.Common.{sym, ap, ◌∙◌}
 use borrow.Author.Tests.{ltb-true}
@@ -14,16 +16,10 @@ use Rattle.rules.specs.Moves.{move}
 use Rattle.rules.specs.Calls.{can_step, step_on, bench, given_to, give_on, taken_from, take_on, next_ready, past_turn, step_answer, reason_for, turn_for, turn_by, Course, one_more, onward, turn_end, take_turn, course_of, run_on}
 use Rattle.rules.specs.Calls.Laws.{step_unchanged}
 use Rattle.rules.specs.declared.Direction.TheVariants.{Out, In}
-use Rattle.rules.specs.declared.Partner.{Partner}
-use Rattle.rules.specs.declared.Partner.TheVariants.{Nobody, At}
 use Rattle.rules.specs.declared.Move.{Move}
 use Rattle.rules.specs.declared.Move.TheVariants.{Ends, Calls, Waits, Goes, Creates, Spawns, Meets, LacksThread, LacksChannel}
-use Rattle.rules.specs.declared.Stepped.{Stepped}
-use Rattle.rules.specs.declared.Stepped.TheVariants as Stepped
+use Rattle.rules.specs.declared.Reason.{Reason}
 use Rattle.rules.specs.declared.Reason.TheVariants.{LackedThread}
-use Rattle.rules.specs.declared.Ran.TheVariants as Ran
-use Rattle.rules.specs.declared.Turn.{Turn}
-use Rattle.rules.specs.declared.Turn.TheVariants.{Went, Stopped}
 use Rattle.rules_laws.specs.Soundness.{Sound}
 use Rattle.rules_laws.specs.Chosen.{partner_answers}
 use Rattle.rules_laws.specs.Lasting.{take_turn_kept}
@@ -39,18 +35,18 @@ module _ (tb : Table) (a : Allowed tb) (s : State) (ok : Sound tb s) where
 
   step_by : (t : ℕ) (x : Stepped) → (step_on tb s t).answer ≡ x → weight tb (step_on tb s t).state ≤ weight tb s
   unfolding can_step
-  step_by t (Stepped.Done n d) e =
+  step_by t (Ok (n, d)) e =
       let (c, f, q) = step_performed tb s t n d e in
       rw q (move_lighter tb a s ok t (ltb-true t max_threads (search parts)) (search parts))
-  step_by t (Stepped.Refused r) e = rw (step_unchanged tb s t r e) (omega arith)
+  step_by t (Err r) e = rw (step_unchanged tb s t r e) (omega arith)
 
   pub step_lighter : (t : ℕ) → weight tb (step_on tb s t).state ≤ weight tb s
   step_lighter t = step_by t (step_on tb s t).answer refl
 
   given_lighter : (p v : ℕ) (m : Partner) → partner_of tb s bench In p ≡ m → weight tb (given_to tb s m v).state ≤ weight tb s
   unfolding given_to
-  given_lighter p v Nobody e = omega arith
-  given_lighter p v (At u j) e = bench_lighter tb a s ok In p u j v (partner_answers tb s bench In p u j e)
+  given_lighter p v None e = omega arith
+  given_lighter p v (Some (u, j)) e = bench_lighter tb a s ok In p u j v (partner_answers tb s bench In p u j e)
 
   pub give_lighter : (p v : ℕ) → weight tb (give_on tb s p v).state ≤ weight tb s
   unfolding give_on
@@ -58,8 +54,8 @@ module _ (tb : Table) (a : Allowed tb) (s : State) (ok : Sound tb s) where
 
   taken_lighter : (p : ℕ) (m : Partner) → partner_of tb s bench Out p ≡ m → weight tb (taken_from tb s m).state ≤ weight tb s
   unfolding taken_from
-  taken_lighter p Nobody e = omega arith
-  taken_lighter p (At u j) e = bench_lighter tb a s ok Out p u j 0 (partner_answers tb s bench Out p u j e)
+  taken_lighter p None e = omega arith
+  taken_lighter p (Some (u, j)) e = bench_lighter tb a s ok Out p u j 0 (partner_answers tb s bench Out p u j e)
 
   pub take_lighter : (p : ℕ) → weight tb (take_on tb s p).state ≤ weight tb s
   unfolding take_on
@@ -68,7 +64,7 @@ module _ (tb : Table) (a : Allowed tb) (s : State) (ok : Sound tb s) where
 -- ---- a run
 
 -- a turn that ends a run for want of a thread row is one whose move lacks it
-lacked_turn : (t u : ℕ) (m : Move) → turn_by t m ≡ Stopped (LackedThread u) → m ≡ LacksThread
+lacked_turn : (t u : ℕ) (m : Move) → turn_by t m ≡ Break (LackedThread u) → m ≡ LacksThread
 unfolding turn_by turn_for step_answer reason_for
 lacked_turn t u Ends e = clash cc
 lacked_turn t u Calls e = clash cc
@@ -84,13 +80,13 @@ module _ (tb : Table) (a : Allowed tb) where
   module _ (s : State) (ok : Sound tb s) where
     end_told : (t : ℕ) (w : Turn) → (turn_end tb s t w).turn ≡ w
     unfolding turn_end
-    end_told t Went = refl
-    end_told t (Stopped r) = refl
+    end_told t (Continue tt) = refl
+    end_told t (Break r) = refl
 
     end_lighter : (t : ℕ) → t < max_threads → is_ready (thread s t) ≡ true → (w : Turn) → weight tb (turn_end tb s t w).state ≤ weight tb s
     unfolding turn_end past_turn with_mark weight
-    end_lighter t l rd Went = move_lighter tb a s ok t l rd
-    end_lighter t l rd (Stopped r) = omega arith
+    end_lighter t l rd (Continue tt) = move_lighter tb a s ok t l rd
+    end_lighter t l rd (Break r) = omega arith
 
     turn_lighter : weight tb (take_turn tb s).state ≤ weight tb s
     unfolding take_turn
@@ -98,7 +94,7 @@ module _ (tb : Table) (a : Allowed tb) where
         (λ y. let l = ltb-true (next_ready s) max_threads y in rw y (end_lighter (next_ready s) l (next_ready_in s l) (turn_by (next_ready s) (move tb s (next_ready s)))))
         (λ y. rw y (omega arith))
 
-    turn_finds : weight tb s ≤ max_threads → (u : ℕ) → (take_turn tb s).turn ≢ Stopped (LackedThread u)
+    turn_finds : weight tb s ≤ max_threads → (u : ℕ) → (take_turn tb s).turn ≢ Break (LackedThread u)
     unfolding take_turn
     turn_finds w u =
         let t = next_ready s in
@@ -111,11 +107,11 @@ module _ (tb : Table) (a : Allowed tb) where
   abbrev Lasts : State → Course → Type 0
   Lasts s k = (weight tb k.state ≤ weight tb s) × (weight tb s ≤ max_threads → (t : ℕ) → k.reason ≢ LackedThread t)
 
-  onward_lasts : (s s' : State) (w : Turn) (f : State → Course) → weight tb s' ≤ weight tb s → (weight tb s ≤ max_threads → (t : ℕ) → w ≢ Stopped (LackedThread t))
+  onward_lasts : (s s' : State) (w : Turn) (f : State → Course) → weight tb s' ≤ weight tb s → (weight tb s ≤ max_threads → (t : ℕ) → w ≢ Break (LackedThread t))
       → Lasts s' (f s') → Lasts s (onward w s' f)
   unfolding onward one_more
-  onward_lasts s s' Went f h n (light, found) = (omega arith, λ b. found (omega arith))
-  onward_lasts s s' (Stopped r) f h n rest = (h, λ b t e. n b t (ap Stopped e))
+  onward_lasts s s' (Continue tt) f h n (light, found) = (omega arith, λ b. found (omega arith))
+  onward_lasts s s' (Break r) f h n rest = (h, λ b t e. n b t (ap Break e))
 
   course_lasts : (n : ℕ) (s : State) → Sound tb s → Lasts s (course_of tb n s)
   unfolding course_of
@@ -129,6 +125,9 @@ module _ (tb : Table) (a : Allowed tb) where
   run_lighter s ok n = (course_lasts n s ok).0
 
   -- a run does not end for want of a thread row
-  pub run_finds : (s : State) → Sound tb s → weight tb s ≤ max_threads → (n j t : ℕ) → (run_on tb s n).answer ≢ Ran.Done j (LackedThread t)
+  pub run_finds : (s : State) → Sound tb s → weight tb s ≤ max_threads → (n j t : ℕ) → (run_on tb s n).answer ≢ Ok (j, LackedThread t)
   unfolding run_on
-  run_finds s ok w n j t e = (course_lasts n s ok).1 w t cc
+  run_finds s ok w n j t e =
+      let c : Course = course_of tb n s in
+      let q : ◌≡◌ {A = ℕ × Reason} (c.steps, c.reason) (j, LackedThread t) = cc in
+      (course_lasts n s ok).1 w t (ap (λ (x : ℕ × Reason). x.1) q)

@@ -1,12 +1,11 @@
 -- The pledge of the rental-shop profile (document 02, S-3), on every list of calls from the start of a file that loads and passes. This file says it and
 -- `Proof.antt` shows it: what a reader must believe is here, and in the definitions that are named here.
-use Rattle.std.specs.Prelude.{ℕ, ◌≤◌, ◌≡◌, List, [], ◌∷◌}
+use Rattle.std.specs.Prelude.{ℕ, ◌≤◌, ◌≡◌, List, [], ◌∷◌, Ok}
 use Rattle.numbers.specs.Count.{count}
 use Rattle.state.specs.State.{State, view, in_use}
 use Rattle.rules.specs.Calls.{start_call, run_call}
 use Rattle.rules.specs.declared.Refusal.TheVariants as Ground
 use Rattle.rules.specs.declared.Reason.TheVariants.{LackedThread}
-use Rattle.rules.specs.declared.Ran.TheVariants as Ran
 use Rattle.engine_laws.specs.Lists.{step, give, take, run}
 use Rattle.guarantee.specs.Claim.{Any, on, collect, after_any, reached_by, RefusedBy}
 
@@ -19,7 +18,7 @@ unfoldable pub EndsLacking : List ℕ → List ℕ → Any → Type 0
 EndsLacking table state (on (step t)) = ⊥
 EndsLacking table state (on (give p v h)) = ⊥
 EndsLacking table state (on (take p)) = ⊥
-EndsLacking table state (on (run n)) = (j : ℕ) × (t : ℕ) × ((run_call table state n).answer ≡ Ran.Done j (LackedThread t))
+EndsLacking table state (on (run n)) = (j : ℕ) × (t : ℕ) × ((run_call table state n).answer ≡ Ok (j, LackedThread t))
 EndsLacking table state collect = ⊥
 
 -- no call of a list, on the bytes that the calls before it leave, lacks a thread row: none is refused on ground 13, and no run ends for that reason

@@ -1,6 +1,8 @@
 -- When the check of a table gives each of its answers, in document 02's words. Of buffers of bytes, whatever their length. Ground 9 is said as the writer's law
 -- says it, by the files that load to the table. Nodes are counted over the whole file. Assumes nothing.
-use Rattle.std.specs.Prelude.{ℕ, ◌≤◌, ◌<◌, ◌≡◌, true, false, List, ◌⊎◌, ◌≢◌, ◌↔◌, ltb, leb, eqb, length}
+use Rattle.profile.specs.declared.ProfileRefusal.TheVariants as ProfileRefusal
+use Rattle.profile.specs.Answers.{Profiled}
+use Rattle.std.specs.Prelude.{ℕ, ◌≤◌, ◌<◌, ◌≡◌, true, false, List, ◌⊎◌, ◌≢◌, ◌↔◌, ltb, leb, eqb, length, Err, Ok}
 use Rattle.std.proofs.Common.{arith, ⊎_elim}
 use Rattle.std.proofs.Math.Path.{refl}
 use Rattle.std.proofs.Math.Logic.{inl, inr}
@@ -18,8 +20,6 @@ use Rattle.state.specs.State.{max_threads}
 use Rattle.rules.specs.Program.{kind_of, callee, branch_at}
 use Rattle.profile.specs.Profile.{is_spawn, node_spawns, spawns_in, has_spawn, call_allowed, node_allowed, calls_allowed, definition_bound, within_rows, profile_of, profile_call}
 use Rattle.profile.specs.Rising.{allowed_cases}
-use Rattle.profile.specs.declared.Profiled.{Profiled}
-use Rattle.profile.specs.declared.Profiled.TheVariants.{Passes, WrongLength, WrongTable, ForbiddenCall, ManyThreads}
 use Rattle.profile_laws.specs.Bounds.{allowed, definition_some}
 
 -- ---- calls
@@ -101,11 +101,11 @@ IsTable table = (file : List ℕ) × FileOf table file
 
 -- when each answer is due. A table to which a file loads has the right length
 unfoldable pub Due : List ℕ → Profiled → Type 0
-Due table WrongLength = length table ≢ table_length
-Due table WrongTable = (length table ≡ table_length) × ((file : List ℕ) → ¬ FileOf table file)
-Due table ForbiddenCall = IsTable table × Forbidden (table_of table)
-Due table ManyThreads = IsTable table × Permitted (table_of table) × (max_threads < definition_bound (table_of table) 0)
-Due table (Passes n) = IsTable table × Permitted (table_of table) × (n ≡ definition_bound (table_of table) 0) × (n ≤ max_threads)
+Due table (Err ProfileRefusal.WrongLength) = length table ≢ table_length
+Due table (Err ProfileRefusal.WrongTable) = (length table ≡ table_length) × ((file : List ℕ) → ¬ FileOf table file)
+Due table (Err ProfileRefusal.ForbiddenCall) = IsTable table × Forbidden (table_of table)
+Due table (Err ProfileRefusal.ManyThreads) = IsTable table × Permitted (table_of table) × (max_threads < definition_bound (table_of table) 0)
+Due table (Ok n) = IsTable table × Permitted (table_of table) × (n ≡ definition_bound (table_of table) 0) × (n ≤ max_threads)
 
 -- of a table that is bytes, as a slice is
 module _ (table : List ℕ) (fit : Characters table) where
@@ -134,41 +134,41 @@ module _ (table : List ℕ) (fit : Characters table) where
 
   due_answer_lem : (x : Profiled) → Due table x → profile_call table ≡ x
   unfolding Due profile_call profile_of within_rows
-  due_answer_lem WrongLength n = rw (ne_eqb (length table) table_length n)
-  due_answer_lem WrongTable (e, none) = rw (eq-eqb (length table) table_length e, (refused_of table fit).1 none)
-  due_answer_lem ForbiddenCall (f, k) = let y = table_accepted f in rw (long y, y, (forbidden_iff tb).1 k)
-  due_answer_lem ManyThreads (f, p, b) = let y = table_accepted f in rw (long y, y, (allowed_iff tb).1 p, lt-leb (definition_bound tb 0) max_threads b)
-  due_answer_lem (Passes n) (f, p, e, b) = let y = table_accepted f in rw (long y, y, (allowed_iff tb).1 p, ← e, le-leb n max_threads b)
+  due_answer_lem (Err ProfileRefusal.WrongLength) n = rw (ne_eqb (length table) table_length n)
+  due_answer_lem (Err ProfileRefusal.WrongTable) (e, none) = rw (eq-eqb (length table) table_length e, (refused_of table fit).1 none)
+  due_answer_lem (Err ProfileRefusal.ForbiddenCall) (f, k) = let y = table_accepted f in rw (long y, y, (forbidden_iff tb).1 k)
+  due_answer_lem (Err ProfileRefusal.ManyThreads) (f, p, b) = let y = table_accepted f in rw (long y, y, (allowed_iff tb).1 p, lt-leb (definition_bound tb 0) max_threads b)
+  due_answer_lem (Ok n) (f, p, e, b) = let y = table_accepted f in rw (long y, y, (allowed_iff tb).1 p, ← e, le-leb n max_threads b)
 
   -- each answer is given exactly when it is due; and the same, ground by ground
   pub answer_iff : (x : Profiled) → (profile_call table ≡ x) ↔ Due table x
   answer_iff x = (λ e. rw e at answer_due, due_answer_lem x)
 
-  pub length_iff : (profile_call table ≡ WrongLength) ↔ (length table ≢ table_length)
+  pub length_iff : (profile_call table ≡ Err ProfileRefusal.WrongLength) ↔ (length table ≢ table_length)
   unfolding Due
-  length_iff = answer_iff WrongLength
+  length_iff = answer_iff (Err ProfileRefusal.WrongLength)
 
   -- 9: it has a table's length, and no file loads to it
-  pub table_iff : (profile_call table ≡ WrongTable) ↔ ((length table ≡ table_length) × ((file : List ℕ) → ¬ FileOf table file))
+  pub table_iff : (profile_call table ≡ Err ProfileRefusal.WrongTable) ↔ ((length table ≡ table_length) × ((file : List ℕ) → ¬ FileOf table file))
   unfolding Due
-  table_iff = answer_iff WrongTable
+  table_iff = answer_iff (Err ProfileRefusal.WrongTable)
 
-  pub call_iff : (profile_call table ≡ ForbiddenCall) ↔ (IsTable table × Forbidden (table_of table))
+  pub call_iff : (profile_call table ≡ Err ProfileRefusal.ForbiddenCall) ↔ (IsTable table × Forbidden (table_of table))
   unfolding Due
-  call_iff = answer_iff ForbiddenCall
+  call_iff = answer_iff (Err ProfileRefusal.ForbiddenCall)
 
-  pub threads_iff : (profile_call table ≡ ManyThreads)
+  pub threads_iff : (profile_call table ≡ Err ProfileRefusal.ManyThreads)
       ↔ (IsTable table × Permitted (table_of table) × (max_threads < definition_bound (table_of table) 0))
   unfolding Due
-  threads_iff = answer_iff ManyThreads
+  threads_iff = answer_iff (Err ProfileRefusal.ManyThreads)
 
-  pub passes_iff : (n : ℕ) → (profile_call table ≡ Passes n)
+  pub passes_iff : (n : ℕ) → (profile_call table ≡ Ok n)
       ↔ (IsTable table × Permitted (table_of table) × (n ≡ definition_bound (table_of table) 0) × (n ≤ max_threads))
   unfolding Due
-  passes_iff n = answer_iff (Passes n)
+  passes_iff n = answer_iff (Ok n)
 
   -- the number that a table passes with is that of one thread at least, and of no more threads than there are rows
-  pub passes_some : (n : ℕ) → profile_call table ≡ Passes n → (1 ≤ n) × (n ≤ max_threads)
+  pub passes_some : (n : ℕ) → profile_call table ≡ Ok n → (1 ≤ n) × (n ≤ max_threads)
   passes_some n e =
       let (f, p, q, b) = (passes_iff n).0 e in
       let a = allowed table (table_accepted f) fit ((allowed_iff tb).1 p) in

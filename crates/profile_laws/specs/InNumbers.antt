@@ -1,6 +1,9 @@
 -- What C sees of the check of a table, and the pledge in the numbers that C passes and gets (document 02, S-3). The theorems on the definitions are in `Grounds.antt`
 -- and `SeatedPledge.antt`; this file says them in C's numbers, and shows them. Assumes nothing.
-use Rattle.std.specs.Prelude.{ℕ, ◌≤◌, ◌<◌, ◌≡◌, cond, List, [], ◌∷◌, ◌≢◌, ◌↔◌, eqb, length, get_or}
+use Rattle.profile.specs.declared.ProfileRefusal.TheVariants as ProfileRefusal
+use Rattle.profile.specs.Answers.{Profiled}
+use Rattle.rules.specs.Answers.{Ran}
+use Rattle.std.specs.Prelude.{ℕ, ◌≤◌, ◌<◌, ◌≡◌, cond, List, [], ◌∷◌, ◌≢◌, ◌↔◌, eqb, length, get_or, Err, Ok}
 use Rattle.std.proofs.Common.{arith, ◌∙◌}
 use Rattle.std.proofs.Math.Path.{refl, sym, ap}
 use Rattle.std.proofs.Math.IntN.{pos}
@@ -12,8 +15,6 @@ use Rattle.loader_laws.specs.Yields.{loaded_small}
 use Rattle.state.specs.State.{max_threads, view}
 use Rattle.rules.specs.Seats.{seated_run}
 use Rattle.rules.specs.declared.Refusal.TheVariants as Ground
-use Rattle.rules.specs.declared.Ran.{Ran}
-use Rattle.rules.specs.declared.Ran.TheVariants as Ran
 use Rattle.rules.specs.declared.Reason.TheVariants.{LackedThread}
 use Rattle.engine.specs.Numbers as Numbers
 use Rattle.engine_laws.specs.Lists.{step, give, take, run}
@@ -26,8 +27,6 @@ use Rattle.guarantee.specs.ReasonsInLists.{two_is}
 use Rattle.guarantee.specs.InNumbers.{left_from}
 use Rattle.guarantee.specs.InNumbers.Proof.{from_so, started_iff}
 use Rattle.profile.specs.Profile.{definition_bound, profile_call, refusal_number, threads_number}
-use Rattle.profile.specs.declared.Profiled.{Profiled}
-use Rattle.profile.specs.declared.Profiled.TheVariants.{Passes, WrongLength, WrongTable, ForbiddenCall, ManyThreads}
 use Rattle.profile_laws.specs.Claim.{threads_in}
 use Rattle.profile_laws.specs.Grounds.{Permitted, Forbidden, IsTable, length_iff, table_iff, call_iff, threads_iff, passes_iff, passes_some}
 use Rattle.profile_laws.specs.SeatedPledge.{EndsLackingAt, NeverLacksAt, seated_accepted_pledge}
@@ -72,26 +71,26 @@ pub record PledgeInNumbers (table state : List ℕ) (ks : List (AtSeat Any)) : T
 -- the answer with a refusal and a number of threads
 unfoldable answer_with : ℕ → ℕ → Profiled
 answer_with r n =
-    cond (eqb r 0) (Passes n)
-    (cond (eqb r 8) WrongLength
-    (cond (eqb r 9) WrongTable
-    (cond (eqb r 16) ForbiddenCall ManyThreads)))
+    cond (eqb r 0) (Ok n)
+    (cond (eqb r 8) (Err ProfileRefusal.WrongLength)
+    (cond (eqb r 9) (Err ProfileRefusal.WrongTable)
+    (cond (eqb r 16) (Err ProfileRefusal.ForbiddenCall) (Err ProfileRefusal.ManyThreads))))
 
 its_own : (a : Profiled) → a ≡ answer_with (refusal_number a) (threads_number a)
 unfolding answer_with refusal_number threads_number
-its_own (Passes n) = refl
-its_own WrongLength = refl
-its_own WrongTable = refl
-its_own ForbiddenCall = refl
-its_own ManyThreads = refl
+its_own (Ok n) = refl
+its_own (Err ProfileRefusal.WrongLength) = refl
+its_own (Err ProfileRefusal.WrongTable) = refl
+its_own (Err ProfileRefusal.ForbiddenCall) = refl
+its_own (Err ProfileRefusal.ManyThreads) = refl
 
 signed : (a : Profiled) → (profile_numbers a).refusal ≡ pos (refusal_number a)
 unfolding profile_numbers profile_fields refusal_number
-signed (Passes n) = refl
-signed WrongLength = refl
-signed WrongTable = refl
-signed ForbiddenCall = refl
-signed ManyThreads = refl
+signed (Ok n) = refl
+signed (Err ProfileRefusal.WrongLength) = refl
+signed (Err ProfileRefusal.WrongTable) = refl
+signed (Err ProfileRefusal.ForbiddenCall) = refl
+signed (Err ProfileRefusal.ManyThreads) = refl
 
 threads_are : (a : Profiled) → threads_number a ≤ max_threads → (profile_numbers a).threads ≡ pos (threads_number a)
 unfolding profile_numbers profile_fields
@@ -113,9 +112,9 @@ module _ (table : List ℕ) where
   -- ---- the check
 
   module _ (fit : (i : ℕ) → get_or table i 0 < 256) where
-    passes_threads : (n : ℕ) → profile_call table ≡ Passes n → (profile_result table).threads ≡ pos n
+    passes_threads : (n : ℕ) → profile_call table ≡ Ok n → (profile_result table).threads ≡ pos n
     unfolding profile_result threads_number
-    passes_threads n e = rw e (threads_are (Passes n) (passes_some table fit n e).1)
+    passes_threads n e = rw e (threads_are (Ok n) (passes_some table fit n e).1)
 
     -- C sees a file loaded to it exactly when one loads to it
     loaded_so : IsTable table ↔ IsLoaded table
@@ -123,31 +122,31 @@ module _ (table : List ℕ) where
 
     refused_threads : (a : Profiled) → profile_call table ≡ a → refusal_number a ≢ 0 → (profile_result table).threads ≡ pos 0
     unfolding profile_result profile_numbers profile_fields refusal_number threads_number
-    refused_threads (Passes n) e z = absurd (z refl)
-    refused_threads WrongLength e z = rw e
-    refused_threads WrongTable e z = rw e
-    refused_threads ForbiddenCall e z = rw e
-    refused_threads ManyThreads e z = rw e
+    refused_threads (Ok n) e z = absurd (z refl)
+    refused_threads (Err ProfileRefusal.WrongLength) e z = rw e
+    refused_threads (Err ProfileRefusal.WrongTable) e z = rw e
+    refused_threads (Err ProfileRefusal.ForbiddenCall) e z = rw e
+    refused_threads (Err ProfileRefusal.ManyThreads) e z = rw e
 
     pub profile_in_numbers : ProfileInNumbers table
     unfolding answer_with refusal_number
     profile_in_numbers = record {
-      eight = (λ e. (length_iff table fit).0 (seen 8 e), λ d. shown WrongLength ((length_iff table fit).1 d));
+      eight = (λ e. (length_iff table fit).0 (seen 8 e), λ d. shown (Err ProfileRefusal.WrongLength) ((length_iff table fit).1 d));
       nine = (
         λ e. let (l, none) = (table_iff table fit).0 (seen 9 e) in (l, λ file f. none file ((loads_so table file).1 f)),
-        λ (l, none). shown WrongTable ((table_iff table fit).1 (l, λ file f. none file ((loads_so table file).0 f))),
+        λ (l, none). shown (Err ProfileRefusal.WrongTable) ((table_iff table fit).1 (l, λ file f. none file ((loads_so table file).0 f))),
       );
       sixteen = (
         λ e. let (y, k) = (call_iff table fit).0 (seen 16 e) in (loaded_so.0 y, k),
-        λ (y, k). shown ForbiddenCall ((call_iff table fit).1 (loaded_so.1 y, k)),
+        λ (y, k). shown (Err ProfileRefusal.ForbiddenCall) ((call_iff table fit).1 (loaded_so.1 y, k)),
       );
       seventeen = (
         λ e. let (y, f, b) = (threads_iff table fit).0 (seen 17 e) in (loaded_so.0 y, f, b),
-        λ (y, f, b). shown ManyThreads ((threads_iff table fit).1 (loaded_so.1 y, f, b)),
+        λ (y, f, b). shown (Err ProfileRefusal.ManyThreads) ((threads_iff table fit).1 (loaded_so.1 y, f, b)),
       );
       zero = (
         λ e. let (y, f, q, b) = (passes_iff table fit _).0 (seen 0 e) in (loaded_so.0 y, f, omega arith),
-        λ (y, f, b). shown (Passes (definition_bound (table_of table) 0)) ((passes_iff table fit _).1 (loaded_so.1 y, f, refl, b)),
+        λ (y, f, b). shown (Ok (definition_bound (table_of table) 0)) ((passes_iff table fit _).1 (loaded_so.1 y, f, refl, b)),
       );
       refused = λ n. refused_threads (profile_call table) refl (λ z. n (shown (profile_call table) refl ∙ ap pos z));
       threads = λ e. let q = seen 0 e in
@@ -158,10 +157,10 @@ module _ (table : List ℕ) where
 -- ---- the pledge
 
 -- a run that C sees ended for reason 2 ended for want of a thread row
-lacked_so : (x : Ran) → (run_numbers x).reason ≡ pos 2 → (j : ℕ) × (t : ℕ) × (x ≡ Ran.Done j (LackedThread t))
+lacked_so : (x : Ran) → (run_numbers x).reason ≡ pos 2 → (j : ℕ) × (t : ℕ) × (x ≡ Ok (j, LackedThread t))
 unfolding run_numbers run_fields
-lacked_so (Ran.Done j r) e = let (t, q) = two_is r e in (j, t, ap (Ran.Done j) q)
-lacked_so (Ran.Refused g) e = clash cc
+lacked_so (Ok (j, r)) e = let (t, q) = two_is r e in (j, t, ap (λ w. Ok (j, w)) q)
+lacked_so (Err g) e = clash cc
 
 ends_so : (table state rights : List ℕ) (seat : ℕ) (k : Any) → ¬ EndsLackingAt table state rights seat k → NotTwo table state rights seat k
 unfolding EndsLackingAt NotTwo run_result in_numbers
@@ -183,7 +182,7 @@ found_so table state (k ∷ ks) (n, m, rest) = (
 -- of a table that C sees pass, and so is accepted
 module _ (table : List ℕ) (fit : (i : ℕ) → get_or table i 0 < 256) (passes : (profile_result table).refusal ≡ pos 0)
     (state : List ℕ) (begun : (start_result table state).answer.refusal ≡ pos 0) (ks : List (AtSeat Any)) where
-  pledged : (n : ℕ) → profile_call table ≡ Passes n → PledgeInNumbers table state ks
+  pledged : (n : ℕ) → profile_call table ≡ Ok n → PledgeInNumbers table state ks
   pledged n e =
       let ok = (accepted_loads table fit).1 ((profile_in_numbers table fit).zero.0 passes).0 in
       let p = seated_accepted_pledge table fit n e state ((started_iff table ok state).0 begun) ks in

@@ -1,12 +1,11 @@
 -- No move of a thread, meeting with the bench or collection makes a sound state heavier; and what the state weighs with which a file starts. Assumes
 -- nothing.
-use Rattle.std.specs.Prelude.{ℕ, zero, suc, ◌+◌, ◌≤◌, ◌<◌, ◌≡◌, true, List, [], ◌≢◌, length}
+use Rattle.std.specs.Prelude.{ℕ, zero, suc, ◌+◌, ◌≤◌, ◌<◌, ◌≡◌, true, List, [], ◌≢◌, length, Option, ℤ}
 use native.Mathlib.Omega.{arith}
 use Rattle.std.proofs.Math.Path.{refl}
 use Rattle.std.proofs.Common.{◌∙◌, inl, inr}
 use Rattle.std.proofs.lemmas.List.{get_or-replicate}
 use Rattle.numbers.specs.Search.Laws.{case_b, contra, sum_below, sum_but_one}
-use Rattle.numbers.specs.declared.Checked.{Checked}
 use Rattle.table.specs.Table.{Table, nodes}
 use Rattle.table.specs.Layout.{start, branch_count}
 use Rattle.table.specs.declared.Part.TheVariants.{Nodes}
@@ -40,7 +39,7 @@ module _ (row : List ℕ) (n k : ℕ) where
   stored_next : (v : ℕ) → stands_at (stored (resumed row n) k v) ≡ n
   stored_next v = stored_node (resumed row n) k v ∙ resumed_node row n
 
-  gone_node : (v : Checked) (a : Act) → stands_at (gone a row n k v) ≡ n
+  gone_node : (v : Option ℤ) (a : Act) → stands_at (gone a row n k v) ≡ n
   gone_node = gone_rows (λ r. stands_at r ≡ n) row n k (resumed_node row n) stored_next
 
   met_node : (v : ℕ) (d : Direction) → stands_at (met d row n k v) ≡ n

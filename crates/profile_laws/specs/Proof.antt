@@ -1,5 +1,5 @@
 -- The pledge holds, of every file that loads and passes. Assumes nothing.
-use Rattle.std.specs.Prelude.{ℕ, ◌≤◌, ◌<◌, ◌≡◌, refl, true, ◌≢◌, length, get_or}
+use Rattle.std.specs.Prelude.{ℕ, ◌≤◌, ◌<◌, ◌≡◌, refl, true, ◌≢◌, length, get_or, Err, Ok}
 use native.Mathlib.Omega.{arith}
 use mathlib.Core.List.{List, [], ◌∷◌}
 use Rattle.std.proofs.Math.Logic.{⊎_elim}
@@ -8,16 +8,11 @@ use Rattle.numbers.specs.Search.Laws.{contra}
 use Rattle.numbers.specs.Tests.{parts, clash}
 use Rattle.table.specs.Table.{Table, table_of}
 use Rattle.loader.specs.Load.{loaded, accepted}
-use Rattle.loader.specs.declared.Loaded.TheVariants.{Done}
 use Rattle.loader_laws.specs.Yields.{loaded_small}
 use Rattle.state.specs.State.{State, max_threads, state_length, view}
 use Rattle.rules.specs.Calls.{After, on_buffers, start_call, can_step, step_on, step_call, give_on, give_call, take_on, take_call, run_on, run_call}
 use Rattle.rules.specs.declared.Refusal.{Refusal}
 use Rattle.rules.specs.declared.Refusal.TheVariants as Ground
-use Rattle.rules.specs.declared.Stepped.TheVariants as Stepped
-use Rattle.rules.specs.declared.Given.TheVariants as Given
-use Rattle.rules.specs.declared.Taken.TheVariants as Taken
-use Rattle.rules.specs.declared.Ran.TheVariants as Ran
 use Rattle.rules_laws.specs.Soundness.{Sound}
 use Rattle.rules_laws.specs.Lasting.{step_on_kept, give_on_kept, take_on_kept, run_on_kept}
 use Rattle.engine.specs.Numbers.{refusal_number}
@@ -31,7 +26,6 @@ use Rattle.guarantee.specs.Claim.{Any, on, collect, after_any, after_list, reach
 use Rattle.guarantee.specs.ClaimKept.{collect_view, list_sound}
 use Rattle.guarantee.specs.Proof.{reached_sound}
 use Rattle.profile.specs.Profile.{calls_allowed, definition_bound, profile_call}
-use Rattle.profile.specs.declared.Profiled.TheVariants.{Passes}
 use Rattle.profile_laws.specs.Claim.{EndsLacking, NeverLacks, Pledge}
 use Rattle.profile_laws.specs.Bounds.{Allowed, allowed}
 use Rattle.profile_laws.specs.Grounds.{allowed_iff, table_accepted, passes_iff}
@@ -62,15 +56,15 @@ module _ (table : List ℕ) (ok : accepted table ≡ true) (fit : (i : ℕ) → 
 
     any_lighter : (k : Any) → weight tb (view (after_any table state k)) ≤ weight tb s
     unfolding after_any after step_call give_call take_call run_call
-    any_lighter (on (step t)) = on_buffers_lem Stepped.Refused (step_on tb s t) (step_on_kept tb a.grants s held t) (step_lighter tb a s held t)
-    any_lighter (on (give p v h)) = on_buffers_lem Given.Refused (give_on tb s p v) (give_on_kept tb a.grants s held p v h) (give_lighter tb a s held p v)
-    any_lighter (on (take p)) = on_buffers_lem Taken.Refused (take_on tb s p) (take_on_kept tb a.grants s held p) (take_lighter tb a s held p)
-    any_lighter (on (run n)) = on_buffers_lem Ran.Refused (run_on tb s n) (run_on_kept tb a.grants s held n) (run_lighter tb a s held n)
+    any_lighter (on (step t)) = on_buffers_lem Err (step_on tb s t) (step_on_kept tb a.grants s held t) (step_lighter tb a s held t)
+    any_lighter (on (give p v h)) = on_buffers_lem Err (give_on tb s p v) (give_on_kept tb a.grants s held p v h) (give_lighter tb a s held p v)
+    any_lighter (on (take p)) = on_buffers_lem Err (take_on tb s p) (take_on_kept tb a.grants s held p) (take_lighter tb a s held p)
+    any_lighter (on (run n)) = on_buffers_lem Err (run_on tb s n) (run_on_kept tb a.grants s held n) (run_lighter tb a s held n)
     any_lighter collect = rw (collect_view table ok fit state b) (collected_lighter tb s)
 
     -- and none lacks a thread row where it weighs no more than there are rows
     module _ (w : weight tb s ≤ max_threads) where
-      step_finds : (t : ℕ) → (step_call table state t).answer ≢ Stepped.Refused Ground.ThreadRow
+      step_finds : (t : ℕ) → (step_call table state t).answer ≢ Err Ground.ThreadRow
       unfolding can_step
       step_finds t e =
           let (h, can, takes, full) = (step_thread_row_iff table state t).0 e in
@@ -89,7 +83,7 @@ module _ (table : List ℕ) (ok : accepted table ≡ true) (fit : (i : ℕ) → 
       not_ended (on (step t)) e = e
       not_ended (on (give p v h)) e = e
       not_ended (on (take p)) e = e
-      not_ended (on (run n)) (j, t, e) = run_finds tb a s held w n j t (rw (call_made table ok Ran.Refused state b (run_on tb s n)) at e)
+      not_ended (on (run n)) (j, t, e) = run_finds tb a s held w n j t (rw (call_made table ok Err state b (run_on tb s n)) at e)
       not_ended collect e = e
 
   -- ---- lists of calls
@@ -130,13 +124,13 @@ module _ (table : List ℕ) (ok : accepted table ≡ true) (fit : (i : ℕ) → 
     }
 
 -- ---- of a table that passes, and so is accepted
-pub accepted_pledge : (table : List ℕ) → ((i : ℕ) → get_or table i 0 < 256) → (n : ℕ) → profile_call table ≡ Passes n
+pub accepted_pledge : (table : List ℕ) → ((i : ℕ) → get_or table i 0 < 256) → (n : ℕ) → profile_call table ≡ Ok n
     → (state : List ℕ) → length state ≡ state_length → (ks : List Any) → Pledge table state n ks
 accepted_pledge table fit n e =
     let (file, permitted, is, few) = (passes_iff table fit n).0 e in
     pledged table (table_accepted table fit file) fit ((allowed_iff (table_of table)).1 permitted) n is few
 
 -- ---- the theorem: document 02's S-3, of every file that loads and passes with n threads, whatever the two buffers had, and of every list of calls
-pub pledge : (file t : List ℕ) → (loaded file t).answer ≡ Done → (n : ℕ) → profile_call (loaded file t).table ≡ Passes n
+pub pledge : (file t : List ℕ) → (loaded file t).answer ≡ Ok tt → (n : ℕ) → profile_call (loaded file t).table ≡ Ok n
     → (state : List ℕ) → length state ≡ state_length → (ks : List Any) → Pledge (loaded file t).table state n ks
 pledge file t e = accepted_pledge (loaded file t).table (loaded_small file t e)

@@ -1,9 +1,8 @@
 -- What is handed on from the decision on a move to its writes, so that the branch is found once and its number reckoned once.
 pub mod Laws
-use Rattle.std.specs.Prelude.{ℕ, ◌≡◌, List}
+use Rattle.std.specs.Prelude.{ℕ, ◌≡◌, List, Some}
 use Rattle.std.specs.Int.{w32}
 use Rattle.std.proofs.Common.{to_z}
-use Rattle.numbers.specs.declared.Checked.TheVariants.{Exact}
 use Rattle.table.specs.Table.{Table}
 use Rattle.state.specs.State.{State, thread, stands_at}
 use Rattle.rules.specs.Program.{branch_at, next_of, field_a, act_of, assigned}
@@ -16,13 +15,13 @@ use Rattle.rules.specs.declared.Move.TheVariants.{Ends, Calls, Waits, Goes, Crea
 module _ (tb : Table) (r v : ℕ) where
   -- a thread's row that goes on by that branch and, if it assigns, stores v
   unfoldable pub gone_storing : List ℕ → List ℕ
-  gone_storing row = gone (act_of tb r) row (next_of tb (stands_at row) r) (field_a tb r) (Exact (to_z w32 v))
+  gone_storing row = gone (act_of tb r) row (next_of tb (stands_at row) r) (field_a tb r) (Some (to_z w32 v))
 
   module _ (s : State) (t : ℕ) where
     -- it is branch i of thread t and, if it assigns, comes to v
     pub record Assigns (i : ℕ) : Type 0 where
       pub branch : r ≡ branch_at tb (stands_at (thread s t)) i
-      pub number : act_of tb r ≡ Assignment → assigned tb r (thread s t) ≡ Exact (to_z w32 v)
+      pub number : act_of tb r ≡ Assignment → assigned tb r (thread s t) ≡ Some (to_z w32 v)
 
     -- so it is, where a move of thread t goes ahead alone
     unfoldable pub Carries : Move → Type 0

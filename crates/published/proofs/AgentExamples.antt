@@ -1,12 +1,11 @@
 -- The rules at work: the first example of 002's section 3.2, what they leave open and what they exclude, and what the published rules alone do with branches
 -- whose guards are false. Assumes nothing.
-use Rattle.std.specs.Prelude.{ℕ, ◌≡◌, ◌⊎◌, Bool, length}
+use Rattle.std.specs.Prelude.{ℕ, ◌≡◌, ◌⊎◌, Bool, length, None, Option, Some}
 use Rattle.std.proofs.Common.{arith, ◌∙◌, inl, inr}
 use Rattle.std.proofs.Math.Path.{refl, ap}
 use Rattle.std.proofs.Math.Logic.{⊎_elim}
 use Rattle.std.proofs.Math.Bool.{true, false}
 use mathlib.Core.List.{List, [], ◌∷◌}
-use Rattle.std.proofs.Math.Option.{Option, none, some}
 use Rattle.numbers.specs.Search.Laws.{contra}
 use Rattle.numbers.specs.Tests.{clash}
 use Rattle.published.specs.Syntax.{Guard, always, Process, choice, nothing, branch, wait, Prefix, output, input, and_wait, waiting, some_wait, only_waits}
@@ -27,10 +26,10 @@ use Rattle.published.specs.Whole.{Whole, acted, rested, passed, WholeTurn, first
 module _ (def : ℕ → Process) (Δ : Channels) (P Q R S : Process) (n m : ℕ) where
   -- variables 2 and 3 are v and w on the left, x and y on the right
   abbrev left : Env
-  left = some (channel 0) ∷ some (channel 1) ∷ some (number n) ∷ some (number m) ∷ []
+  left = Some (channel 0) ∷ Some (channel 1) ∷ Some (number n) ∷ Some (number m) ∷ []
 
   abbrev right : Env
-  right = some (channel 0) ∷ some (channel 1) ∷ []
+  right = Some (channel 0) ∷ Some (channel 1) ∷ []
 
   abbrev left_choice : Process
   left_choice = choice (branch always (output 0 2) P (branch always (output 1 3) Q nothing))
@@ -73,10 +72,10 @@ module _ (def : ℕ → Process) (Δ : Channels) (P Q R S : Process) (n m : ℕ)
 
 module _ (def : ℕ → Process) (for_numbers : ℕ → ℕ → Bool) (Δ : Channels) (P R S U W : Process) (n : ℕ) where
   abbrev giver : Env
-  giver = some (channel 0) ∷ some (number n) ∷ []
+  giver = Some (channel 0) ∷ Some (number n) ∷ []
 
   abbrev taker : Env
-  taker = some (channel 0) ∷ []
+  taker = Some (channel 0) ∷ []
 
   abbrev taking : Thread
   taking = thread (takes 0 1 R ∷ takes 0 2 S ∷ takes 5 1 R ∷ takes 5 3 U ∷ []) taker W
@@ -113,7 +112,7 @@ module _ (def : ℕ → Process) (for_numbers : ℕ → ℕ → Bool) (Δ : Chan
   -- the two ends differ
   pub ends_differ : by_first ≡ by_second → ⊥
   unfolding bind
-  ends_differ q = clash (let e : none ≡ some (number n) = ap (λ (X : Agent). look (nth X.threads 1).env 2) q in cc)
+  ends_differ q = clash (let e : None ≡ Some (number n) = ap (λ (X : Agent). look (nth X.threads 1).env 2) q in cc)
 
   -- the two ends differ in no more than the commitment that is met
   pub ends_alike : Alike giving by_first by_second
@@ -149,7 +148,7 @@ module _ (def : ℕ → Process) (for_numbers : ℕ → ℕ → Bool) (Δ : Chan
   -- ---- what ends there are
 
   -- by a commitment on channel 0
-  on_zero : (ĉ x : ℕ) (Q : Process) → some (channel 0) ≡ some (channel ĉ) → takes ĉ x Q ∈ taking.commitments → (x ≡ 1) ⊎ (x ≡ 2)
+  on_zero : (ĉ x : ℕ) (Q : Process) → Some (channel 0) ≡ Some (channel ĉ) → takes ĉ x Q ∈ taking.commitments → (x ≡ 1) ⊎ (x ≡ 2)
   on_zero ĉ x Q e (inl q) = inl cc
   on_zero ĉ x Q e (inr (inl q)) = inr cc
   on_zero ĉ x Q e (inr (inr (inl q))) = let z : 0 ≡ ĉ = cc in let y : ĉ ≡ 5 = cc in absurd (omega arith)
@@ -200,9 +199,9 @@ module _ (def : ℕ → Process) (for_numbers : ℕ → ℕ → Bool) (Δ : Chan
   received : Thread
   received = thread [] (bind taker 3 (number n)) U
 
-  without : (u : Thread) → third u ≡ none → received ≡ u → ⊥
+  without : (u : Thread) → third u ≡ None → received ≡ u → ⊥
   unfolding third received bind
-  without u e q = clash (let z : some (number n) ≡ none = ap third q ∙ e in cc)
+  without u e q = clash (let z : Some (number n) ≡ None = ap third q ∙ e in cc)
 
   not_ended_elsewhere : Ended elsewhere → ⊥
   unfolding received third bind

@@ -1,11 +1,10 @@
 -- 002's rules leave no more open to a thread in the first place than `specs/Choices.antt` says. Assumes nothing.
-use Rattle.std.specs.Prelude.{ℕ, ◌≡◌, ◌⊎◌, Bool}
+use Rattle.std.specs.Prelude.{ℕ, ◌≡◌, ◌⊎◌, Bool, Some}
 use Rattle.std.proofs.Math.Path.{refl, sym}
 use Rattle.std.proofs.Common.{◌∙◌}
 use Rattle.std.proofs.Math.Logic.{inl, inr, ⊎_elim}
 use Rattle.std.proofs.Math.Bool.{true, false}
 use mathlib.Core.List.{List, [], ◌∷◌, map}
-use Rattle.std.proofs.Math.Option.{some}
 use Rattle.numbers.specs.Search.Laws.{contra}
 use Rattle.published.specs.Syntax.{Guard, Process, end, choice, invoke, Sum, nothing, branch, wait, Prefix, tau, output, input, new_channel, new_thread, assign}
 use Rattle.published.specs.Agents.{◌∈◌, Value, channel, Env, look, holds, Commitment, gives, takes, Thread, Channels, Agent, agent}
@@ -29,11 +28,11 @@ acts_of def (more m) = absurd m
 
 -- ---- two of them
 
-pub same_channel : (δ : Env) (c ĉ ĉ' : ℕ) → look δ c ≡ some (channel ĉ) → look δ c ≡ some (channel ĉ') → ĉ ≡ ĉ'
-same_channel δ c ĉ ĉ' e f = let q : some (channel ĉ) ≡ some (channel ĉ') = sym e ∙ f in cc
+pub same_channel : (δ : Env) (c ĉ ĉ' : ℕ) → look δ c ≡ Some (channel ĉ) → look δ c ≡ Some (channel ĉ') → ĉ ≡ ĉ'
+same_channel δ c ĉ ĉ' e f = let q : Some (channel ĉ) ≡ Some (channel ĉ') = sym e ∙ f in cc
 
-pub same_value : (δ : Env) (v : ℕ) (w w' : Value) → look δ v ≡ some w → look δ v ≡ some w' → w ≡ w'
-same_value δ v w w' e f = let q : some w ≡ some w' = sym e ∙ f in cc
+pub same_value : (δ : Env) (v : ℕ) (w w' : Value) → look δ v ≡ Some w → look δ v ≡ Some w' → w ≡ w'
+same_value δ v w w' e f = let q : Some w ≡ Some w' = sym e ∙ f in cc
 
 module _ (Δ : Channels) (Γ : List Commitment) (δ : Env) where
   module _ (B : List Thread) where
@@ -47,13 +46,13 @@ module _ (Δ : Channels) (Γ : List Commitment) (δ : Env) where
     commitment_same (assign x e) P Q T T' a a' = absurd a
 
   -- a neighbour that is met has a commitment, so that nothing is committed to instead
-  sends_only : (B : List Thread) (c v ĉ' : ℕ) (P : Process) (T : Agent) → Sends Δ δ B c v P T → look δ c ≡ some (channel ĉ')
+  sends_only : (B : List Thread) (c v ĉ' : ℕ) (P : Process) (T : Agent) → Sends Δ δ B c v P T → look δ c ≡ Some (channel ĉ')
       → ((t : Thread) → t ∈ B → (x : ℕ) (S : Process) → takes ĉ' x S ∈ t.commitments → ⊥) → ⊥
   unfolding Sends
   sends_only [] c v ĉ' P T s e' f = s
   sends_only (u ∷ C) c v ĉ' P T (ĉ, x, R, w, e, i, g, q) e' f = let z : ĉ ≡ ĉ' = same_channel δ c ĉ ĉ' e e' in f u (inl refl) x R (rw z at i)
 
-  receives_only : (B : List Thread) (c x ĉ' : ℕ) (P : Process) (T : Agent) → Receives Δ δ B c x P T → look δ c ≡ some (channel ĉ')
+  receives_only : (B : List Thread) (c x ĉ' : ℕ) (P : Process) (T : Agent) → Receives Δ δ B c x P T → look δ c ≡ Some (channel ĉ')
       → ((t : Thread) → t ∈ B → (v : ℕ) (S : Process) → gives ĉ' v S ∈ t.commitments → ⊥) → ⊥
   unfolding Receives
   receives_only [] c x ĉ' P T s e' f = s
@@ -100,7 +99,7 @@ module _ (Δ : Channels) (Γ : List Commitment) (δ : Env) where
     process_alike def false true end T T' e e' = absurd e'
     process_alike def true k' end T T' e e' = absurd e
     process_alike def false false (invoke D vs) T T' (ws, e, q) (ws', e', q') =
-        let z : map some ws ≡ map some ws' = sym e ∙ e' in inl ((rw z at q) ∙ sym q')
+        let z : map Some ws ≡ map Some ws' = sym e ∙ e' in inl ((rw z at q) ∙ sym q')
     process_alike def false true (invoke D vs) T T' a a' = absurd a'
     process_alike def true k' (invoke D vs) T T' a a' = absurd a
 

@@ -1,12 +1,11 @@
 -- Two whole turns of one thread from one agent differ in no more than `UpTo` says, by what it takes from 002. With `NoFreer.antt` it says just what 002 leaves
 -- open. Assumes nothing.
 use Prim.Native.Nat.{ℕ, zero, suc}
-use Rattle.std.specs.Prelude.{◌≡◌, ◌⊎◌, Bool, true, false}
+use Rattle.std.specs.Prelude.{◌≡◌, ◌⊎◌, Bool, true, false, Some}
 use Rattle.std.proofs.Math.Path.{refl, sym, ap}
 use Rattle.std.proofs.Common.{◌∙◌}
 use Rattle.std.proofs.Math.Logic.{inl, inr, ⊎_elim}
 use mathlib.Core.List.{List, [], ◌∷◌, ◌++◌, map}
-use Rattle.std.proofs.Math.Option.{some}
 use Rattle.numbers.specs.Search.Laws.{contra}
 use Rattle.published.specs.Syntax.{Guard, Process, end, choice, invoke, Sum, nothing, branch, wait, Prefix, tau, output, input, new_channel, new_thread, assign, and_wait, waits, waiting, some_wait}
 use Rattle.published.specs.Agents.{◌∈◌, Env, holds, Commitment, gives, takes, Thread, thread, Channels, Agent, agent}
@@ -163,7 +162,7 @@ module _ (def : ℕ → Process) (Δ : Channels) (δ : Env) where
     processes end T T' Γ (inr (U, a, w)) b = absurd a
     processes (choice Q) T T' Γ a a' = sums Q T T' 0 Γ a a'
     processes (invoke D vs) T T' Γ (inl (ws, e, q)) (inl (ws', e', q')) =
-        let z : map some ws ≡ map some ws' = sym e ∙ e' in inl (same_first_thread _ T T' (rw z at q) q')
+        let z : map Some ws ≡ map Some ws' = sym e ∙ e' in inl (same_first_thread _ T T' (rw z at q) q')
     processes (invoke D vs) T T' Γ (inl x) (inr (U, a, w)) = absurd a
     processes (invoke D vs) T T' Γ (inr (U, a, w)) b = absurd a
 

@@ -1,9 +1,8 @@
 -- Where one commitment alone can be met, 002 leaves nothing open to a thread that sends or receives: two turns by one branch end alike. Assumes nothing.
-use Rattle.std.specs.Prelude.{ℕ, ◌≡◌}
+use Rattle.std.specs.Prelude.{ℕ, ◌≡◌, Some}
 use Rattle.std.proofs.Math.Path.{refl, sym, ap}
 use Rattle.std.proofs.Common.{◌∙◌, inl, inr}
 use mathlib.Core.List.{List, [], ◌∷◌}
-use Rattle.std.proofs.Math.Option.{some}
 use Rattle.published.specs.Syntax.{Process, output, input}
 use Rattle.published.specs.Agents.{channel, look, gives, takes, channel_of, Thread, Agent, agent}
 use Rattle.published.specs.Rules.{Rearranged, same_first, twice}
@@ -20,7 +19,7 @@ same_takes ĉ x x' R R' e = (cc, cc)
 same_gives : (ĉ v v' : ℕ) (R R' : Process) → gives ĉ v R ≡ gives ĉ v' R' → (v ≡ v') × (R ≡ R')
 same_gives ĉ v v' R R' e = (cc, cc)
 
-module _ (A : Agent) (t : Thread) (P : Process) (T T' : Agent) (c ĉ : ℕ) (on : look t.env c ≡ some (channel ĉ)) (one : Sole A.threads ĉ) where
+module _ (A : Agent) (t : Thread) (P : Process) (T T' : Agent) (c ĉ : ℕ) (on : look t.env c ≡ Some (channel ĉ)) (one : Sole A.threads ĉ) where
   -- the threads beside t and who is met
   same_rest : (u u' : Thread) (C C' : List Thread) → Rearranged A.threads (t ∷ u ∷ C) → Rearranged A.threads (t ∷ u' ∷ C') → u ≡ u' → Rearranged C' C
   same_rest u u' C C' p p' e = cancelled u' C' C (cancelled t (u' ∷ C') (u' ∷ C) (twice (turned_back p') (rw e at p)))

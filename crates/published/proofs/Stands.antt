@@ -1,12 +1,11 @@
 -- What `specs/Stands.antt` says of a turn that ends with a rule is so. So another rule, branch or partner is excluded; an example. Assumes nothing.
 use Prim.Native.Nat.{ℕ, zero, suc, ◌+◌}
 use native.Mathlib.Omega.{arith}
-use Rattle.std.specs.Prelude.{◌≡◌, ◌≢◌, Bool}
+use Rattle.std.specs.Prelude.{◌≡◌, ◌≢◌, Bool, Some}
 use Rattle.std.proofs.Math.Path.{refl}
 use Rattle.std.proofs.Common.{sym, ◌∙◌, ap}
 use Rattle.std.proofs.Math.Logic.{inl, inr}
 use mathlib.Core.List.{List, [], ◌∷◌}
-use Rattle.std.proofs.Math.Option.{some}
 use Rattle.numbers.specs.Search.Laws.{contra}
 use Rattle.published.specs.Syntax.{always, Process, end, choice, invoke, Sum, nothing, branch, wait, Prefix, tau, output, input, new_channel, new_thread, assign, and_wait}
 use Rattle.published.specs.Agents.{◌∈◌, channel, number, Env, bind, holds, Commitment, takes, Thread, thread, Channels, Agent, agent}
@@ -196,24 +195,24 @@ module _ (def : ℕ → Process) (for_numbers : ℕ → ℕ → Bool) where
   -- ---- another: [true] c!v, end beside a thread that waits to receive on c; variables 0 and 1 of the sender are c and v
 
   abbrev sender : Thread
-  sender = thread [] (some (channel 0) ∷ some (number 7) ∷ []) (choice (branch always (output 0 1) end nothing))
+  sender = thread [] (Some (channel 0) ∷ Some (number 7) ∷ []) (choice (branch always (output 0 1) end nothing))
 
   abbrev receiver : Thread
   receiver = thread (takes 0 0 end ∷ []) [] (choice (wait nothing))
 
   pub sender_meets : (Δ : Channels)
       → SteppedBy def (Ours def for_numbers) (ours_fire def for_numbers) (agent Δ (sender ∷ receiver ∷ [])) sender (fired 0 (by_send receiver (takes 0 0 end)))
-      (agent Δ (thread [] (some (channel 0) ∷ some (number 7) ∷ []) end ∷ thread [] (some (number 7) ∷ []) end ∷ []))
+      (agent Δ (thread [] (Some (channel 0) ∷ Some (number 7) ∷ []) end ∷ thread [] (Some (number 7) ∷ []) end ∷ []))
   unfolding holds bind firing Ends
   sender_meets Δ = record {
     stepped = record {
-      between = agent Δ (thread [] (some (channel 0) ∷ some (number 7) ∷ []) end ∷ thread [] (some (number 7) ∷ []) end ∷ []);
+      between = agent Δ (thread [] (Some (channel 0) ∷ Some (number 7) ∷ []) end ∷ thread [] (Some (number 7) ∷ []) end ∷ []);
       turn = record {
         others = receiver ∷ [];
         brought = same_order (sender ∷ receiver ∷ []);
-        product = thread [] (some (channel 0) ∷ some (number 7) ∷ []) end ∷ thread [] (some (number 7) ∷ []) end ∷ [];
+        product = thread [] (Some (channel 0) ∷ Some (number 7) ∷ []) end ∷ thread [] (Some (number 7) ∷ []) end ∷ [];
         run = last (send 0 0 (number 7) refl refl (inl refl) refl);
-        put_back = same_order (thread [] (some (channel 0) ∷ some (number 7) ∷ []) end ∷ thread [] (some (number 7) ∷ []) end ∷ []);
+        put_back = same_order (thread [] (Some (channel 0) ∷ Some (number 7) ∷ []) end ∷ thread [] (Some (number 7) ∷ []) end ∷ []);
       };
       reclaimed = stays;
     };

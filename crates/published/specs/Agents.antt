@@ -1,12 +1,9 @@
 -- The agents of 002 (section 3): a set of channels Δ, and threads [Γ; δ] : P with a set of commitments, an environment and a process.
-use Rattle.std.specs.Prelude.{ℕ, zero, suc, ◌≡◌, ◌⊎◌, Bool, true, false, ◌&&◌, ◌||◌, List, [], ◌∷◌, eqb, get_or, ◌+ℤ◌, ◌-ℤ◌}
-use Rattle.std.proofs.Math.Option.{Option, none, some}
+use Rattle.std.specs.Prelude.{ℕ, zero, suc, ◌≡◌, ◌⊎◌, Bool, true, false, ◌&&◌, ◌||◌, List, [], ◌∷◌, eqb, get_or, ◌+ℤ◌, ◌-ℤ◌, Option, Some, ℤ, None}
 use Rattle.std.specs.Int.{w32}
 use Rattle.std.proofs.Common.{to_z}
 use Rattle.numbers.specs.Count.{count}
 use Rattle.numbers.specs.Signed.{narrowed, is_exact, lower}
-use Rattle.numbers.specs.declared.Checked.{Checked}
-use Rattle.numbers.specs.declared.Checked.TheVariants.{Exact}
 use Rattle.published.specs.Syntax.{Expression, constant, plus, minus, Guard, always, equals, below, same, less, and_fits, Process, end}
 
 infix 4 ◌∈◌
@@ -27,27 +24,27 @@ Env = List (Option Value)
 
 -- δ(x), which is also the evaluation of the variable x
 abbrev pub look : Env → ℕ → Option Value
-look δ x = get_or δ x none
+look δ x = get_or δ x None
 
 -- δ, x ▷ v: an earlier binding of x is discarded
 unfoldable pub bind : Env → ℕ → Value → Env
-bind [] zero v = some v ∷ []
-bind [] (suc x) v = none ∷ bind [] x v
-bind (o ∷ δ) zero v = some v ∷ δ
+bind [] zero v = Some v ∷ []
+bind [] (suc x) v = None ∷ bind [] x v
+bind (o ∷ δ) zero v = Some v ∷ δ
 bind (o ∷ δ) (suc x) v = o ∷ bind δ x v
 
 -- the number that a variable is bound to; document 01: 0 where it is not written
 unfoldable pub numeric : Option Value → ℕ
-numeric none = 0
-numeric (some (channel c)) = 0
-numeric (some (number n)) = n
+numeric None = 0
+numeric (Some (channel c)) = 0
+numeric (Some (number n)) = n
 
 abbrev pub number_of : Env → ℕ → ℕ
 number_of δ x = numeric (look δ x)
 
 -- what an assignment's expression evaluates to: sums and differences of whole numbers, if they fit into 32 signed bits
-unfoldable pub value_of : Env → Expression → Checked
-value_of δ (constant n) = Exact (to_z w32 n)
+unfoldable pub value_of : Env → Expression → Option ℤ
+value_of δ (constant n) = Some (to_z w32 n)
 value_of δ (plus x y) = narrowed (to_z w32 (number_of δ x) +ℤ to_z w32 (number_of δ y))
 value_of δ (minus x y) = narrowed (to_z w32 (number_of δ x) -ℤ to_z w32 (number_of δ y))
 
@@ -104,9 +101,9 @@ nth A j = get_or A j (thread [] [] end)
 
 -- a variable is bound to channel c
 unfoldable pub refers : ℕ → Option Value → Bool
-refers c none = false
-refers c (some (channel e)) = eqb e c
-refers c (some (number n)) = false
+refers c None = false
+refers c (Some (channel e)) = eqb e c
+refers c (Some (number n)) = false
 
 -- some variable of the environment is bound to it
 unfoldable pub mentions : ℕ → Env → Bool

@@ -1,7 +1,6 @@
 -- Laws on environments: what is bound after a binding, and that a thread knows a channel just if one of its variables is bound to it. Assumes nothing.
-use Rattle.std.specs.Prelude.{ℕ, zero, suc, ◌<◌, ◌≡◌, refl, ◌≢◌, ◌↔◌, true, [], ◌∷◌, length}
+use Rattle.std.specs.Prelude.{ℕ, zero, suc, ◌<◌, ◌≡◌, refl, ◌≢◌, ◌↔◌, true, [], ◌∷◌, length, None, Option, Some}
 use Rattle.std.proofs.Common.{arith, ap, ⊎_elim, eqb-true, eq-eqb}
-use Rattle.std.proofs.Math.Option.{Option, none, some}
 use Rattle.numbers.specs.Search.Laws.{contra}
 use Rattle.numbers.specs.Tests.{clash}
 use Rattle.marking.proofs.Enabled.Laws.{or_elim, or_second}
@@ -9,7 +8,7 @@ use Rattle.published.specs.Agents.{Value, channel, number, Env, look, bind, refe
 
 -- ---- a binding
 
-pub look_bound : (δ : Env) (x : ℕ) (v : Value) → look (bind δ x v) x ≡ some v
+pub look_bound : (δ : Env) (x : ℕ) (v : Value) → look (bind δ x v) x ≡ Some v
 unfolding bind
 look_bound [] zero v = refl
 look_bound [] (suc x) v = look_bound [] x v
@@ -35,25 +34,25 @@ length_bound (o ∷ δ) (suc x) v l = ap suc (length_bound δ x v (omega arith))
 
 -- ---- who knows
 
-refers_is : (c : ℕ) (o : Option Value) → refers c o ≡ true → o ≡ some (channel c)
+refers_is : (c : ℕ) (o : Option Value) → refers c o ≡ true → o ≡ Some (channel c)
 unfolding refers
-refers_is c none e = contra e refl
-refers_is c (some (channel d)) e = rw (eqb-true d c e)
-refers_is c (some (number n)) e = contra e refl
+refers_is c None e = contra e refl
+refers_is c (Some (channel d)) e = rw (eqb-true d c e)
+refers_is c (Some (number n)) e = contra e refl
 
-mentions_elim : (c : ℕ) (δ : Env) → mentions c δ ≡ true → (x : ℕ) × (look δ x ≡ some (channel c))
+mentions_elim : (c : ℕ) (δ : Env) → mentions c δ ≡ true → (x : ℕ) × (look δ x ≡ Some (channel c))
 unfolding mentions
 mentions_elim c [] e = contra e refl
 mentions_elim c (o ∷ δ) e =
     ⊎_elim (λ y. (0, refers_is c o y)) (λ y. let (x, h) = mentions_elim c δ y in (suc x, h)) (or_elim (refers c o) (mentions c δ) e)
 
-mentions_intro : (c : ℕ) (δ : Env) (x : ℕ) → look δ x ≡ some (channel c) → mentions c δ ≡ true
+mentions_intro : (c : ℕ) (δ : Env) (x : ℕ) → look δ x ≡ Some (channel c) → mentions c δ ≡ true
 unfolding mentions refers
 mentions_intro c [] x e = clash cc
-mentions_intro c (o ∷ δ) zero e = let q : o ≡ some (channel c) = e in rw (q, eq-eqb c c refl)
+mentions_intro c (o ∷ δ) zero e = let q : o ≡ Some (channel c) = e in rw (q, eq-eqb c c refl)
 mentions_intro c (o ∷ δ) (suc x) e = or_second (refers c o) (mentions c δ) (mentions_intro c δ x e)
 
 -- knows(ĉ, [Γ; δ] : P) as it is printed: some x has δ(x) = ĉ
-pub knows_iff : (c : ℕ) (t : Thread) → (knows c t ≡ true) ↔ ((x : ℕ) × (look t.env x ≡ some (channel c)))
+pub knows_iff : (c : ℕ) (t : Thread) → (knows c t ≡ true) ↔ ((x : ℕ) × (look t.env x ≡ Some (channel c)))
 unfolding knows
 knows_iff c t = (mentions_elim c t.env, λ (x, e). mentions_intro c t.env x e)

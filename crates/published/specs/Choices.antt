@@ -1,9 +1,8 @@
 -- What 002's rules leave open to a thread in the first place: the name of a new channel, and which commitment of its neighbour it meets. All else is settled:
 -- the branches are tried in their order (002: the local priority). `proofs/Choices.antt` shows it.
-use Rattle.std.specs.Prelude.{ℕ, ◌≡◌, ◌⊎◌, Bool}
+use Rattle.std.specs.Prelude.{ℕ, ◌≡◌, ◌⊎◌, Bool, Some}
 use Rattle.std.proofs.Math.Bool.{true, false}
 use mathlib.Core.List.{List, [], ◌∷◌, ◌++◌, map}
-use Rattle.std.proofs.Math.Option.{some}
 use Rattle.published.specs.Syntax.{Guard, Process, end, choice, invoke, Sum, nothing, branch, wait, Prefix, tau, output, input, new_channel, new_thread, assign, and_wait}
 use Rattle.published.specs.Agents.{◌∈◌, Value, channel, Env, look, bind, holds, Commitment, gives, takes, Thread, thread, Channels, adding, Agent, agent}
 use Rattle.published.specs.Rules.{Acts, step, new, spawn, next, call, inert, send, out, recv, inn, more, Nothing, Run, last, pass}
@@ -30,14 +29,14 @@ module _ (Δ : Channels) (δ : Env) where
   unfoldable pub Sends : List Thread → ℕ → ℕ → Process → Agent → Type 0
   Sends [] c v P T = ⊥
   Sends (u ∷ C) c v P T =
-      (ĉ : ℕ) × (x : ℕ) × (R : Process) × (w : Value) × (look δ c ≡ some (channel ĉ)) × (takes ĉ x R ∈ u.commitments) × (look δ v ≡ some w)
+      (ĉ : ℕ) × (x : ℕ) × (R : Process) × (w : Value) × (look δ c ≡ Some (channel ĉ)) × (takes ĉ x R ∈ u.commitments) × (look δ v ≡ Some w)
       × (T ≡ agent Δ (thread [] δ P ∷ thread [] (bind u.env x w) R ∷ C))
 
   -- (recv)
   unfoldable pub Receives : List Thread → ℕ → ℕ → Process → Agent → Type 0
   Receives [] c x P T = ⊥
   Receives (u ∷ C) c x P T =
-      (ĉ : ℕ) × (v : ℕ) × (R : Process) × (w : Value) × (look δ c ≡ some (channel ĉ)) × (gives ĉ v R ∈ u.commitments) × (look u.env v ≡ some w)
+      (ĉ : ℕ) × (v : ℕ) × (R : Process) × (w : Value) × (look δ c ≡ Some (channel ĉ)) × (gives ĉ v R ∈ u.commitments) × (look u.env v ≡ Some w)
       × (T ≡ agent Δ (thread [] (bind δ x w) P ∷ thread [] u.env R ∷ C))
 
   -- the action of a prefix whose guard is true
@@ -54,10 +53,10 @@ module _ (Δ : Channels) (Γ : List Commitment) (δ : Env) (B : List Thread) whe
   unfoldable pub ByCommitment : Prefix → Process → Sum → Agent → Type 0
   ByCommitment tau P Q T = ⊥
   ByCommitment (output c v) P Q T =
-      (ĉ : ℕ) × (look δ c ≡ some (channel ĉ)) × ((t : Thread) → t ∈ B → (x : ℕ) (S : Process) → takes ĉ x S ∈ t.commitments → ⊥)
+      (ĉ : ℕ) × (look δ c ≡ Some (channel ĉ)) × ((t : Thread) → t ∈ B → (x : ℕ) (S : Process) → takes ĉ x S ∈ t.commitments → ⊥)
       × (T ≡ agent Δ (thread (Γ ++ (gives ĉ v P ∷ [])) δ (choice (and_wait Q)) ∷ B))
   ByCommitment (input c x) P Q T =
-      (ĉ : ℕ) × (look δ c ≡ some (channel ĉ)) × ((t : Thread) → t ∈ B → (v : ℕ) (S : Process) → gives ĉ v S ∈ t.commitments → ⊥)
+      (ĉ : ℕ) × (look δ c ≡ Some (channel ĉ)) × ((t : Thread) → t ∈ B → (v : ℕ) (S : Process) → gives ĉ v S ∈ t.commitments → ⊥)
       × (T ≡ agent Δ (thread (Γ ++ (takes ĉ x P ∷ [])) δ (choice (and_wait Q)) ∷ B))
   ByCommitment (new_channel c) P Q T = ⊥
   ByCommitment (new_thread R) P Q T = ⊥
@@ -78,7 +77,7 @@ module _ (Δ : Channels) (Γ : List Commitment) (δ : Env) (B : List Thread) whe
   ByProcess def k (choice Q) T = BySum k Q T
   ByProcess def false end T = T ≡ agent Δ B
   ByProcess def true end T = ⊥
-  ByProcess def false (invoke D vs) T = (ws : List Value) × (map (look δ) vs ≡ map some ws) × (T ≡ agent Δ (thread [] (map some ws) (def D) ∷ B))
+  ByProcess def false (invoke D vs) T = (ws : List Value) × (map (look δ) vs ≡ map Some ws) × (T ≡ agent Δ (thread [] (map Some ws) (def D) ∷ B))
   ByProcess def true (invoke D vs) T = ⊥
 
 -- of an agent: of its first thread

@@ -1,7 +1,6 @@
 -- The collector that 002 prints (Table 8), of agents, and an agent with an enabled thread that it takes. Assumes nothing.
-use Rattle.std.specs.Prelude.{ℕ, zero, suc, ◌+◌, ◌≤◌, ◌≡◌, refl, Bool, true, false, not, ◌&&◌, ◌||◌, cond, List, [], ◌∷◌, ◌++◌, eqb}
+use Rattle.std.specs.Prelude.{ℕ, zero, suc, ◌+◌, ◌≤◌, ◌≡◌, refl, Bool, true, false, not, ◌&&◌, ◌||◌, cond, List, [], ◌∷◌, ◌++◌, eqb, None, Option, Some}
 use Rattle.std.proofs.Common.{arith, inl, inr}
-use Rattle.std.proofs.Math.Option.{Option, none, some}
 use Rattle.numbers.specs.Count.{bit, count}
 use Rattle.numbers.specs.Search.Laws.{case_b}
 use Rattle.published.specs.Syntax.{end, choice, nothing, wait, waiting, some_wait, only_waits}
@@ -41,12 +40,12 @@ joining Γ known i (t ∷ A) = cond (together Γ t.commitments && not (has i kno
 
 -- the loop, at most n rounds of it: the clique that it takes, or none
 unfoldable pub gc2 : List Thread → ℕ → List ℕ → List ℕ → Option (List ℕ)
-gc2 A zero clique candidates = none
-gc2 A (suc n) clique [] = some clique
+gc2 A zero clique candidates = None
+gc2 A (suc n) clique [] = Some clique
 gc2 A (suc n) clique (j ∷ candidates) =
     cond (quiet A (nth A j).commitments)
     (gc2 A n (j ∷ clique) (candidates ++ joining (nth A j).commitments (j ∷ (clique ++ candidates)) 0 A))
-    none
+    None
 
 -- Proposition 6, on which it rests: where the two counts of a channel agree, every thread that knows it waits
 waitrc_le : (c : ℕ) (A : List Thread) → waitrc c A ≤ globalrc c A
@@ -71,19 +70,19 @@ proposition_6 c (u ∷ A) e t (inr i) h =
 
 -- P waits on channel 0, which W knows too; W waits on channel 1, which R knows; R is active and does not know channel 0
 abbrev pub P : Thread
-P = thread (takes 0 2 end ∷ []) (some (channel 0) ∷ []) (choice (wait nothing))
+P = thread (takes 0 2 end ∷ []) (Some (channel 0) ∷ []) (choice (wait nothing))
 
 abbrev pub W : Thread
-W = thread (takes 1 2 end ∷ []) (some (channel 0) ∷ some (channel 1) ∷ []) (choice (wait nothing))
+W = thread (takes 1 2 end ∷ []) (Some (channel 0) ∷ Some (channel 1) ∷ []) (choice (wait nothing))
 
 abbrev pub R : Thread
-R = thread [] (none ∷ some (channel 1) ∷ []) end
+R = thread [] (None ∷ Some (channel 1) ∷ []) end
 
 abbrev pub case_three : List Thread
 case_three = P ∷ W ∷ R ∷ []
 
 -- the printed collector, which begins with P, takes P alone, ...
-pub printed_takes_lem : gc2 case_three 8 [] (0 ∷ []) ≡ some (0 ∷ [])
+pub printed_takes_lem : gc2 case_three 8 [] (0 ∷ []) ≡ Some (0 ∷ [])
 unfolding gc2 joining together quiet committed_on has waitrc waiting some_wait only_waits knows mentions refers globalrc count bit channel_of
 printed_takes_lem = refl
 

@@ -6,11 +6,9 @@
 --  - What a rule evaluates has a value; (call): x₁ to xₙ are the first n variables.
 --  - In the premise of (next), as in all rules but (par), the redex is the leftmost thread (002, section 3.1).
 --  - A product has no order. (par) turns a product around, and two threads that meet need not be neighbours then; `exchange` says that the order does not count.
-use Rattle.std.specs.Prelude.{ℕ, ◌≡◌, Bool, true, false, List, [], ◌∷◌, ◌++◌, map, ℤ}
-use Rattle.std.proofs.Math.Option.{Option, none, some}
+use Rattle.std.specs.Prelude.{ℕ, ◌≡◌, Bool, true, false, List, [], ◌∷◌, ◌++◌, map, ℤ, Option, Some, None}
 use Rattle.std.specs.Int.{w32}
 use Rattle.std.proofs.Common.{of_z}
-use Rattle.numbers.specs.declared.Checked.TheVariants.{Exact}
 use Rattle.published.specs.Syntax.{Guard, Expression, Process, end, choice, invoke, Sum, branch, Prefix, tau, output, input, new_channel, new_thread, assign, and_wait, waiting}
 use Rattle.published.specs.Agents.{◌∈◌, Value, channel, number, Env, look, bind, holds, value_of, Commitment, gives, takes, Thread, thread, Channels, adding, Agent, agent, globalrc, Commits}
 
@@ -45,37 +43,37 @@ module _ (def : ℕ → Process) (More : Agent → Agent → Type 0) where
         → Acts (agent Δ (thread Γ δ (choice (branch g α P Q)) ∷ B)) (agent Δ' (thread Γ' δ' R ∷ B'))
     -- def D(x₁, .., xₙ) = P: Δ ⊢ [Γ; δ] : D(v₁, .., vₙ) ∥ B → Δ ⊢ [∅; x₁ ▷ v̄₁, .., xₙ ▷ v̄ₙ] : P ∥ B
     call : {Δ : Channels} {Γ : List Commitment} {δ : Env} {D : ℕ} {vs : List ℕ} {B : List Thread} (ws : List Value)
-        → map (look δ) vs ≡ map some ws
-        → Acts (agent Δ (thread Γ δ (invoke D vs) ∷ B)) (agent Δ (thread [] (map some ws) (def D) ∷ B))
+        → map (look δ) vs ≡ map Some ws
+        → Acts (agent Δ (thread Γ δ (invoke D vs) ∷ B)) (agent Δ (thread [] (map Some ws) (def D) ∷ B))
     -- Δ ⊢ [Γ; δ] : end → Δ ⊢ ∅
     inert : {Δ : Channels} {Γ : List Commitment} {δ : Env} {B : List Thread}
         → Acts (agent Δ (thread Γ δ end ∷ B)) (agent Δ B)
     -- ḡ = true, δ(c) = ĉ: Δ ⊢ [Γ; δ] : [g] c!v, P + Σ Qᵢ ∥ [Γ', ĉ ⇒ x: R; δ'] : S ∥ B → Δ ⊢ [∅; δ] : P ∥ [∅; δ', x ▷ v̄] : R ∥ B
     send : {Δ : Channels} {Γ Γ' : List Commitment} {δ δ' : Env} {g : Guard} {c v : ℕ} {P R S : Process} {Q : Sum} {B : List Thread} (ĉ x : ℕ) (w : Value)
         → holds δ g ≡ true
-        → look δ c ≡ some (channel ĉ)
+        → look δ c ≡ Some (channel ĉ)
         → takes ĉ x R ∈ Γ'
-        → look δ v ≡ some w
+        → look δ v ≡ Some w
         → Acts (agent Δ (thread Γ δ (choice (branch g (output c v) P Q)) ∷ thread Γ' δ' S ∷ B))
         (agent Δ (thread [] δ P ∷ thread [] (bind δ' x w) R ∷ B))
     -- ḡ = true, δ(c) = ĉ, no ĉ ⇒ x: S in any Γⱼ: Δ ⊢ [Γ; δ] : [g] c!v, P + Σ Qᵢ ∥ ∏ⱼ .. → Δ ⊢ [Γ, ĉ ⇐ v: P; δ] : Σ Qᵢ + wait ∥ ∏ⱼ ..
     out : {Δ : Channels} {Γ : List Commitment} {δ : Env} {g : Guard} {c v : ℕ} {P : Process} {Q : Sum} {B : List Thread} (ĉ : ℕ)
         → holds δ g ≡ true
-        → look δ c ≡ some (channel ĉ)
+        → look δ c ≡ Some (channel ĉ)
         → ((t : Thread) → t ∈ B → (x : ℕ) (S : Process) → takes ĉ x S ∈ t.commitments → ⊥)
         → Acts (agent Δ (thread Γ δ (choice (branch g (output c v) P Q)) ∷ B)) (agent Δ (thread (Γ ++ (gives ĉ v P ∷ [])) δ (choice (and_wait Q)) ∷ B))
     -- ḡ = true, δ(c) = ĉ: Δ ⊢ [Γ; δ] : [g] c?(x), P + Σ Qᵢ ∥ [Γ', ĉ ⇐ v: R; δ'] : S ∥ B → Δ ⊢ [∅; δ, x ▷ v̄] : P ∥ [∅; δ'] : R ∥ B
     recv : {Δ : Channels} {Γ Γ' : List Commitment} {δ δ' : Env} {g : Guard} {c x : ℕ} {P R S : Process} {Q : Sum} {B : List Thread} (ĉ v : ℕ) (w : Value)
         → holds δ g ≡ true
-        → look δ c ≡ some (channel ĉ)
+        → look δ c ≡ Some (channel ĉ)
         → gives ĉ v R ∈ Γ'
-        → look δ' v ≡ some w
+        → look δ' v ≡ Some w
         → Acts (agent Δ (thread Γ δ (choice (branch g (input c x) P Q)) ∷ thread Γ' δ' S ∷ B))
         (agent Δ (thread [] (bind δ x w) P ∷ thread [] δ' R ∷ B))
     -- ḡ = true, δ(c) = ĉ, no ĉ ⇐ v: S in any Γⱼ: Δ ⊢ [Γ; δ] : [g] c?(x), P + Σ Qᵢ ∥ ∏ⱼ .. → Δ ⊢ [Γ, ĉ ⇒ x: P; δ] : Σ Qᵢ + wait ∥ ∏ⱼ ..
     inn : {Δ : Channels} {Γ : List Commitment} {δ : Env} {g : Guard} {c x : ℕ} {P : Process} {Q : Sum} {B : List Thread} (ĉ : ℕ)
         → holds δ g ≡ true
-        → look δ c ≡ some (channel ĉ)
+        → look δ c ≡ Some (channel ĉ)
         → ((t : Thread) → t ∈ B → (v : ℕ) (S : Process) → gives ĉ v S ∈ t.commitments → ⊥)
         → Acts (agent Δ (thread Γ δ (choice (branch g (input c x) P Q)) ∷ B)) (agent Δ (thread (Γ ++ (takes ĉ x P ∷ [])) δ (choice (and_wait Q)) ∷ B))
     more : {A B : Agent} → More A B → Acts A B
@@ -154,8 +152,8 @@ pub record Stepped (def : ℕ → Process) (More : Agent → Agent → Type 0) (
 
 -- what a variable is bound to once it is 0 if it is for numbers and has no value
 unfoldable pub zeroed : Bool → Option Value → Option Value
-zeroed true none = some (number 0)
-zeroed true (some v) = some v
+zeroed true None = Some (number 0)
+zeroed true (Some v) = Some v
 zeroed false o = o
 
 -- `for_numbers` says which variables of each definition are for numbers
@@ -168,7 +166,7 @@ module _ (def : ℕ → Process) (for_numbers : ℕ → ℕ → Bool) where
     -- ḡ = true, ē = z: Δ ⊢ [Γ; δ] : [g] x := e, P + Σ Qᵢ ∥ B → Δ ⊢ [∅; δ, x ▷ z] : P ∥ B
     assigns : {Δ : Channels} {Γ : List Commitment} {δ : Env} {g : Guard} {x : ℕ} {e : Expression} {P : Process} {Q : Sum} {B : List Thread} (z : ℤ)
         → holds δ g ≡ true
-        → value_of δ e ≡ Exact z
+        → value_of δ e ≡ Some z
         → Ours (agent Δ (thread Γ δ (choice (branch g (assign x e) P Q)) ∷ B)) (agent Δ (thread [] (bind δ x (number (of_z w32 z))) P ∷ B))
     -- def D(..) = P: Δ ⊢ [∅; δ] : P ∥ B → Δ ⊢ [∅; δ, x ▷ 0, ..] : P ∥ B for each x that is for numbers in D and that δ does not bind
     zeros : {Δ : Channels} {δ δ' : Env} {B : List Thread} (D : ℕ)

@@ -1,9 +1,8 @@
 -- Agents without document 02's check that sums fit (S-4): each guard is as the file has it, and nothing else is changed; where the check makes no difference,
 -- and where it makes one. `proofs/Unchecked.antt` shows what turns are left.
 use Prim.Native.Nat.{ℕ}
-use Rattle.std.specs.Prelude.{◌≡◌, true}
+use Rattle.std.specs.Prelude.{◌≡◌, true, None}
 use mathlib.Core.List.{map}
-use Rattle.numbers.specs.declared.Checked.TheVariants.{Overflow}
 use Rattle.published.specs.Syntax.{Guard, always, equals, below, same, less, and_fits, Process, end, choice, invoke, Sum, nothing, branch, wait, Prefix, tau, output, input, new_channel, new_thread, assign}
 use Rattle.published.specs.Agents.{Env, holds, value_of, Commitment, gives, takes, Thread, thread, Agent, agent}
 use Rattle.published.specs.Fired.{Rule, by_inert, by_call, by_step, by_new, by_spawn, by_send, by_recv, by_passing, by_assigns, by_zeros, Fired, fired}
@@ -89,6 +88,6 @@ Halted δ (choice (branch g (output c v) P q)) = ⊥
 Halted δ (choice (branch g (input c x) P q)) = ⊥
 Halted δ (choice (branch g (new_channel c) P q)) = ⊥
 Halted δ (choice (branch g (new_thread R) P q)) = ⊥
-Halted δ (choice (branch g (assign x e) P q)) = (holds δ g ≡ true) × (value_of δ e ≡ Overflow)
+Halted δ (choice (branch g (assign x e) P q)) = (holds δ g ≡ true) × (value_of δ e ≡ None)
 Halted δ (choice (wait q)) = ⊥
 Halted δ (invoke D vs) = ⊥

@@ -1,7 +1,6 @@
 -- Whole turns of a thread by 002's rules, and what two of them from one agent may differ in.
-use Rattle.std.specs.Prelude.{ℕ, suc, ◌≡◌, ◌⊎◌, Bool, true, false}
+use Rattle.std.specs.Prelude.{ℕ, suc, ◌≡◌, ◌⊎◌, Bool, true, false, Some}
 use mathlib.Core.List.{List, [], ◌∷◌, map}
-use Rattle.std.proofs.Math.Option.{some}
 use Rattle.published.specs.Syntax.{Process, choice, invoke, Sum, nothing, branch, wait, Prefix, tau, output, input, new_channel, new_thread, assign, waits, waiting}
 use Rattle.published.specs.Agents.{◌∈◌, Value, channel, Env, look, holds, Commitment, gives, takes, Thread, thread, Channels, Agent, agent}
 use Rattle.published.specs.Rules.{Rearranged, Acts, Nothing, zeroed}
@@ -41,9 +40,9 @@ Is T Δ A = (T.channels ≡ Δ) × Rearranged A T.threads
 unfoldable pub Unmet : Env → List Thread → Prefix → Type 0
 Unmet δ B tau = ⊥
 Unmet δ B (output c v) =
-    (ĉ : ℕ) × (look δ c ≡ some (channel ĉ)) × ((u : Thread) → u ∈ B → (x : ℕ) (S : Process) → takes ĉ x S ∈ u.commitments → ⊥)
+    (ĉ : ℕ) × (look δ c ≡ Some (channel ĉ)) × ((u : Thread) → u ∈ B → (x : ℕ) (S : Process) → takes ĉ x S ∈ u.commitments → ⊥)
 Unmet δ B (input c x) =
-    (ĉ : ℕ) × (look δ c ≡ some (channel ĉ)) × ((u : Thread) → u ∈ B → (v : ℕ) (S : Process) → gives ĉ v S ∈ u.commitments → ⊥)
+    (ĉ : ℕ) × (look δ c ≡ Some (channel ĉ)) × ((u : Thread) → u ∈ B → (v : ℕ) (S : Process) → gives ĉ v S ∈ u.commitments → ⊥)
 Unmet δ B (new_channel c) = ⊥
 Unmet δ B (new_thread R) = ⊥
 Unmet δ B (assign x e) = ⊥
@@ -79,8 +78,8 @@ module _ (def : ℕ → Process) (for_numbers : ℕ → ℕ → Bool) where
         → Is T' A.channels (thread Γ t.env (choice (waits (branches Q))) ∷ B) → UpTo A t T T'
     -- document 01 begins numbers with 0 (zeros): what they are bound to after (call)
     from_zero : (B : List Thread) (D : ℕ) (vs : List ℕ) (ws : List Value) (δ' : Env) → Rearranged A.threads (t ∷ B)
-        → t.process ≡ invoke D vs → map (look t.env) vs ≡ map some ws → ((x : ℕ) → look δ' x ≡ zeroed (for_numbers D x) (look (map some ws) x))
-        → Is T A.channels (thread [] (map some ws) (def D) ∷ B) → Is T' A.channels (thread [] δ' (def D) ∷ B) → UpTo A t T T'
+        → t.process ≡ invoke D vs → map (look t.env) vs ≡ map Some ws → ((x : ℕ) → look δ' x ≡ zeroed (for_numbers D x) (look (map Some ws) x))
+        → Is T A.channels (thread [] (map Some ws) (def D) ∷ B) → Is T' A.channels (thread [] δ' (def D) ∷ B) → UpTo A t T T'
 
 -- ---- the first reduction of a whole turn
 

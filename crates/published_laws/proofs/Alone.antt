@@ -10,7 +10,7 @@ use borrow.Author.Tests.{eqb-true, eqb-false, eq-eqb, ne_eqb}
 use Rattle.numbers.specs.Search.{tabulate}
 use Rattle.numbers.specs.Search.Laws.{case_b}
 use Rattle.table.specs.Table.{Table, nodes, parameters}
-use Rattle.table.specs.Layout.{start, branch_count}
+use Rattle.table.specs.Layout.{branch_count}
 use Rattle.state.specs.State.{State, max_threads, thread, stands_at, in_use, is_ready, type_in, with_mark, with_thread, with_channel}
 use Rattle.rules.specs.Program.{type_at, kind_of, callee, argument, branch_at, guard_holds}
 use Rattle.rules.specs.Moves.{waiting_row, typed, gone_by, created_by, type_by, written}

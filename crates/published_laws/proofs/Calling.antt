@@ -2,12 +2,11 @@
 -- table grants.
 use Prim.Native.Nat.{ℕ, suc, ◌<◌, ◌≤◌}
 use Rattle.std.proofs.Common.{arith, ◌∙◌}
-use Rattle.std.specs.Prelude.{◌≡◌, ◌≢◌, Bool, true, false, ltb, eqb, length, set}
+use Rattle.std.specs.Prelude.{◌≡◌, ◌≢◌, Bool, true, false, ltb, eqb, length, set, None, Some, unwrap_or}
 use Rattle.std.proofs.Math.Path.{refl, sym, ap}
 use Rattle.std.proofs.Math.Logic.{inr}
 use Rattle.std.proofs.Math.Bool.{cond}
 use mathlib.Core.List.{List, [], ◌∷◌, map}
-use Rattle.std.proofs.Math.Option.{none, some, get_or}
 use Rattle.std.proofs.Math.ListN.{get_or-map, get_or-eq_default}
 use borrow.Author.Tests.{ltb-true, ltb-false, lt-ltb, le-ltb, eqb-true, eqb-false, ne_eqb}
 use Rattle.numbers.specs.Search.{tabulate}
@@ -48,21 +47,21 @@ map_tabulate f n h d =
     (λ k l. get_or-map f (tabulate n h) k d ∙ ap f (get_d_tabulate n k h d l))
 
 -- -1 is no value of a channel
-no_value : (ty : ℕ) → ty ≢ 0 → value_as ty minus_one ≡ none
+no_value : (ty : ℕ) → ty ≢ 0 → value_as ty minus_one ≡ None
 unfolding value_as
 no_value ty n = rw (ne_eqb ty 0 n)
 
 -- ---- what stands in a slot that is no parameter
 
 -- nothing, or 0 where it is for numbers
-blank_value : (tb : Table) (d k : ℕ) → k < slot_count tb d → value_as (slot_type tb d k) (blank tb d k) ≡ zeroed (for_numbers tb d k) none
+blank_value : (tb : Table) (d k : ℕ) → k < slot_count tb d → value_as (slot_type tb d k) (blank tb d k) ≡ zeroed (for_numbers tb d k) None
 unfolding blank channel_slot for_numbers zeroed
 blank_value tb d k l =
     case_b (eqb (slot_type tb d k) 0)
     (λ y. rw (lt-ltb k (slot_count tb d) l, y) (number_value (slot_type tb d k) 0 (eqb-true (slot_type tb d k) 0 y)))
     (λ y. rw (lt-ltb k (slot_count tb d) l, y) (no_value (slot_type tb d k) (eqb-false (slot_type tb d k) 0 y)))
 
-zeroed_some : (y : Bool) (v : Value) → zeroed y (some v) ≡ some v
+zeroed_some : (y : Bool) (v : Value) → zeroed y (Some v) ≡ Some v
 unfolding zeroed
 zeroed_some true v = refl
 zeroed_some false v = refl
@@ -97,34 +96,34 @@ module _ (tb : Table) (g : Granted tb) (rd : Readable tb) (s : State) (o : Order
   -- ---- the arguments have values
 
   value_for : ℕ → Value
-  value_for k = get_or (look δ (arg k)) (Agents.number 0)
+  value_for k = unwrap_or (look δ (arg k)) (Agents.number 0)
 
-  argument_value : (k : ℕ) → k < parameters tb d → look δ (arg k) ≡ some (value_for k)
+  argument_value : (k : ℕ) → k < parameters tb d → look δ (arg k) ≡ Some (value_for k)
   unfolding value_for
   argument_value k m =
       let (w, e) = filled_value tb g rd (type_in s) (thread s t) sound used (arg k) (calling.argument_slot k m) (calling.argument_filled k m) in
-      let q : look δ (arg k) ≡ some w = look_filled tb g rd (type_in s) (thread s t) sound used (arg k) (calling.argument_slot k m) ∙ e in
+      let q : look δ (arg k) ≡ Some w = look_filled tb g rd (type_in s) (thread s t) sound used (arg k) (calling.argument_slot k m) ∙ e in
       rw q
 
   pub values : List Value
   values = tabulate (parameters tb d) value_for
 
-  given : map some values ≡ tabulate (parameters tb d) (λ k. some (value_for k))
+  given : map Some values ≡ tabulate (parameters tb d) (λ k. Some (value_for k))
   unfolding values
-  given = map_tabulate some (parameters tb d) value_for (Agents.number 0)
+  given = map_tabulate Some (parameters tb d) value_for (Agents.number 0)
 
-  pub evaluated : map (look δ) (tabulate (parameters tb d) arg) ≡ map some values
+  pub evaluated : map (look δ) (tabulate (parameters tb d) arg) ≡ map Some values
   evaluated =
       map_tabulate (look δ) (parameters tb d) arg 0
-      ∙ tabulate_cong (parameters tb d) (λ k. look δ (arg k)) (λ k. some (value_for k)) argument_value ∙ sym given
+      ∙ tabulate_cong (parameters tb d) (λ k. look δ (arg k)) (λ k. Some (value_for k)) argument_value ∙ sym given
 
-  given_value : (k : ℕ) → k < parameters tb d → look (map some values) k ≡ some (value_for k)
-  given_value k m = rw given (get_d_tabulate (parameters tb d) k (λ k. some (value_for k)) none m)
+  given_value : (k : ℕ) → k < parameters tb d → look (map Some values) k ≡ Some (value_for k)
+  given_value k m = rw given (get_d_tabulate (parameters tb d) k (λ k. Some (value_for k)) None m)
 
-  given_none : (k : ℕ) → parameters tb d ≤ k → look (map some values) k ≡ none
+  given_none : (k : ℕ) → parameters tb d ≤ k → look (map Some values) k ≡ None
   given_none k m = rw given
-      (get_or-eq_default (tabulate (parameters tb d) (λ k. some (value_for k))) none {n = k}
-      (omega (arith, length_tabulate (parameters tb d) (λ k. some (value_for k)))))
+      (get_or-eq_default (tabulate (parameters tb d) (λ k. Some (value_for k))) None {n = k}
+      (omega (arith, length_tabulate (parameters tb d) (λ k. Some (value_for k)))))
 
   -- ---- the row that is entered
 
@@ -148,7 +147,7 @@ module _ (tb : Table) (g : Granted tb) (rd : Readable tb) (s : State) (o : Order
       let h = look_env tb after k m ∙ slot_value_lem tb after k n' in
       rw same_definition at h
 
-  after_none : (k : ℕ) → slot_count tb d ≤ k → look (env_of tb after) k ≡ none
+  after_none : (k : ℕ) → slot_count tb d ≤ k → look (env_of tb after) k ≡ None
   unfolding slot_value
   after_none k n =
       case_b (ltb k row_slots)
@@ -156,7 +155,7 @@ module _ (tb : Table) (g : Granted tb) (rd : Readable tb) (s : State) (o : Order
       (λ y. look_past tb after k (ltb-false k row_slots y))
 
   -- the parameters have the arguments' values, and the numbers besides are 0
-  pub entered_zeros : (x : ℕ) → look (env_of tb after) x ≡ zeroed (for_numbers tb d x) (look (map some values) x)
+  pub entered_zeros : (x : ℕ) → look (env_of tb after) x ≡ zeroed (for_numbers tb d x) (look (map Some values) x)
   unfolding for_numbers zeroed
   entered_zeros x =
       case_b (ltb x (slot_count tb d))
@@ -207,17 +206,17 @@ module _ (tb : Table) (g : Granted tb) (rd : Readable tb) (s : State) (o : Order
 
   -- by 002 alone, where the definition has no numbers besides its parameters
   module _ (no_numbers : (k : ℕ) → parameters tb (callee tb (stands_at (thread s t))) ≤ k → for_numbers tb (callee tb (stands_at (thread s t))) k ≡ false) where
-    nothing_zeroed : (x : ℕ) → zeroed (for_numbers tb d x) (look (map some values) x) ≡ look (map some values) x
+    nothing_zeroed : (x : ℕ) → zeroed (for_numbers tb d x) (look (map Some values) x) ≡ look (map Some values) x
     unfolding zeroed
     nothing_zeroed x =
         case_b (ltb x (parameters tb d))
         (λ z. rw (given_value x (ltb-true x (parameters tb d) z)) (zeroed_some (for_numbers tb d x) (value_for x)))
         (λ z. rw (no_numbers x (ltb-false x (parameters tb d) z)))
 
-    pub as_given : env_of tb after ≡ map some values
+    pub as_given : env_of tb after ≡ map Some values
     unfolding env_of
     as_given =
-        trimmed_same (tabulate row_slots (slot_value tb after)) (map some values)
+        trimmed_same (tabulate row_slots (slot_value tb after)) (map Some values)
         (λ x. sym (look_trimmed (tabulate row_slots (slot_value tb after)) x) ∙ entered_zeros x ∙ nothing_zeroed x) ∙ trimmed_given values
 
     pub calls_published : (More : Agent → Agent → Type 0) (own : Labels More)

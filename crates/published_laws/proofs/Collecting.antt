@@ -26,7 +26,7 @@ use Rattle.collector.specs.Collect.Laws.{taken_iff, stays_enabled}
 use Rattle.published.specs.Syntax.{waiting}
 use Rattle.published.specs.Agents.{◌∈◌, channel_of, Thread, agent, knows, globalrc, Commits}
 use Rattle.published.specs.Rules.{Rearranged, none_left, same_first, twice, Sticks, stuck}
-use Rattle.published.specs.Enabling.{Enabled, Disabled}
+use Rattle.published.specs.Enabling.{Disabled}
 use Rattle.published.specs.ProductLaws.{to_front, turned_back, none_knows}
 use Rattle.published.specs.Collections.{Collects}
 use Rattle.published_laws.specs.Readable.{Readable}

@@ -2,7 +2,7 @@
 -- the agent in which every guard is the file's own. `Running.antt` says of every step that it is a turn of the agent whose guards ask besides that sums fit
 -- (`step_call_reduced`); here the agents before and after, the definitions, and whoever the rule names are without that, and all else is the same. Assumes
 -- nothing but that the table is accepted and that the state is sound for it.
-use Rattle.std.specs.Prelude.{ℕ, zero, suc, ◌+◌, ◌<◌, ◌≤◌, ◌≡◌, List, eqb, get_or}
+use Rattle.std.specs.Prelude.{ℕ, zero, suc, ◌+◌, ◌<◌, ◌≤◌, ◌≡◌, List, eqb, get_or, Ok}
 use Rattle.std.proofs.Common.{arith, ltb-true, eqb-true}
 use Rattle.std.proofs.Math.Bool.{true}
 use Rattle.std.proofs.lemmas.Bool.{eqb-false}
@@ -18,7 +18,6 @@ use Rattle.rules.specs.Program.{kind_of, branch_at, act_of}
 use Rattle.rules.specs.Calls.{can_step, step_call}
 use Rattle.rules.specs.declared.Act.{Act}
 use Rattle.rules.specs.declared.Act.TheVariants.{Tau, Meeting, New, Spawn, Assignment}
-use Rattle.rules.specs.declared.Stepped.TheVariants as Stepped
 use Rattle.rules.specs.declared.Deed.{Deed}
 use Rattle.rules_laws.specs.Granted.{Granted}
 use Rattle.rules_laws.specs.Accepted.{granted}
@@ -103,7 +102,7 @@ module _ (table : List ℕ) (ok : accepted table ≡ true) (fit : (i : ℕ) → 
         (λ z. rw (ready_thread_lem tb row ready, at_end tb g rd (view state) o t l ready b bn (eqb-false (kind_of tb n) 1 y) (eqb-false (kind_of tb n) 2 z)) tt))
 
     -- a step that is answered as done, of a thread at whose choice all sums fit
-    pub step_call_unchecked : (t k : ℕ) (d : Deed) → SumsFit table state t → (step_call table state t).answer ≡ Stepped.Done k d
+    pub step_call_unchecked : (t k : ℕ) (d : Deed) → SumsFit table state t → (step_call table state t).answer ≡ Ok (k, d)
         → UncheckedStep table state b t d (step_call table state t).state
     unfolding can_step
     step_call_unchecked t k d all e =

@@ -1,10 +1,10 @@
 -- Whatever is called, what happens is a computation of 002's agents: where the bench, as a thread, does in their order what the gives and takes of a list of
 -- calls do, the agent of the first state reduces to the agent of the last. Assumes nothing.
-use Rattle.std.specs.Prelude.{ℕ, suc, ◌<◌, ◌≡◌, true, false, length, get_or}
+use Rattle.rules.specs.Answers.{Given, Stepped, Taken}
+use Rattle.std.specs.Prelude.{ℕ, suc, ◌<◌, ◌≡◌, true, false, length, get_or, Err, None, Ok, Option, Some}
 use Rattle.std.proofs.Common.{arith}
 use Rattle.std.proofs.Math.Path.{refl}
 use mathlib.Core.List.{List, [], ◌∷◌}
-use Rattle.std.proofs.Math.Option.{Option, none, some}
 use mir.Syntax.{w32}
 use mir.Val.{Fits, to_z, of_z}
 use Rattle.std.proofs.Math.Facts.{of_z-to_z}
@@ -15,12 +15,6 @@ use Rattle.state.specs.State.{state_length, view, thread}
 use Rattle.rules.specs.Start.{started}
 use Rattle.rules.specs.Calls.{start_call, step_call, give_on, give_call, take_on, take_call, course_of, run_call}
 use Rattle.rules.specs.Calls.Laws.{call_answer}
-use Rattle.rules.specs.declared.Stepped.{Stepped}
-use Rattle.rules.specs.declared.Stepped.TheVariants as Stepped
-use Rattle.rules.specs.declared.Given.{Given}
-use Rattle.rules.specs.declared.Given.TheVariants as Given
-use Rattle.rules.specs.declared.Taken.{Taken}
-use Rattle.rules.specs.declared.Taken.TheVariants as Taken
 use Rattle.engine_laws.specs.Bench.{give_met, take_met}
 use Rattle.engine_laws.specs.Buffers.{SoundBuffer}
 use Rattle.engine_laws.specs.SoundCalls.{start_done, start_sound, start_view}
@@ -32,7 +26,7 @@ use Rattle.guarantee.specs.ClaimKept.{list_sound}
 use Rattle.published.specs.Syntax.{Process, end, choice, nothing, branch, always, output, input, assign, constant, waiting, some_wait}
 use Rattle.published.specs.Agents as Agents
 use Rattle.published.specs.Agents.{Value, refers, value_of, Thread}
-use Rattle.published.specs.Rules.{Reduces, acts, more, stays, goes, Reaches, assigns}
+use Rattle.published.specs.Rules.{Reduces, acts, more, stays, goes, assigns}
 use Rattle.published.specs.Fired.{turns_reach}
 use Rattle.published.specs.Collections.{collects_reach}
 use Rattle.published.specs.ProductLaws.{many_on, stepped_reaches}
@@ -50,15 +44,15 @@ use Rattle.published_laws.specs.Computation.{giving, taking, number_given, numbe
 module _ (E : Process) (w : waiting E ≡ false) where
   giving_acts : (own p v : ℕ) (a : Given) → waiting (giving own p v a E) ≡ false
   unfolding giving waiting some_wait
-  giving_acts own p v (Given.Met u) = refl
-  giving_acts own p v Given.Nobody = w
-  giving_acts own p v (Given.Refused r) = w
+  giving_acts own p v (Ok (Some u)) = refl
+  giving_acts own p v (Ok None) = w
+  giving_acts own p v (Err r) = w
 
   taking_acts : (own p : ℕ) (a : Taken) → waiting (taking own p a E) ≡ false
   unfolding taking waiting some_wait
-  taking_acts own p (Taken.Met u v) = refl
-  taking_acts own p Taken.Nobody = w
-  taking_acts own p (Taken.Refused r) = w
+  taking_acts own p (Ok (Some (u, v))) = refl
+  taking_acts own p (Ok None) = w
+  taking_acts own p (Err r) = w
 
   call_acts : (table state : List ℕ) (k : Any) → waiting (bench_call table state k E) ≡ false
   unfolding bench_call
@@ -76,8 +70,8 @@ bench_acts table state (k ∷ ks) E w =
 
 -- nothing yet, or a number
 data Own : Option Value → Type 0 where
-  no_number : Own none
-  a_number : (v : ℕ) → Own (some (Agents.number v))
+  no_number : Own None
+  a_number : (v : ℕ) → Own (Some (Agents.number v))
 
 own_refers : (o : Option Value) → Own o → (c : ℕ) → refers c o ≡ false
 unfolding refers
@@ -87,15 +81,15 @@ own_refers o (a_number v) c = refl
 module _ (o : Option Value) (h : Own o) where
   own_given : (v : ℕ) (a : Given) → Own (number_given v a o)
   unfolding number_given
-  own_given v (Given.Met u) = a_number v
-  own_given v Given.Nobody = h
-  own_given v (Given.Refused r) = h
+  own_given v (Ok (Some u)) = a_number v
+  own_given v (Ok None) = h
+  own_given v (Err r) = h
 
   own_taken : (a : Taken) → Own (number_taken a o)
   unfolding number_taken
-  own_taken (Taken.Met u v) = a_number v
-  own_taken Taken.Nobody = h
-  own_taken (Taken.Refused r) = h
+  own_taken (Ok (Some (u, v))) = a_number v
+  own_taken (Ok None) = h
+  own_taken (Err r) = h
 
   own_call : (table state : List ℕ) (k : Any) → Own (number_call table state k o)
   unfolding number_call
@@ -125,11 +119,11 @@ module _ (table : List ℕ) (ok : accepted table ≡ true) (fit : (i : ℕ) → 
     -- ---- calls in which the bench has no part
 
     stepped_by : (t : ℕ) (a : Stepped) → (step_call table state t).answer ≡ a → Leads state (step_call table state t).state o E o E
-    stepped_by t (Stepped.Done n d) e =
+    stepped_by t (Ok (n, d)) e =
         stepped_reaches (body_of tb) (OurRules tb) (agent_of tb (bench_at o E) (view state)) (thread_of tb (thread (view state) t))
         (agent_of tb (bench_at o E) (view (step_call table state t).state))
         (step_call_reduced table ok fit state sb (bench_at o E) (bench_is tb o (own_refers o h) E w) t n d e).2.stepped
-    stepped_by t (Stepped.Refused r) e = nothing_happens state (step_call table state t).state (step_refused_keeps table state sb.small t r e) o E
+    stepped_by t (Err r) e = nothing_happens state (step_call table state t).state (step_refused_keeps table state sb.small t r e) o E
 
     ran_by : (n : ℕ) → Leads state (run_call table state n).state o E o E
     ran_by n =
@@ -142,44 +136,44 @@ module _ (table : List ℕ) (ok : accepted table ≡ true) (fit : (i : ℕ) → 
 
     -- ---- give
 
-    given_port : (p v u : ℕ) → (give_call table state p v).answer ≡ Given.Met u → p < ports tb
+    given_port : (p v u : ℕ) → (give_call table state p v).answer ≡ Ok (Some u) → p < ports tb
     unfolding give_call
     given_port p v u e =
         let k = give_on tb (view state) p v in
-        (give_met tb (view state) p v u ((call_answer Given.Refused table state k (Given.Met u) (λ r f i. clash cc)).0 e).1).0
+        (give_met tb (view state) p v u ((call_answer Err table state k (Ok (Some u)) (λ r f i. clash cc)).0 e).1).0
 
     abbrev sending : ℕ → Process
     sending p = choice (branch always (output p (ports (table_of table))) E nothing)
 
-    set_first : (p v : ℕ) → v < 4294967296 → Leads state state o (choice (branch always (assign (ports tb) (constant v)) (sending p) nothing)) (some (Agents.number v)) (sending p)
+    set_first : (p v : ℕ) → v < 4294967296 → Leads state state o (choice (branch always (assign (ports tb) (constant v)) (sending p) nothing)) (Some (Agents.number v)) (sending p)
     unfolding agent_of Agents.holds value_of
     set_first p v l =
         let f : Fits w32 v = record { fits = l } in
-        let moved : Leads state state o (choice (branch always (assign (ports tb) (constant v)) (sending p) nothing)) (some (Agents.number (of_z w32 (to_z w32 v)))) (sending p) =
+        let moved : Leads state state o (choice (branch always (assign (ports tb) (constant v)) (sending p) nothing)) (Some (Agents.number (of_z w32 (to_z w32 v)))) (sending p) =
         rw (← bind_own tb o (Agents.number (of_z w32 (to_z w32 v)))) (goes (acts (more (assigns (to_z w32 v) refl refl))) stays) in
         rw (of_z-to_z f) at moved
 
     given_by : (p v : ℕ) → v < 4294967296 → (a : Given) → (give_call table state p v).answer ≡ a
         → Leads state (give_call table state p v).state o (giving (ports tb) p v a E) (number_given v a o) E
     unfolding giving number_given
-    given_by p v l (Given.Met u) e =
-        let n : Option Value = some (Agents.number v) in
+    given_by p v l (Ok (Some u)) e =
+        let n : Option Value = Some (Agents.number v) in
         let bn = bench_is tb n (own_refers n (a_number v)) E w in
         let sent = (give_call_reduced table ok fit state sb (body_of tb) (OurRules tb) (OurLabels tb) p (ports_and tb n) p (ports tb) E nothing
         (look_port tb n p (given_port p v u e)) v l (look_own tb n) bn u e).1.stepped in
         many_on (Reduces (body_of tb) (OurRules tb)) (set_first p v l)
         (stepped_reaches (body_of tb) (OurRules tb) (agent_of tb (bench_at n (sending p)) (view state)) (bench_at n (sending p))
         (agent_of tb (bench_at n E) (view (give_call table state p v).state)) sent)
-    given_by p v l Given.Nobody e = nothing_happens state (give_call table state p v).state (give_nobody_keeps table state sb.small p v e) o E
-    given_by p v l (Given.Refused r) e = nothing_happens state (give_call table state p v).state (give_refused_keeps table state sb.small p v r e) o E
+    given_by p v l (Ok None) e = nothing_happens state (give_call table state p v).state (give_nobody_keeps table state sb.small p v e) o E
+    given_by p v l (Err r) e = nothing_happens state (give_call table state p v).state (give_refused_keeps table state sb.small p v r e) o E
 
     -- ---- take
 
-    taken_port : (p u v : ℕ) → (take_call table state p).answer ≡ Taken.Met u v → p < ports tb
+    taken_port : (p u v : ℕ) → (take_call table state p).answer ≡ Ok (Some (u, v)) → p < ports tb
     unfolding take_call
     taken_port p u v e =
         let k = take_on tb (view state) p in
-        (take_met tb (view state) p u v ((call_answer Taken.Refused table state k (Taken.Met u v) (λ r f i. clash cc)).0 e).1).0
+        (take_met tb (view state) p u v ((call_answer Err table state k (Ok (Some (u, v))) (λ r f i. clash cc)).0 e).1).0
 
     abbrev receiving : ℕ → Process
     receiving p = choice (branch always (input p (ports (table_of table))) E nothing)
@@ -187,14 +181,14 @@ module _ (table : List ℕ) (ok : accepted table ≡ true) (fit : (i : ℕ) → 
     taken_by_lem : (p : ℕ) (a : Taken) → (take_call table state p).answer ≡ a
         → Leads state (take_call table state p).state o (taking (ports tb) p a E) (number_taken a o) E
     unfolding taking number_taken
-    taken_by_lem p (Taken.Met u v) e =
-        let bn = bench_is tb (some (Agents.number v)) (own_refers (some (Agents.number v)) (a_number v)) E w in
+    taken_by_lem p (Ok (Some (u, v))) e =
+        let bn = bench_is tb (Some (Agents.number v)) (own_refers (Some (Agents.number v)) (a_number v)) E w in
         let q = bind_own tb o (Agents.number v) in
         rw (← q) (stepped_reaches (body_of tb) (OurRules tb) (agent_of tb (bench_at o (receiving p)) (view state)) (bench_at o (receiving p)) _
         (take_call_reduced table ok fit state sb (body_of tb) (OurRules tb) (OurLabels tb) p (ports_and tb o) p (ports tb) E nothing
         (look_port tb o p (taken_port p u v e)) v (rw q bn) u e).1.stepped)
-    taken_by_lem p Taken.Nobody e = nothing_happens state (take_call table state p).state (take_nobody_keeps table state sb.small p e) o E
-    taken_by_lem p (Taken.Refused r) e = nothing_happens state (take_call table state p).state (take_refused_keeps table state sb.small p r e) o E
+    taken_by_lem p (Ok None) e = nothing_happens state (take_call table state p).state (take_nobody_keeps table state sb.small p e) o E
+    taken_by_lem p (Err r) e = nothing_happens state (take_call table state p).state (take_refused_keeps table state sb.small p r e) o E
 
     -- ---- any call
 
@@ -224,10 +218,10 @@ module _ (table : List ℕ) (ok : accepted table ≡ true) (fit : (i : ℕ) → 
 
   -- from the start of an accepted file, whatever is called, and whatever E the bench does afterwards
   pub computation : (state : List ℕ) → length state ≡ state_length → (ks : List Any) (E : Process) → waiting E ≡ false
-      → Leads (start_call table state).state (reached_by table state ks) none (bench_for table (start_call table state).state ks E)
-      (number_after table (start_call table state).state ks none) E
+      → Leads (start_call table state).state (reached_by table state ks) None (bench_for table (start_call table state).state ks E)
+      (number_after table (start_call table state).state ks None) E
   computation state long ks E w =
-      list_leads (start_call table state).state (start_sound table ok fit state (start_done table ok state long)) ks E w none no_number
+      list_leads (start_call table state).state (start_sound table ok fit state (start_done table ok state long)) ks E w None no_number
 
   -- ---- so what 002 proves of computations holds of the engine's states: Proposition 2, for one
 
@@ -237,7 +231,7 @@ module _ (table : List ℕ) (ok : accepted table ≡ true) (fit : (i : ℕ) → 
   unfolding agent_of waiting
   reached_polarity state long ks j k l m n =
       let E = bench_for table (start_call table state).state ks end in
-      let o = number_after table (start_call table state).state ks none in
+      let o = number_after table (start_call table state).state ks None in
       let p = rw (start_view table ok fit state long) at (computation state long ks end refl) in
-      our_proposition_2 (body_of tb) (for_numbers tb) (agent_of tb (bench_at none E) (started tb)) (agent_of tb (bench_at o end) (view (reached_by table state ks)))
-      (started_bare tb (ports_and tb none) E) p (suc j) (suc k) (omega arith) (omega arith) (λ q. n (omega arith))
+      our_proposition_2 (body_of tb) (for_numbers tb) (agent_of tb (bench_at None E) (started tb)) (agent_of tb (bench_at o end) (view (reached_by table state ks)))
+      (started_bare tb (ports_and tb None) E) p (suc j) (suc k) (omega arith) (omega arith) (λ q. n (omega arith))

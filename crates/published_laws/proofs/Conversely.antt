@@ -1,13 +1,13 @@
 -- The other direction of the refinement: every whole turn of a ready thread by 002's rules ends as the engine's step of that thread does, up to what 002 leaves
 -- open. Assumes nothing but what the table grants.
+use Rattle.rules.specs.Answers.{Partner}
 use Prim.Native.Nat.{ℕ, zero, suc, ◌+◌, ◌-◌, ◌<◌}
 use Rattle.std.proofs.Common.{arith, ◌∙◌, inl, inr}
-use Rattle.std.specs.Prelude.{◌≡◌, refl, ◌⊎◌, ◌≢◌, true, ltb, eqb, set}
+use Rattle.std.specs.Prelude.{◌≡◌, refl, ◌⊎◌, ◌≢◌, true, ltb, eqb, set, None, Some}
 use Rattle.std.proofs.Math.Path.{sym, ap}
 use Rattle.std.proofs.Math.Logic.{⊎_elim}
 use Rattle.std.proofs.Math.Bool.{false}
 use mathlib.Core.List.{List, [], ◌∷◌, map}
-use Rattle.std.proofs.Math.Option.{some}
 use Rattle.numbers.specs.Search.{first}
 use Rattle.numbers.specs.Search.Laws.{case_b, first_below}
 use Rattle.table.specs.Table.{Table}
@@ -21,8 +21,6 @@ use Rattle.rules.specs.declared.Direction.{Direction}
 use Rattle.rules.specs.declared.Direction.TheVariants.{Out, In}
 use Rattle.rules.specs.declared.Act.{Act}
 use Rattle.rules.specs.declared.Act.TheVariants.{Tau, Meeting, New, Spawn, Assignment}
-use Rattle.rules.specs.declared.Partner.{Partner}
-use Rattle.rules.specs.declared.Partner.TheVariants.{Nobody, At}
 use Rattle.rules.specs.declared.Move.{Move}
 use Rattle.rules.specs.declared.Move.TheVariants.{Ends, Calls, Waits, Goes, Creates, Spawns, Meets, LacksThread, LacksChannel}
 use Rattle.rules_laws.specs.Granted.{Granted}
@@ -78,8 +76,8 @@ module _ (tb : Table) (s : State) (t : ℕ) where
 
   before_meeting : (i : ℕ) (p : Partner) → ((j : ℕ) → j < i → Passed tb s t j) → Before (meeting i p)
   unfolding Before meeting
-  before_meeting i Nobody h = tt
-  before_meeting i (At u j) h = h
+  before_meeting i None h = tt
+  before_meeting i (Some (u, j)) h = h
 
   before_act : (i : ℕ) (a : Act) → ((j : ℕ) → j < i → Passed tb s t j) → Before (act_move tb s t i a)
   unfolding Before act_move creation spawning
@@ -184,11 +182,11 @@ module _ (tb : Table) (g : Granted tb) (rd : Readable tb) (s : State) (o : Order
     abbrev ws : List Value
     ws = values tb g rd s o t l ready b bn kind
 
-    by_call : Is T (channels_of s) (Agents.thread [] (map some ws) (body_of tb (callee tb (stands_at (thread s t)))) ∷ h.others)
+    by_call : Is T (channels_of s) (Agents.thread [] (map Some ws) (body_of tb (callee tb (stands_at (thread s t)))) ∷ h.others)
     unfolding Of ByProcess
     by_call =
         ⊎_elim
-        (λ (vs, e, q). let z : map some vs ≡ map some ws = sym e ∙ evaluated tb g rd s o t l ready b bn kind in is_end _ _ (rw z at q))
+        (λ (vs, e, q). let z : map Some vs ≡ map Some ws = sym e ∙ evaluated tb g rd s o t l ready b bn kind in is_end _ _ (rw z at q))
         (λ (U, x, y). absurd x)
         (whole_of (body_of tb) (rw (at_call tb g rd s o t l ready b bn kind) at turn))
 
@@ -378,7 +376,7 @@ module _ (tb : Table) (g : Granted tb) (rd : Readable tb) (s : State) (o : Order
         next' = process_at tb (next_of tb (stands_at (thread s u)) (branch_at tb (stands_at (thread s u)) j))
 
         same_as : (e : Direction) → act_of tb (branch_at tb (stands_at (thread s t)) k) ≡ Meeting e → (ĉ : ℕ)
-            → look (env_of tb (thread s t)) (field_a tb (branch_at tb (stands_at (thread s t)) k)) ≡ some (Agents.channel ĉ) → ĉ ≡ channel_by tb s t k
+            → look (env_of tb (thread s t)) (field_a tb (branch_at tb (stands_at (thread s t)) k)) ≡ Some (Agents.channel ĉ) → ĉ ≡ channel_by tb s t k
         same_as e does ĉ q =
             same_channel (env_of tb (thread s t)) (field_a tb (branch_at tb (stands_at (thread s t)) k)) ĉ (channel_by tb s t k) q
             (channel_is tb g rd s o t l ready b bn k x.branch_in e does)

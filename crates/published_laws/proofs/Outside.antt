@@ -1,10 +1,9 @@
 -- Give and take are reductions with the bench as the other thread: (send) and (recv), and then uses of (reclaim). No rule of document 01's own is needed. Assumes
 -- nothing but what the table grants.
-use Rattle.std.specs.Prelude.{ℕ, ◌<◌, ◌≡◌, true, length, set}
+use Rattle.std.specs.Prelude.{ℕ, ◌<◌, ◌≡◌, true, length, set, Some}
 use Rattle.std.proofs.Common.{arith, ◌∙◌, ap}
 use Rattle.std.proofs.Math.Path.{refl}
 use mathlib.Core.List.{List, [], ◌∷◌}
-use Rattle.std.proofs.Math.Option.{some}
 use Rattle.table.specs.Table.{Table, ports, carried}
 use Rattle.table.specs.Layout.{definition_of, slot_type}
 use Rattle.state.specs.State.{State, max_threads, max_channels, thread, stands_at, in_use, type_in, with_thread}
@@ -15,7 +14,6 @@ use Rattle.rules.specs.Moves.{met_by, value_by, met_by_bench}
 use Rattle.rules.specs.Calls.{bench}
 use Rattle.rules.specs.declared.Direction.{Direction}
 use Rattle.rules.specs.declared.Direction.TheVariants.{Out, In}
-use Rattle.rules.specs.declared.Partner.TheVariants.{At}
 use Rattle.rules_laws.specs.Granted.{Granted}
 use Rattle.rules_laws.specs.Reading.Laws.{ready_used, waiting_used}
 use Rattle.rules_laws.specs.Soundness.{RowSound, Sound}
@@ -78,7 +76,7 @@ module _ (tb : Table) (g : Granted tb) (rd : Readable tb) (s : State) (ok : Soun
 
   -- ---- give
 
-  module _ (δ : Env) (c x v : ℕ) (E : Process) (q : Sum) (on : look δ c ≡ some (Agents.channel p)) (has : look δ x ≡ some (Agents.number v)) where
+  module _ (δ : Env) (c x v : ℕ) (E : Process) (q : Sum) (on : look δ c ≡ Some (Agents.channel p)) (has : look δ x ≡ Some (Agents.number v)) where
     -- the bench about to send the number v on port p, and after it
     abbrev giver : Thread
     giver = Agents.thread [] δ (choice (branch always (output c x) E q))
@@ -101,7 +99,7 @@ module _ (tb : Table) (g : Granted tb) (rd : Readable tb) (s : State) (ok : Soun
         (last (send p (field_b tb b) (Agents.number v) refl on (met_commits tb s bench u j p In a) has), refl) end
 
     -- the thread that is found to receive goes on with v
-    pub give_reduced : partner_of tb s bench In p ≡ At u j → Bench tb gave
+    pub give_reduced : partner_of tb s bench In p ≡ Some (u, j) → Bench tb gave
         → (k : Commitment) × SteppedBy def More own (agent_of tb (Agents.thread [] δ (choice (branch always (output c x) E q))) s)
         (Agents.thread [] δ (choice (branch always (output c x) E q))) (fired 0 (by_send (thread_of tb (thread s u)) k))
         (agent_of tb (Agents.thread [] δ E) (met_by_bench tb s u j v))
@@ -123,7 +121,7 @@ module _ (tb : Table) (g : Granted tb) (rd : Readable tb) (s : State) (ok : Soun
 
   -- ---- take
 
-  module _ (δ : Env) (c x : ℕ) (E : Process) (q : Sum) (on : look δ c ≡ some (Agents.channel p)) where
+  module _ (δ : Env) (c x : ℕ) (E : Process) (q : Sum) (on : look δ c ≡ Some (Agents.channel p)) where
     abbrev taker : Thread
     taker = Agents.thread [] δ (choice (branch always (input c x) E q))
 
@@ -145,7 +143,7 @@ module _ (tb : Table) (g : Granted tb) (rd : Readable tb) (s : State) (ok : Soun
         (last (recv p (field_b tb b) (Agents.number (value_by tb (thread s u) j)) refl on (met_commits tb s bench u j p Out a) has), refl) end
 
     -- the thread that is found to send goes on, and the bench has its number
-    pub take_reduced : partner_of tb s bench Out p ≡ At u j → Bench tb took
+    pub take_reduced : partner_of tb s bench Out p ≡ Some (u, j) → Bench tb took
         → (k : Commitment) × SteppedBy def More own (agent_of tb (Agents.thread [] δ (choice (branch always (input c x) E q))) s)
         (Agents.thread [] δ (choice (branch always (input c x) E q))) (fired 0 (by_recv (thread_of tb (thread s u)) k))
         (agent_of tb (Agents.thread [] (bind δ x (Agents.number (value_by tb (thread s u) j))) E) (met_by_bench tb s u j 0))

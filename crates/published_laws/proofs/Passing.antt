@@ -1,13 +1,13 @@
 -- How a ready thread at a choice passes over the branches that do not go ahead: by (next) where the guard is false, by (out) and (in) where nobody answers; and
 -- where no branch goes ahead, by (out), (in) and skip to the last. Assumes nothing but what the table grants.
+use Rattle.rules.specs.Answers.{Partner}
 use Prim.Native.Nat.{ℕ, zero, suc, ◌+◌, ◌<◌}
 use native.Mathlib.Omega.{arith}
-use Rattle.std.specs.Prelude.{◌≡◌, ◌⊎◌, ◌≢◌, true, false, cond, ltb, eqb, get_or, set}
+use Rattle.std.specs.Prelude.{◌≡◌, ◌⊎◌, ◌≢◌, true, false, cond, ltb, eqb, get_or, set, None, Some}
 use Rattle.std.proofs.Math.Path.{refl, ap}
 use Rattle.std.proofs.Common.{◌∙◌, length-set, get_or-set_same, get_or-set_other, eqb-true}
 use Rattle.std.proofs.Math.Logic.{inl, inr, ⊎_elim}
 use mathlib.Core.List.{List, [], ◌∷◌, ◌++◌, append-nil, append_assoc}
-use Rattle.std.proofs.Math.Option.{some}
 use Rattle.std.proofs.lemmas.Bool.{eqb-false}
 use Rattle.numbers.specs.Search.Laws.{case_b, contra}
 use Rattle.table.specs.Table.{Table}
@@ -21,8 +21,6 @@ use Rattle.rules.specs.declared.Direction.{Direction}
 use Rattle.rules.specs.declared.Direction.TheVariants.{Out, In}
 use Rattle.rules.specs.declared.Act.{Act}
 use Rattle.rules.specs.declared.Act.TheVariants.{Tau, Meeting, New, Spawn, Assignment}
-use Rattle.rules.specs.declared.Partner.{Partner}
-use Rattle.rules.specs.declared.Partner.TheVariants.{Nobody, At}
 use Rattle.rules_laws.specs.Granted.{Granted}
 use Rattle.rules_laws.specs.Reading.Laws.{ready_used, holds_elim}
 use Rattle.rules_laws.specs.Soundness.{RowSound, Orderly}
@@ -55,13 +53,13 @@ module _ (tb : Table) (s : State) (t : ℕ) where
     unmet : (d : Direction) → guard_holds tb (branch_at tb (stands_at (thread s t)) i) (thread s t) ≡ true
         → act_of tb (branch_at tb (stands_at (thread s t)) i) ≡ Meeting d → Unanswered (opposite d) (channel_by tb s t i) → Passed i
 
-  meeting_waits : (i : ℕ) (p : Partner) → goes_ahead (meeting i p) ≡ false → p ≡ Nobody
+  meeting_waits : (i : ℕ) (p : Partner) → goes_ahead (meeting i p) ≡ false → p ≡ None
   unfolding meeting goes_ahead
-  meeting_waits i Nobody e = refl
-  meeting_waits i (At u j) e = contra refl e
+  meeting_waits i None e = refl
+  meeting_waits i (Some (u, j)) e = contra refl e
 
   act_waits : (i : ℕ) (a : Act) → goes_ahead (act_move tb s t i a) ≡ false
-      → (d : Direction) × (a ≡ Meeting d) × (partner_of tb s t (opposite d) (channel_by tb s t i) ≡ Nobody)
+      → (d : Direction) × (a ≡ Meeting d) × (partner_of tb s t (opposite d) (channel_by tb s t i) ≡ None)
   unfolding act_move goes_ahead creation spawning
   act_waits i Tau e = contra refl e
   act_waits i (Meeting d) e = (d, refl, meeting_waits i (partner_of tb s t (opposite d) (channel_by tb s t i)) e)
@@ -134,7 +132,7 @@ module _ (tb : Table) (g : Granted tb) (rd : Readable tb) (s : State) (o : Order
     pub channel_in : channel_by tb s t i < max_channels
     channel_in = (holds_elim tb (thread s t) (channel_by tb s t i) (on_held tb g (type_in s) (thread s t) sound used i m d e)).channel_in
 
-    pub channel_is : look (env_of tb (thread s t)) (field_a tb (branch_at tb (stands_at (thread s t)) i)) ≡ some (Agents.channel (channel_by tb s t i))
+    pub channel_is : look (env_of tb (thread s t)) (field_a tb (branch_at tb (stands_at (thread s t)) i)) ≡ Some (Agents.channel (channel_by tb s t i))
     channel_is =
         let a = field_a tb (branch_at tb (stands_at (thread s t)) i) in
         let x = meets_by tb g (type_in s) (thread s t) sound used i m d e in

@@ -1,6 +1,6 @@
 -- The other direction of the refinement, over the bytes that the bench software sees: every whole turn by 002's rules of a thread whose step is done. Assumes
 -- nothing.
-use Rattle.std.specs.Prelude.{ℕ, ◌<◌, ◌≡◌, true, List, get_or}
+use Rattle.std.specs.Prelude.{ℕ, ◌<◌, ◌≡◌, true, List, get_or, Ok}
 use Rattle.std.proofs.Common.{ltb-true}
 use Rattle.numbers.specs.Tests.{parts}
 use Rattle.table.specs.Table.{Table, table_of}
@@ -8,7 +8,6 @@ use Rattle.loader.specs.Load.{accepted}
 use Rattle.state.specs.State.{State, max_threads, view, thread, stands_at, is_ready}
 use Rattle.rules.specs.Moves.{move}
 use Rattle.rules.specs.Calls.{can_step, step_call}
-use Rattle.rules.specs.declared.Stepped.TheVariants as Stepped
 use Rattle.rules.specs.declared.Deed.{Deed}
 use Rattle.rules_laws.specs.Granted.{Granted}
 use Rattle.rules_laws.specs.Accepted.{granted}
@@ -42,7 +41,7 @@ module _ (table : List ℕ) (ok : accepted table ≡ true) (fit : (i : ℕ) → 
   sound = view_sound table state sb
 
   -- the whole turn of a step that is done ends, up to what 002 leaves open, in an agent that uses of (reclaim) take to that of the bytes after the call
-  pub step_call_conversely : (b : Thread) → Bench (table_of table) b → (t k : ℕ) (d : Deed) → (step_call table state t).answer ≡ Stepped.Done k d → (T : Agent)
+  pub step_call_conversely : (b : Thread) → Bench (table_of table) b → (t k : ℕ) (d : Deed) → (step_call table state t).answer ≡ Ok (k, d) → (T : Agent)
       → WholeTurn (body_of (table_of table)) (agent_of (table_of table) b (view state)) (thread_of (table_of table) (thread (view state) t)) T
       → (E : Agent) × UpTo (body_of (table_of table)) (for_numbers (table_of table)) (agent_of (table_of table) b (view state))
       (thread_of (table_of table) (thread (view state) t)) T E
@@ -54,7 +53,7 @@ module _ (table : List ℕ) (ok : accepted table ≡ true) (fit : (i : ℕ) → 
       rw q (step_conversely tb g rd (view state) sound t l ready b bn z T h)
 
   -- where 002 leaves nothing open, it ends in such an agent itself, its threads in some order
-  pub step_call_exactly : (b : Thread) → Bench (table_of table) b → (t k : ℕ) (d : Deed) → (step_call table state t).answer ≡ Stepped.Done k d
+  pub step_call_exactly : (b : Thread) → Bench (table_of table) b → (t k : ℕ) (d : Deed) → (step_call table state t).answer ≡ Ok (k, d)
       → Settled (table_of table) b (view state) t (move (table_of table) (view state) t) → (T : Agent)
       → WholeTurn (body_of (table_of table)) (agent_of (table_of table) b (view state)) (thread_of (table_of table) (thread (view state) t)) T
       → (E : Agent) × Is T E.channels E.threads × Many Reclaims E (agent_of (table_of table) b (view (step_call table state t).state))

@@ -1,7 +1,8 @@
 -- A step of the engine is a turn of its thread by 002's reductions, which ends with the rule of its move, and then uses of (reclaim). The branches before the one that is taken are passed over in
 -- their order, by (next), (out) and (in); so 002's local priority is document 01's. Assumes nothing but what the
 -- table grants.
-use Rattle.std.specs.Prelude.{ℕ, ◌<◌, ◌≡◌, true, ltb, eqb}
+use Rattle.rules.specs.Answers.{Partner}
+use Rattle.std.specs.Prelude.{ℕ, ◌<◌, ◌≡◌, true, ltb, eqb, None, Some}
 use Rattle.std.proofs.Common.{arith}
 use Rattle.std.proofs.Math.Path.{refl}
 use borrow.Author.Tests.{ltb-true, ltb-false, eqb-true, eqb-false, not-true}
@@ -17,8 +18,6 @@ use Rattle.rules.specs.Moves.{is_free_thread, is_free_channel, free_thread, free
 use Rattle.rules.specs.declared.Direction.{Direction}
 use Rattle.rules.specs.declared.Act.{Act}
 use Rattle.rules.specs.declared.Act.TheVariants.{Tau, Meeting, New, Spawn, Assignment}
-use Rattle.rules.specs.declared.Partner.{Partner}
-use Rattle.rules.specs.declared.Partner.TheVariants.{Nobody, At}
 use Rattle.rules.specs.declared.Move.{Move}
 use Rattle.rules.specs.declared.Move.TheVariants.{Calls, Waits, Goes, Meets, LacksThread, LacksChannel}
 use Rattle.next_rows.specs.Around.{around_in}
@@ -85,8 +84,8 @@ module _ (tb : Table) (g : Granted tb) (rd : Readable tb) (s : State) (ok : Soun
     meets_reduced : (k : ℕ) (d : Direction) → FirstOpen k (Meeting d) → (p : Partner) → partner_of tb s t (opposite d) (channel_by tb s t k) ≡ p
         → goes_ahead (meeting k p) ≡ true → Reduced (meeting k p)
     unfolding meeting goes_ahead
-    meets_reduced k d x Nobody e y z = contra y refl
-    meets_reduced k d (x, before) (At u j) e y z =
+    meets_reduced k d x None e y z = contra y refl
+    meets_reduced k d (x, before) (Some (u, j)) e y z =
         let a = partner_answers tb s t (opposite d) (channel_by tb s t k) u j e in
         rw (meets_fired k u j d x a) (meeting_reduced tb g rd s ok.orderly t l ready b bn More own k x.at_choice x.branch_in before u j d x a)
 

@@ -1,6 +1,7 @@
 -- Demand 2 of document 01, of the call and in 002's words: a collection takes just the threads that Definition 1 calls disabled in the agent that the state
 -- stands for, and answers how many they are. Taken is read off the bytes: in use before the call and free after it. Assumes nothing.
-use Rattle.std.specs.Prelude.{ℕ, ◌<◌, ◌≡◌, refl, ◌↔◌, true, List, [], ltb, get_or}
+use Rattle.collector.specs.Answers.{Collected}
+use Rattle.std.specs.Prelude.{ℕ, ◌<◌, ◌≡◌, refl, ◌↔◌, true, List, [], ltb, get_or, Ok}
 use Rattle.std.proofs.Common.{arith, sym, ◌∙◌, ltb-true, ltb-false, lt-ltb}
 use Rattle.std.proofs.Math.ListN.{get_or-eq_default}
 use Rattle.numbers.specs.Count.{bit}
@@ -15,7 +16,6 @@ use Rattle.rules_laws.specs.Soundness.{Sound}
 use Rattle.engine_laws.specs.Buffers.{SoundBuffer, view_sound}
 use Rattle.collector.specs.Collect.{taken, taken_count, collect_call}
 use Rattle.collector.specs.Collect.Laws.{count_says}
-use Rattle.collector.specs.declared.Collected.TheVariants as Collected
 use Rattle.collector_laws.specs.Out.{taken_thread}
 use Rattle.guarantee.specs.Claim.{taken_by}
 use Rattle.guarantee.specs.ClaimKept.{collect_done, collect_view, taken_is}
@@ -27,7 +27,7 @@ use Rattle.published_laws.specs.Products.{Bench}
 use Rattle.published_laws.proofs.Collecting.{taken_disabled}
 use Rattle.published_laws.specs.Taking.{place_in}
 
-same_number : (n m : ℕ) → Collected.Done n ≡ Collected.Done m → n ≡ m
+same_number : (n m : ℕ) → ◌≡◌ {A = Collected} (Ok n) (Ok m) → n ≡ m
 same_number n m e = cc
 
 module _ (table : List ℕ) (ok : accepted table ≡ true) (fit : (i : ℕ) → get_or table i 0 < 256) (state : List ℕ) (sb : SoundBuffer table state) where
@@ -64,7 +64,7 @@ module _ (table : List ℕ) (ok : accepted table ≡ true) (fit : (i : ℕ) → 
         ((λ y. h.0 (sym (taken_row t u) ∙ y)), (λ n. taken_row t u ∙ h.1 n))
 
   -- the answer is how many are taken
-  pub taken_number : (n : ℕ) → (collect_call table state).answer ≡ Collected.Done n → n ≡ sum_to (λ t. bit (taken_by table state t)) max_threads
+  pub taken_number : (n : ℕ) → (collect_call table state).answer ≡ Ok n → n ≡ sum_to (λ t. bit (taken_by table state t)) max_threads
   unfolding taken_by
   taken_number n e =
       same_number n (taken_count tb (view state)) (sym e ∙ collect_done table ok state sb) ∙ count_says tb (view state)

@@ -1,7 +1,8 @@
 -- The answer to a step tells which rule fired, by which branch and with whom. Assumes nothing but what the table grants.
 use Prim.Native.Nat.{ℕ, suc, ◌-◌, ◌<◌}
 use native.Mathlib.Omega.{arith}
-use Rattle.std.specs.Prelude.{◌≡◌, refl, ◌⊎◌, true, set}
+use Rattle.rules.specs.Answers.{Stepped}
+use Rattle.std.specs.Prelude.{◌≡◌, refl, ◌⊎◌, true, set, Ok}
 use Rattle.std.proofs.Common.{sym}
 use Rattle.std.proofs.Math.Path.{ap}
 use Rattle.std.proofs.Math.Logic.{inl, inr}
@@ -22,7 +23,6 @@ use Rattle.rules.specs.declared.Act.{Act}
 use Rattle.rules.specs.declared.Act.TheVariants.{Tau, Meeting, New, Spawn, Assignment}
 use Rattle.rules.specs.declared.Move.{Move}
 use Rattle.rules.specs.declared.Move.TheVariants.{Ends, Calls, Waits, Goes, Creates, Spawns, Meets, LacksThread, LacksChannel}
-use Rattle.rules.specs.declared.Stepped.TheVariants as Stepped
 use Rattle.rules.specs.declared.Deed.{Deed}
 use Rattle.rules_laws.specs.Reading.Laws.{ready_used}
 use Rattle.rules_laws.specs.Soundness.{Orderly}
@@ -47,8 +47,10 @@ unfolding meeting_rule
 meeting_rule_lem Out x k = inl refl
 meeting_rule_lem In x k = inr refl
 
-same_deed : (n k : ℕ) (a d : Deed) → Stepped.Done n a ≡ Stepped.Done k d → a ≡ d
-same_deed n k a d e = cc
+same_deed : (n k : ℕ) (a d : Deed) → ◌≡◌ {A = Stepped} (Ok (n, a)) (Ok (k, d)) → a ≡ d
+same_deed n k a d e =
+    let q : ◌≡◌ {A = ℕ × Deed} (n, a) (k, d) = cc in
+    ap (λ (x : ℕ × Deed). x.1) q
 
 module _ (tb : Table) (rd : Readable tb) (s : State) (o : Orderly tb s) (t : ℕ) (l : t < max_threads) (ready : is_ready (thread s t) ≡ true) where
   spawned_row : (i u : ℕ) → u < max_threads
@@ -60,7 +62,7 @@ module _ (tb : Table) (rd : Readable tb) (s : State) (o : Orderly tb s) (t : ℕ
       get_or-set_same (set s.threads t next) u (resumed (thread s t) (child_of tb (stands_at (thread s t)) r)) []
       (omega (arith, length-set s.threads t next, o.shaped.all_threads))
 
-  tells_by : (n : ℕ) (m : Move) → Chosen tb s t m → (k : ℕ) (d : Deed) → step_answer n m ≡ Stepped.Done k d
+  tells_by : (n : ℕ) (m : Move) → Chosen tb s t m → (k : ℕ) (d : Deed) → step_answer n m ≡ Ok (k, d)
       → Tells tb s (perform tb s t m) t d (fired_by tb s t m)
   unfolding Chosen step_answer Tells TellsWith fired_by
   tells_by n Ends x k d e = rw (← same_deed n k _ d e)
@@ -81,6 +83,6 @@ module _ (tb : Table) (rd : Readable tb) (s : State) (o : Orderly tb s) (t : ℕ
   tells_by n LacksChannel x k d e = clash cc
 
   -- the answer to the step of thread t tells the rule with which its turn ends
-  pub answer_tells : (n k : ℕ) (d : Deed) → step_answer n (move tb s t) ≡ Stepped.Done k d
+  pub answer_tells : (n k : ℕ) (d : Deed) → step_answer n (move tb s t) ≡ Ok (k, d)
       → Tells tb s (perform tb s t (move tb s t)) t d (fired_by tb s t (move tb s t))
   answer_tells n k d e = tells_by n (move tb s t) (chosen tb s t) k d e

@@ -1,10 +1,9 @@
 -- A spawn and a meeting are reductions: (spawn), (send), (recv). Assumes nothing but what the table grants.
-use Rattle.std.specs.Prelude.{ℕ, ◌<◌, ◌≡◌, refl, ◌≢◌, length}
+use Rattle.std.specs.Prelude.{ℕ, ◌<◌, ◌≡◌, refl, ◌≢◌, length, Some}
 use Rattle.std.proofs.Common.{arith, ◌∙◌}
 use Rattle.std.proofs.Math.Path.{sym, ap}
 use Rattle.std.proofs.Math.Bool.{true}
 use mathlib.Core.List.{List, [], ◌∷◌}
-use Rattle.std.proofs.Math.Option.{some}
 use Rattle.std.proofs.Math.ListN.{get_or, set, length-set}
 use Rattle.std.proofs.lemmas.List.{set-get_or, set_comm}
 use Rattle.std.proofs.Math.Seq.{get_or-set_other}
@@ -26,7 +25,7 @@ use Rattle.rules_laws.specs.ThreadRow.{resumed_ready}
 use Rattle.rules_laws.specs.Onward.{met_by_ready}
 use Rattle.rules_laws.specs.Meetings.{meets_by, value_type}
 use Rattle.rules_laws.specs.Chosen.{channel_by, Open, Spawning, Answering}
-use Rattle.published.specs.Syntax.{Sum, waits}
+use Rattle.published.specs.Syntax.{Sum}
 use Rattle.published.specs.Agents as Agents
 use Rattle.published.specs.Agents.{◌∈◌, Value, look, Commitment, Thread, Agent, agent}
 use Rattle.published.specs.Rules.{Rearranged, same_first, swapped, twice, spawn, send, recv}
@@ -66,8 +65,8 @@ module _ (tb : Table) (g : Granted tb) (rd : Readable tb) (ty : ℕ → ℕ) (ro
   k = field_b tb (branch_at tb (stands_at row) i)
 
   -- the value of the sender, row, as the receiver, mate, has it
-  pub given_value : (w : Value) × (look (env_of tb row) (field_b tb (branch_at tb (stands_at row) i)) ≡ some w)
-      × (value_as (slot_type tb (definition_of tb (stands_at mate)) (field_b tb (branch_at tb (stands_at mate) j))) (value_by tb row i) ≡ some w)
+  pub given_value : (w : Value) × (look (env_of tb row) (field_b tb (branch_at tb (stands_at row) i)) ≡ Some w)
+      × (value_as (slot_type tb (definition_of tb (stands_at mate)) (field_b tb (branch_at tb (stands_at mate) j))) (value_by tb row i) ≡ Some w)
   unfolding value_by
   given_value =
       let m = meets_by tb g ty row r used i l Out e in
@@ -191,8 +190,8 @@ module _ (tb : Table) (g : Granted tb) (rd : Readable tb) (s : State) (o : Order
           (agent (channels_of s) (thread_of tb own ∷ (thread_of tb mate ∷ apart)))
 
       send_by : act_of tb (branch_at tb (stands_at (thread s t)) k) ≡ Meeting Out → act_of tb (branch_at tb (stands_at (thread s u)) j) ≡ Meeting In
-          → (w : Value) → look (env_of tb (thread s t)) (field_b tb (branch_at tb (stands_at (thread s t)) k)) ≡ some w
-          → value_as (slot_type tb (definition_of tb (stands_at (thread s u))) (field_b tb (branch_at tb (stands_at (thread s u)) j))) (value_by tb (thread s t) k) ≡ some w
+          → (w : Value) → look (env_of tb (thread s t)) (field_b tb (branch_at tb (stands_at (thread s t)) k)) ≡ Some w
+          → value_as (slot_type tb (definition_of tb (stands_at (thread s u))) (field_b tb (branch_at tb (stands_at (thread s u)) j))) (value_by tb (thread s t) k) ≡ Some w
           → (Γ : List Commitment) (q : Sum) → Meeting-by Out Γ q
       unfolding tip prefix_of waiting_thread opposite pledge firing meeting_rule
       send_by does does' w has gets Γ q =
@@ -207,8 +206,8 @@ module _ (tb : Table) (g : Granted tb) (rd : Readable tb) (s : State) (o : Order
           (send (channel_by tb s t k) (field_b tb (branch_at tb (stands_at (thread s u)) j)) w (guard_true x.passes) c commits has, refl)
 
       recv_by : act_of tb (branch_at tb (stands_at (thread s t)) k) ≡ Meeting In → act_of tb (branch_at tb (stands_at (thread s u)) j) ≡ Meeting Out
-          → (w : Value) → look (env_of tb (thread s u)) (field_b tb (branch_at tb (stands_at (thread s u)) j)) ≡ some w
-          → value_as (slot_type tb (definition_of tb (stands_at (thread s t))) (field_b tb (branch_at tb (stands_at (thread s t)) k))) (value_by tb (thread s u) j) ≡ some w
+          → (w : Value) → look (env_of tb (thread s u)) (field_b tb (branch_at tb (stands_at (thread s u)) j)) ≡ Some w
+          → value_as (slot_type tb (definition_of tb (stands_at (thread s t))) (field_b tb (branch_at tb (stands_at (thread s t)) k))) (value_by tb (thread s u) j) ≡ Some w
           → (Γ : List Commitment) (q : Sum) → Meeting-by In Γ q
       unfolding tip prefix_of waiting_thread opposite pledge firing meeting_rule
       recv_by does does' w has gets Γ q =

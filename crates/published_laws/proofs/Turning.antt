@@ -1,5 +1,7 @@
 -- A run is as many turns as it has steps, one after the other, each of the thread that is the first ready from the turn on. Assumes nothing but what the table
 -- grants.
+use Rattle.std.specs.declared.ops.ControlFlow.TheVariants.{Break, Continue}
+use Rattle.rules.specs.Answers.{Turn}
 use Prim.Native.Nat.{ℕ, zero, suc, ◌<◌}
 use Rattle.std.proofs.Common.{arith, ◌∙◌}
 use Rattle.std.specs.Prelude.{◌≡◌, true, ltb, get_or}
@@ -16,8 +18,6 @@ use Rattle.rules.specs.Calls.{step_answer, next_ready, past_turn, turn_for, turn
 use Rattle.rules.specs.declared.Move.{Move}
 use Rattle.rules.specs.declared.Move.TheVariants.{Ends, Calls, Waits, Goes, Creates, Spawns, Meets, LacksThread, LacksChannel}
 use Rattle.rules.specs.declared.Reason.{Reason}
-use Rattle.rules.specs.declared.Turn.{Turn}
-use Rattle.rules.specs.declared.Turn.TheVariants.{Went, Stopped}
 use Rattle.next_rows.specs.Around.{next_ready_in}
 use Rattle.rules_laws.specs.Granted.{Granted}
 use Rattle.rules_laws.specs.Soundness.{Sound}
@@ -31,7 +31,7 @@ use Rattle.published_laws.specs.Firing.{fired_by, next_had, had_in}
 use Rattle.published_laws.specs.Stepping.{Allowed}
 use Rattle.published_laws.proofs.Stepping.{step_reduced}
 
-went_allowed : (t : ℕ) (m : Move) → turn_by t m ≡ Went → Allowed m
+went_allowed : (t : ℕ) (m : Move) → turn_by t m ≡ Continue tt → Allowed m
 unfolding step_answer turn_for turn_by Allowed
 went_allowed t Ends e = tt
 went_allowed t Calls e = tt
@@ -43,7 +43,7 @@ went_allowed t (Meets i u j) e = tt
 went_allowed t LacksThread e = clash cc
 went_allowed t LacksChannel e = clash cc
 
-went_stopped : {A : Type 0} (r : Reason) → Stopped r ≡ Went → A
+went_stopped : {A : Type 0} (r : Reason) → ◌≡◌ {A = Turn} (Break r) (Continue tt) → A
 went_stopped r e = clash cc
 
 -- a list of the numbers below n and one more, by its first
@@ -61,24 +61,24 @@ no_steps tb s = tabulate_none (λ i. next_had tb (course_of tb i s).state)
 
 module _ (tb : Table) (g : Granted tb) (rd : Readable tb) (b : Thread) (bn : Bench tb b) where
   -- what thread t's turn comes to, where it went and where it stopped
-  turn_went : (s : State) → Sound tb s → (t : ℕ) → t < max_threads → is_ready (thread s t) ≡ true → turn_by t (move tb s t) ≡ Went
+  turn_went : (s : State) → Sound tb s → (t : ℕ) → t < max_threads → is_ready (thread s t) ≡ true → turn_by t (move tb s t) ≡ Continue tt
       → SteppedBy (body_of tb) (OurRules tb) (OurLabels tb) (agent_of tb b s) (thread_of tb (thread s t)) (fired_by tb s t (move tb s t))
-      (agent_of tb b (turn_end tb s t Went).state)
+      (agent_of tb b (turn_end tb s t (Continue tt)).state)
   unfolding turn_end agent_of channels_of past_turn with_mark
   turn_went s ok t l r e = step_reduced tb g rd s ok t l r b bn (went_allowed t (move tb s t) e)
 
-  turn_stopped : (s : State) (t : ℕ) (w : Turn) (r : Reason) → (turn_end tb s t w).turn ≡ Stopped r → agent_of tb b (turn_end tb s t w).state ≡ agent_of tb b s
+  turn_stopped : (s : State) (t : ℕ) (w : Turn) (r : Reason) → (turn_end tb s t w).turn ≡ Break r → agent_of tb b (turn_end tb s t w).state ≡ agent_of tb b s
   unfolding turn_end agent_of channels_of past_turn with_mark
-  turn_stopped s t Went r e = clash cc
-  turn_stopped s t (Stopped x) r e = refl
+  turn_stopped s t (Continue tt) r e = clash cc
+  turn_stopped s t (Break x) r e = refl
 
   end_turn : (s : State) (t : ℕ) (w : Turn) → (turn_end tb s t w).turn ≡ w
   unfolding turn_end
-  end_turn s t Went = refl
-  end_turn s t (Stopped r) = refl
+  end_turn s t (Continue tt) = refl
+  end_turn s t (Break r) = refl
 
   -- the turn that a run takes is a turn of the next ready thread
-  took_turn : (s : State) → Sound tb s → (take_turn tb s).turn ≡ Went
+  took_turn : (s : State) → Sound tb s → (take_turn tb s).turn ≡ Continue tt
       → SteppedBy (body_of tb) (OurRules tb) (OurLabels tb) (agent_of tb b s) (next_had tb s).who (next_had tb s).does (agent_of tb b (take_turn tb s).state)
   unfolding take_turn next_had
   took_turn s ok e =
@@ -86,18 +86,18 @@ module _ (tb : Table) (g : Granted tb) (rd : Readable tb) (b : Thread) (bn : Ben
       let w = turn_by t (move tb s t) in
       case_b (ltb t max_threads)
       (λ y. let l : t < max_threads = ltb-true t max_threads y in
-      let q : w ≡ Went = sym (end_turn s t w) ∙ (rw y at e) in
+      let q : w ≡ Continue tt = sym (end_turn s t w) ∙ (rw y at e) in
       rw (y, q) (turn_went s ok t l (next_ready_in s l) q))
       (λ y. went_stopped _ (rw y at e))
 
-  no_turn : (s : State) (r : Reason) → (take_turn tb s).turn ≡ Stopped r → agent_of tb b (take_turn tb s).state ≡ agent_of tb b s
+  no_turn : (s : State) (r : Reason) → (take_turn tb s).turn ≡ Break r → agent_of tb b (take_turn tb s).state ≡ agent_of tb b s
   unfolding take_turn
   no_turn s r e =
       let t = next_ready s in
       case_b (ltb t max_threads) (λ y. rw y (turn_stopped s t (turn_by t (move tb s t)) r (rw y at e))) (λ y. rw y)
 
   -- after a turn that went the run is the run from there
-  later_same : (s : State) (k : ℕ) → (take_turn tb s).turn ≡ Went → next_had tb s ∷ had_in tb (take_turn tb s).state k ≡ had_in tb s (suc k)
+  later_same : (s : State) (k : ℕ) → (take_turn tb s).turn ≡ Continue tt → next_had tb s ∷ had_in tb (take_turn tb s).state k ≡ had_in tb s (suc k)
   unfolding had_in course_of onward one_more
   later_same s k e =
       let f : ℕ → Had = λ i. next_had tb (course_of tb i s).state in
@@ -111,8 +111,8 @@ module _ (tb : Table) (g : Granted tb) (rd : Readable tb) (b : Thread) (bn : Ben
       → Turns (body_of tb) (OurRules tb) (OurLabels tb) (had_in tb s (onward w (take_turn tb s).state (course_of tb n)).steps)
       (agent_of tb b s) (agent_of tb b (onward w (take_turn tb s).state (course_of tb n)).state)
   unfolding onward one_more
-  onward_turns n s ok Went e h = rw (← later_same s (course_of tb n (take_turn tb s).state).steps e) (had (took_turn s ok e) h)
-  onward_turns n s ok (Stopped r) e h = rw (no_turn s r e, no_steps tb s) none_had
+  onward_turns n s ok (Continue tt) e h = rw (← later_same s (course_of tb n (take_turn tb s).state).steps e) (had (took_turn s ok e) h)
+  onward_turns n s ok (Break r) e h = rw (no_turn s r e, no_steps tb s) none_had
 
   -- a run of at most n steps
   pub course_turns : (n : ℕ) (s : State) → Sound tb s

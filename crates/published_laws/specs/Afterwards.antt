@@ -1,7 +1,6 @@
 -- The thread of a row that a move writes: what the rule of 002 says of it. Assumes nothing but what the table grants.
-use Rattle.std.specs.Prelude.{ℕ, ◌<◌, ◌≡◌, true, List, []}
+use Rattle.std.specs.Prelude.{ℕ, ◌<◌, ◌≡◌, true, List, [], Some}
 use Rattle.std.proofs.Common.{sym, ◌∙◌, of_z}
-use Rattle.std.proofs.Math.Option.{some}
 use Rattle.std.specs.Int.{w32}
 use Rattle.table.specs.Table.{Table, slot_count}
 use Rattle.table.specs.Layout.{branch_count, definition_of, slot_type}
@@ -54,7 +53,7 @@ module _ (tb : Table) (g : Granted tb) (ty : ℕ → ℕ) (row : List ℕ) (r : 
 
   -- ---- and has v in slot a, which is w by its type
 
-  stored_thread : (a v : ℕ) (w : Value) → a < slot_count tb (definition_of tb (stands_at row)) → value_as (slot_type tb (definition_of tb (stands_at row)) a) v ≡ some w
+  stored_thread : (a v : ℕ) (w : Value) → a < slot_count tb (definition_of tb (stands_at row)) → value_as (slot_type tb (definition_of tb (stands_at row)) a) v ≡ Some w
       → thread_of tb (stored (resumed row m) a v) ≡ Agents.thread [] (bind (env_of tb row) a w) (process_at tb m)
   stored_thread a v w o e =
       let new = stored (resumed row m) a v in
@@ -63,7 +62,7 @@ module _ (tb : Table) (g : Granted tb) (ty : ℕ → ℕ) (row : List ℕ) (r : 
       let q : definition_of tb (stands_at new) ≡ definition_of tb (stands_at row) = rw node (branching tb g ty row r u i l).next.same in
       let has : slot_of new a ≡ v = stored_same (resumed row m) a v (resumed_long row m r.long) in_row in
       let o' : a < slot_count tb (definition_of tb (stands_at new)) = rw q o in
-      let x : slot_value tb new a ≡ some w = slot_value_lem tb new a o' ∙ rw (q, has) e in
+      let x : slot_value tb new a ≡ Some w = slot_value_lem tb new a o' ∙ rw (q, has) e in
       thread_is tb new m (bind (env_of tb row) a w) (stored_ready row m a v) node
       (sym (env_bound tb row new q a w in_row x (λ k n. stored_other (resumed row m) a v k n ∙ resumed_slot row m k)))
 
@@ -99,7 +98,7 @@ module _ (tb : Table) (g : Granted tb) (ty : ℕ → ℕ) (row : List ℕ) (r : 
   gave_thread e v = rw e next_thread
 
   pub received_thread : act_of tb (branch_at tb (stands_at row) i) ≡ Meeting In → (v : ℕ) (w : Value)
-      → value_as (slot_type tb (definition_of tb (stands_at row)) (field_b tb (branch_at tb (stands_at row) i))) v ≡ some w
+      → value_as (slot_type tb (definition_of tb (stands_at row)) (field_b tb (branch_at tb (stands_at row) i))) v ≡ Some w
       → thread_of tb (met_by tb row i v)
       ≡ Agents.thread [] (bind (env_of tb row) (field_b tb (branch_at tb (stands_at row) i)) w) (process_at tb (next_of tb (stands_at row) (branch_at tb (stands_at row) i)))
   unfolding met_by side_of met

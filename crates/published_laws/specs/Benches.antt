@@ -1,9 +1,8 @@
 -- A bench for every table: it knows the ports, by the variables that have their numbers, and has one variable more for a number. Assumes nothing.
-use Rattle.std.specs.Prelude.{ℕ, ◌<◌, ◌≡◌, refl, true, false, ltb}
+use Rattle.std.specs.Prelude.{ℕ, ◌<◌, ◌≡◌, refl, true, false, ltb, None, Option, Some}
 use Rattle.std.proofs.Common.{arith, sym, ◌∙◌, ltb-true, ltb-false}
 use Rattle.std.proofs.Math.Path.{ap}
 use mathlib.Core.List.{[], ◌∷◌, ◌++◌}
-use Rattle.std.proofs.Math.Option.{Option, none, some}
 use Rattle.std.proofs.Math.ListN.{length, get_or-append, get_or-eq_default}
 use Rattle.std.proofs.Math.Seq.{get_or-append_seam}
 use Rattle.numbers.specs.Search.{tabulate}
@@ -17,33 +16,33 @@ use Rattle.published_laws.specs.Products.{Bench}
 
 -- the variables of the ports, and variable P, for a number
 unfoldable pub ports_and : Table → Option Value → Env
-ports_and tb o = tabulate (ports tb) (λ c. some (channel c)) ++ (o ∷ [])
+ports_and tb o = tabulate (ports tb) (λ c. Some (channel c)) ++ (o ∷ [])
 
 mentions_ports : (c : ℕ) (l : Env) (o : Option Value) → refers c o ≡ false → mentions c (l ++ (o ∷ [])) ≡ mentions c l
 unfolding mentions
 mentions_ports c [] o f = rw f
 mentions_ports c (x ∷ l) o f = rw (mentions_ports c l o f)
 
-bind_last : (l : Env) (o : Option Value) (v : Value) → bind (l ++ (o ∷ [])) (length l) v ≡ l ++ (some v ∷ [])
+bind_last : (l : Env) (o : Option Value) (v : Value) → bind (l ++ (o ∷ [])) (length l) v ≡ l ++ (Some v ∷ [])
 unfolding bind
 bind_last [] o v = refl
 bind_last (x ∷ l) o v = rw (bind_last l o v)
 
 module _ (tb : Table) where
   abbrev channels : Env
-  channels = tabulate (ports tb) (λ c. some (channel c))
+  channels = tabulate (ports tb) (λ c. Some (channel c))
 
-  look_channels : (c : ℕ) → c < ports tb → look channels c ≡ some (channel c)
-  look_channels c l = get_d_tabulate (ports tb) c (λ c. some (channel c)) none l
+  look_channels : (c : ℕ) → c < ports tb → look channels c ≡ Some (channel c)
+  look_channels c l = get_d_tabulate (ports tb) c (λ c. Some (channel c)) None l
 
-  known_port : (c : ℕ) (E : Process) (x : ℕ) → look channels x ≡ some (channel c) → ltb c (ports tb) ≡ true
+  known_port : (c : ℕ) (E : Process) (x : ℕ) → look channels x ≡ Some (channel c) → ltb c (ports tb) ≡ true
   known_port c E x e =
       case_b (ltb x (ports tb))
       (λ y. let l = ltb-true x (ports tb) y in
-      let q : some (channel x) ≡ some (channel c) = sym (look_channels x l) ∙ e in
+      let q : Some (channel x) ≡ Some (channel c) = sym (look_channels x l) ∙ e in
       let z : x ≡ c = cc in rw z at y)
-      (λ y. let q : none ≡ some (channel c) =
-      sym (get_or-eq_default channels none {n = x} (omega (arith, ltb-false x (ports tb) y, length_tabulate (ports tb) (λ c. some (channel c))))) ∙ e in
+      (λ y. let q : None ≡ Some (channel c) =
+      sym (get_or-eq_default channels None {n = x} (omega (arith, ltb-false x (ports tb) y, length_tabulate (ports tb) (λ c. Some (channel c))))) ∙ e in
       clash cc)
 
   ports_known : (c : ℕ) (E : Process) → knows c (thread [] channels E) ≡ ltb c (ports tb)
@@ -63,17 +62,17 @@ module _ (tb : Table) where
 
   -- ---- its variables
 
-  pub look_port : (o : Option Value) (p : ℕ) → p < ports tb → look (ports_and tb o) p ≡ some (channel p)
+  pub look_port : (o : Option Value) (p : ℕ) → p < ports tb → look (ports_and tb o) p ≡ Some (channel p)
   unfolding ports_and
   look_port o p l =
-      get_or-append channels (o ∷ []) none p (omega (arith, length_tabulate (ports tb) (λ c. some (channel c)))) ∙ look_channels p l
+      get_or-append channels (o ∷ []) None p (omega (arith, length_tabulate (ports tb) (λ c. Some (channel c)))) ∙ look_channels p l
 
   pub look_own : (o : Option Value) → look (ports_and tb o) (ports tb) ≡ o
   unfolding ports_and
-  look_own o = let n : length channels ≡ ports tb = length_tabulate (ports tb) (λ c. some (channel c)) in
-      ap (λ (k : ℕ). look (channels ++ (o ∷ [])) k) (sym n) ∙ get_or-append_seam channels o [] none
+  look_own o = let n : length channels ≡ ports tb = length_tabulate (ports tb) (λ c. Some (channel c)) in
+      ap (λ (k : ℕ). look (channels ++ (o ∷ [])) k) (sym n) ∙ get_or-append_seam channels o [] None
 
-  pub bind_own : (o : Option Value) (v : Value) → bind (ports_and tb o) (ports tb) v ≡ ports_and tb (some v)
+  pub bind_own : (o : Option Value) (v : Value) → bind (ports_and tb o) (ports tb) v ≡ ports_and tb (Some v)
   unfolding ports_and
-  bind_own o v = let n : length channels ≡ ports tb = length_tabulate (ports tb) (λ c. some (channel c)) in
+  bind_own o v = let n : length channels ≡ ports tb = length_tabulate (ports tb) (λ c. Some (channel c)) in
       ap (λ (k : ℕ). bind (channels ++ (o ∷ [])) k v) (sym n) ∙ bind_last channels o v

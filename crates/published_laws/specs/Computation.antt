@@ -1,14 +1,10 @@
 -- What the bench, as a thread, does in a list of calls: in their order what its gives and takes do. `proofs/Computation.antt` has the theorem.
-use Rattle.std.specs.Prelude.{ℕ}
+use Rattle.rules.specs.Answers.{Given, Taken}
+use Rattle.std.specs.Prelude.{ℕ, Err, None, Ok, Option, Some}
 use mathlib.Core.List.{List, [], ◌∷◌}
-use Rattle.std.proofs.Math.Option.{Option, some}
 use Rattle.table.specs.Table.{table_of, ports}
 use Rattle.state.specs.State.{view}
 use Rattle.rules.specs.Calls.{give_call, take_call}
-use Rattle.rules.specs.declared.Given.{Given}
-use Rattle.rules.specs.declared.Given.TheVariants as Given
-use Rattle.rules.specs.declared.Taken.{Taken}
-use Rattle.rules.specs.declared.Taken.TheVariants as Taken
 use Rattle.engine_laws.specs.Lists.{step, give, take, run}
 use Rattle.guarantee.specs.Claim.{Any, on, collect, after_any}
 use Rattle.published.specs.Syntax.{Process, choice, nothing, branch, always, output, input, assign, constant}
@@ -21,26 +17,26 @@ use Rattle.published_laws.specs.Benches.{ports_and}
 -- on port p, with its variable `own`, before it goes on with E. A give that meets a thread: it sets its variable to the number v and sends it
 module _ (own p : ℕ) where
   unfoldable pub giving : ℕ → Given → Process → Process
-  giving v (Given.Met u) E = choice (branch always (assign own (constant v)) (choice (branch always (output p own) E nothing)) nothing)
-  giving v Given.Nobody E = E
-  giving v (Given.Refused r) E = E
+  giving v (Ok (Some u)) E = choice (branch always (assign own (constant v)) (choice (branch always (output p own) E nothing)) nothing)
+  giving v (Ok None) E = E
+  giving v (Err r) E = E
 
   -- a take that meets one: it receives into its variable
   unfoldable pub taking : Taken → Process → Process
-  taking (Taken.Met u v) E = choice (branch always (input p own) E nothing)
-  taking Taken.Nobody E = E
-  taking (Taken.Refused r) E = E
+  taking (Ok (Some (u, v))) E = choice (branch always (input p own) E nothing)
+  taking (Ok None) E = E
+  taking (Err r) E = E
 
 -- what its variable has then: the number that was given, or that the take answers
 unfoldable pub number_given : ℕ → Given → Option Value → Option Value
-number_given v (Given.Met u) o = some (Agents.number v)
-number_given v Given.Nobody o = o
-number_given v (Given.Refused r) o = o
+number_given v (Ok (Some u)) o = Some (Agents.number v)
+number_given v (Ok None) o = o
+number_given v (Err r) o = o
 
 unfoldable pub number_taken : Taken → Option Value → Option Value
-number_taken (Taken.Met u v) o = some (Agents.number v)
-number_taken Taken.Nobody o = o
-number_taken (Taken.Refused r) o = o
+number_taken (Ok (Some (u, v))) o = Some (Agents.number v)
+number_taken (Ok None) o = o
+number_taken (Err r) o = o
 
 module _ (table : List ℕ) where
   -- in one call; it has no part in a step, a run and a collection

@@ -1,9 +1,8 @@
 -- The environment of a thread's row: guards and sums read it as the engine reads the slots, a store is a binding, and who knows a channel holds it. Assumes
 -- nothing but what the table grants.
-use Rattle.std.specs.Prelude.{ℕ, ◌<◌, ◌≤◌, ◌≡◌, ◌≢◌, true, false, ◌&&◌, List, ltb, eqb}
+use Rattle.std.specs.Prelude.{ℕ, ◌<◌, ◌≤◌, ◌≡◌, ◌≢◌, true, false, ◌&&◌, List, ltb, eqb, None, Some}
 use Rattle.std.proofs.Common.{arith, ◌∙◌}
 use Rattle.std.proofs.Math.Path.{refl, sym, ap}
-use Rattle.std.proofs.Math.Option.{none, some}
 use Rattle.std.proofs.Math.ListN.{length, get_or-eq_default}
 use borrow.Author.Tests.{ltb-true, ltb-false, lt-ltb, eqb-true, eqb-false, eq-eqb, ne_eqb}
 use Rattle.numbers.specs.Rows.{at}
@@ -34,20 +33,20 @@ use Rattle.published_laws.specs.Trimmed.{look_trimmed, trimmed_bound}
 -- ---- values
 
 -- a channel that is one
-value_channel : (ty v c : ℕ) → value_as ty v ≡ some (Agents.channel c) → (ty ≢ 0) × (v < max_channels) × (v ≡ c)
+value_channel : (ty v c : ℕ) → value_as ty v ≡ Some (Agents.channel c) → (ty ≢ 0) × (v < max_channels) × (v ≡ c)
 unfolding value_as
 value_channel ty v c e =
     case_b (eqb ty 0)
-    (λ y. clash (let q : some (Agents.number v) ≡ some (Agents.channel c) = rw y at e in cc))
+    (λ y. clash (let q : Some (Agents.number v) ≡ Some (Agents.channel c) = rw y at e in cc))
     (λ y. case_b (ltb v max_channels)
-    (λ z. (eqb-false ty 0 y, ltb-true v max_channels z, let q : some (Agents.channel v) ≡ some (Agents.channel c) = rw (y, z) at e in cc))
-    (λ z. clash (let q : none ≡ some (Agents.channel c) = rw (y, z) at e in cc)))
+    (λ z. (eqb-false ty 0 y, ltb-true v max_channels z, let q : Some (Agents.channel v) ≡ Some (Agents.channel c) = rw (y, z) at e in cc))
+    (λ z. clash (let q : None ≡ Some (Agents.channel c) = rw (y, z) at e in cc)))
 
-pub channel_value : (ty v : ℕ) → ty ≢ 0 → v < max_channels → value_as ty v ≡ some (Agents.channel v)
+pub channel_value : (ty v : ℕ) → ty ≢ 0 → v < max_channels → value_as ty v ≡ Some (Agents.channel v)
 unfolding value_as
 channel_value ty v n l = rw (ne_eqb ty 0 n, lt-ltb v max_channels l)
 
-pub number_value : (ty v : ℕ) → ty ≡ 0 → value_as ty v ≡ some (Agents.number v)
+pub number_value : (ty v : ℕ) → ty ≡ 0 → value_as ty v ≡ Some (Agents.number v)
 unfolding value_as
 number_value ty v e = rw (eq-eqb ty 0 e)
 
@@ -59,13 +58,13 @@ module _ (tb : Table) (row : List ℕ) where
 
   pub look_env : (k : ℕ) → k < row_slots → look (env_of tb row) k ≡ slot_value tb row k
   unfolding env_of
-  look_env k l = look_trimmed (tabulate row_slots (slot_value tb row)) k ∙ get_d_tabulate row_slots k (slot_value tb row) none l
+  look_env k l = look_trimmed (tabulate row_slots (slot_value tb row)) k ∙ get_d_tabulate row_slots k (slot_value tb row) None l
 
-  pub look_past : (k : ℕ) → row_slots ≤ k → look (env_of tb row) k ≡ none
+  pub look_past : (k : ℕ) → row_slots ≤ k → look (env_of tb row) k ≡ None
   unfolding env_of
   look_past k l =
       let δ = tabulate row_slots (slot_value tb row) in
-      look_trimmed δ k ∙ get_or-eq_default δ none {n = k} (omega (arith, length_tabulate row_slots (slot_value tb row)))
+      look_trimmed δ k ∙ get_or-eq_default δ None {n = k} (omega (arith, length_tabulate row_slots (slot_value tb row)))
 
   -- a slot of the definition has its value by its type
   pub slot_value_lem : (k : ℕ) → k < slot_count tb (definition_of tb (stands_at row))
@@ -73,7 +72,7 @@ module _ (tb : Table) (row : List ℕ) where
   unfolding slot_value
   slot_value_lem k l = rw (lt-ltb k (slot_count tb (definition_of tb (stands_at row))) l)
 
-  slot_channel : (k c : ℕ) → slot_value tb row k ≡ some (Agents.channel c)
+  slot_channel : (k c : ℕ) → slot_value tb row k ≡ Some (Agents.channel c)
       → (k < slot_count tb (definition_of tb (stands_at row))) × (slot_type tb (definition_of tb (stands_at row)) k ≢ 0) × (c < max_channels) × (slot_of row k ≡ c)
   unfolding slot_value
   slot_channel k c e =
@@ -81,20 +80,20 @@ module _ (tb : Table) (row : List ℕ) where
       let ty = slot_type tb (definition_of tb (stands_at row)) k in
       case_b (ltb k w)
       (λ y. let (a, b, q) = value_channel ty (slot_of row k) c (rw y at e) in (ltb-true k w y, a, rw (← q) b, q))
-      (λ y. clash (let q : none ≡ some (Agents.channel c) = rw y at e in cc))
+      (λ y. clash (let q : None ≡ Some (Agents.channel c) = rw y at e in cc))
 
   -- ---- who knows a channel
 
-  env_held : in_use row ≡ true → (c : ℕ) (t : Thread) → t.env ≡ env_of tb row → (x : ℕ) → look t.env x ≡ some (Agents.channel c) → holds tb row c ≡ true
+  env_held : in_use row ≡ true → (c : ℕ) (t : Thread) → t.env ≡ env_of tb row → (x : ℕ) → look t.env x ≡ Some (Agents.channel c) → holds tb row c ≡ true
   env_held u c t q x e =
-      let f : look (env_of tb row) x ≡ some (Agents.channel c) = rw q at e in
+      let f : look (env_of tb row) x ≡ Some (Agents.channel c) = rw q at e in
       case_b (ltb x row_slots)
       (λ y. let l = ltb-true x row_slots y in
       let (a, b, m, h) = slot_channel x c (sym (look_env x l) ∙ f) in
       holds_intro tb row c (record { used = u; channel_in = m; slot = x; slot_in = l; slot_own = a; typed = b; is = h }))
-      (λ y. clash (let z : none ≡ some (Agents.channel c) = sym (look_past x (ltb-false x row_slots y)) ∙ f in cc))
+      (λ y. clash (let z : None ≡ Some (Agents.channel c) = sym (look_past x (ltb-false x row_slots y)) ∙ f in cc))
 
-  held_env : (c : ℕ) → holds tb row c ≡ true → (x : ℕ) × (look (env_of tb row) x ≡ some (Agents.channel c))
+  held_env : (c : ℕ) → holds tb row c ≡ true → (x : ℕ) × (look (env_of tb row) x ≡ Some (Agents.channel c))
   held_env c e =
       let h = holds_elim tb row c e in (
         h.slot,
@@ -122,17 +121,17 @@ module _ (tb : Table) (row new : List ℕ) (same : definition_of tb (stands_at n
   env_same h = ap trimmed (tabulate_cong row_slots (slot_value tb new) (slot_value tb row) (λ k l. value_same k (h k)))
 
   -- a store is a binding
-  pub env_bound : (a : ℕ) (v : Value) → a < row_slots → slot_value tb new a ≡ some v → ((k : ℕ) → k ≢ a → slot_of new k ≡ slot_of row k)
+  pub env_bound : (a : ℕ) (v : Value) → a < row_slots → slot_value tb new a ≡ Some v → ((k : ℕ) → k ≢ a → slot_of new k ≡ slot_of row k)
       → bind (env_of tb row) a v ≡ env_of tb new
   unfolding env_of
   env_bound a v l e h =
       let δ = tabulate row_slots (slot_value tb row) in
       let long : length δ ≡ row_slots = length_tabulate row_slots (slot_value tb row) in
-      sym (trimmed_bound δ a v) ∙ ap trimmed (is_tabulate (bind δ a v) row_slots (slot_value tb new) none
+      sym (trimmed_bound δ a v) ∙ ap trimmed (is_tabulate (bind δ a v) row_slots (slot_value tb new) None
       (length_bound δ a v (omega (arith, long)) ∙ long)
       (λ k m. case_b (eqb k a)
       (λ y. let q : k ≡ a = eqb-true k a y in rw q (look_bound δ a v ∙ sym e))
-      (λ y. let q : k ≢ a = eqb-false k a y in look_other δ a k v q ∙ get_d_tabulate row_slots k (slot_value tb row) none m ∙ sym (value_same k (h k q)))))
+      (λ y. let q : k ≢ a = eqb-false k a y in look_other δ a k v q ∙ get_d_tabulate row_slots k (slot_value tb row) None m ∙ sym (value_same k (h k q)))))
 
 -- ---- what is read
 
@@ -141,16 +140,16 @@ module _ (tb : Table) (g : Granted tb) (rd : Readable tb) (ty : ℕ → ℕ) (ro
   number_read : (k : ℕ) → NumberSlot tb (stands_at row) k → number_of (env_of tb row) k ≡ slot_of row k
   unfolding numeric
   number_read k (l, z) =
-      let h : look (env_of tb row) k ≡ some (Agents.number (slot_of row k)) =
+      let h : look (env_of tb row) k ≡ Some (Agents.number (slot_of row k)) =
       look_env tb row k (own_slot tb g ty row r u k l) ∙ slot_value_lem tb row k l ∙ number_value (slot_type tb (definition_of tb (stands_at row)) k) (slot_of row k) z in
       rw h
 
   -- a slot that is surely written has a value
   pub filled_value : (k : ℕ) → k < slot_count tb (definition_of tb (stands_at row)) → may_lack tb (stands_at row) k ≡ false
-      → (w : Value) × (value_as (slot_type tb (definition_of tb (stands_at row)) k) (slot_of row k) ≡ some w)
+      → (w : Value) × (value_as (slot_type tb (definition_of tb (stands_at row)) k) (slot_of row k) ≡ Some w)
   filled_value k l f = by_slot (r.slots u k (own_slot tb g ty row r u k l))
     where
-      by_slot : SlotSound tb ty (stands_at row) k (slot_of row k) → (w : Value) × (value_as (slot_type tb (definition_of tb (stands_at row)) k) (slot_of row k) ≡ some w)
+      by_slot : SlotSound tb ty (stands_at row) k (slot_of row k) → (w : Value) × (value_as (slot_type tb (definition_of tb (stands_at row)) k) (slot_of row k) ≡ Some w)
       by_slot (spare a z) = absurd (omega arith)
       by_slot (number a z) = (Agents.number (slot_of row k), number_value (slot_type tb (definition_of tb (stands_at row)) k) (slot_of row k) z)
       by_slot (unfilled a z m v) = contra m f

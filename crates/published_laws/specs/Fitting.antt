@@ -1,7 +1,7 @@
 -- Document 02's S-4 in whole numbers: a guard counts as true just where the file's guard is true and the branch has no sum or difference that is out of
 -- range. And its comparison: where all sums of a choice fit, guards and values are those of the papers; of steps: `proofs/Compared.antt`. Assumes
 -- nothing but that the table is accepted.
-use Rattle.std.specs.Prelude.{ℕ, ◌-◌, ◌%◌, ◌≤◌, ◌<◌, ◌≡◌, ◌⊎◌, ◌↔◌, true, false, cond, List, leb, eqb, ℤ, pos, negsuc, ◌+ℤ◌, ◌-ℤ◌, get_or}
+use Rattle.std.specs.Prelude.{ℕ, ◌-◌, ◌%◌, ◌≤◌, ◌<◌, ◌≡◌, ◌⊎◌, ◌↔◌, true, false, cond, List, leb, eqb, ℤ, pos, negsuc, ◌+ℤ◌, ◌-ℤ◌, get_or, Some}
 use Rattle.std.proofs.Common.{arith, sym, ◌∙◌, ap, inl, inr, to_z}
 use Rattle.std.proofs.Math.Path.{refl}
 use Rattle.std.specs.Int.Signed.{lt_z}
@@ -12,7 +12,6 @@ use Rattle.numbers.specs.Search.Laws.{case_b, contra}
 use Rattle.numbers.specs.Signed.{in_range, narrowed, is_exact, widened}
 use Rattle.numbers.specs.Signed.Laws.{to_z_high}
 use Rattle.numbers.specs.Tests.{clash, parts, and_left, and_right, and_true}
-use Rattle.numbers.specs.declared.Checked.TheVariants.{Exact}
 use Rattle.table.specs.Fields as Field
 use Rattle.table.specs.Form.Laws.{within_most}
 use Rattle.table.specs.Table.{Table, nodes, table_of}
@@ -105,7 +104,7 @@ module _ (tb : Table) (r : ℕ) (row : List ℕ) where
 
   module _ (known : at tb r Field.action ≤ 7) (near : TooFar → ⊥) where
     -- an assignment comes to what document 01 has: a constant, or a sum or a difference that is in range
-    near_wrapped : act_of tb r ≡ Assignment → assigned tb r row ≡ Exact wrapped_value
+    near_wrapped : act_of tb r ≡ Assignment → assigned tb r row ≡ Some wrapped_value
     unfolding assigned checked_sum checked_difference narrowed wrapped_value
     near_wrapped a =
         let code = at tb r Field.action in
@@ -189,5 +188,5 @@ module _ (table : List ℕ) (ok : accepted table ≡ true) (fit : (i : ℕ) → 
     -- an assignment comes to what document 01 says
     pub value_wrapped : act_of (table_of table) (branch_at (table_of table) (stands_at row) i) ≡ Assignment
         → assigned (table_of table) (branch_at (table_of table) (stands_at row) i) row
-        ≡ Exact (wrapped_value (table_of table) (branch_at (table_of table) (stands_at row) i) row)
+        ≡ Some (wrapped_value (table_of table) (branch_at (table_of table) (stands_at row) i) row)
     value_wrapped a = near_wrapped tb (b i) row (known i l) (all i l) a

@@ -1,7 +1,6 @@
 -- The agent of 002 that a state stands for. A node of a table stands for the process that begins there; a thread's slots are its environment; a waiting
 -- thread has its offers as commitments; the channels in use are Δ. The bench is one thread more.
-use Rattle.std.specs.Prelude.{ℕ, zero, suc, Bool, not, ◌&&◌, cond, List, [], ◌∷◌, ◌++◌, ltb, eqb}
-use Rattle.std.proofs.Math.Option.{Option, none, some}
+use Rattle.std.specs.Prelude.{ℕ, zero, suc, Bool, not, ◌&&◌, cond, List, [], ◌∷◌, ◌++◌, ltb, eqb, None, Option, Some}
 use Rattle.numbers.specs.Rows.{at}
 use Rattle.numbers.specs.Search.{tabulate}
 use Rattle.numbers.specs.Signed.{widened}
@@ -21,13 +20,13 @@ use Rattle.published.specs.Fired.{Labels, ours_fire}
 
 -- the word v as a value of type ty; -1 is no channel
 unfoldable pub value_as : ℕ → ℕ → Option Value
-value_as ty v = cond (eqb ty 0) (some (number v)) (cond (ltb v max_channels) (some (channel v)) none)
+value_as ty v = cond (eqb ty 0) (Some (number v)) (cond (ltb v max_channels) (Some (channel v)) None)
 
 -- an environment without the unbound variables at its end, so that environments that bind the same are the same list (`Trimmed.antt`: `trimmed_same`)
 unfoldable pub in_front : Option Value → Env → Env
-in_front none [] = []
-in_front none (o ∷ δ) = none ∷ o ∷ δ
-in_front (some v) δ = some v ∷ δ
+in_front None [] = []
+in_front None (o ∷ δ) = None ∷ o ∷ δ
+in_front (Some v) δ = Some v ∷ δ
 
 unfoldable pub trimmed : Env → Env
 trimmed [] = []
@@ -117,7 +116,7 @@ module _ (tb : Table) where
   -- the slots that the definition has
   unfoldable pub slot_value : List ℕ → ℕ → Option Value
   slot_value row k =
-      cond (ltb k (slot_count tb (definition_of tb (stands_at row)))) (value_as (slot_type tb (definition_of tb (stands_at row)) k) (slot_of row k)) none
+      cond (ltb k (slot_count tb (definition_of tb (stands_at row)))) (value_as (slot_type tb (definition_of tb (stands_at row)) k) (slot_of row k)) None
 
   unfoldable pub env_of : List ℕ → Env
   env_of row = trimmed (tabulate row_slots (slot_value row))

@@ -11,7 +11,7 @@ use Rattle.rules.specs.declared.Direction.TheVariants.{Out, In}
 use Rattle.rules.specs.declared.Act.{Act}
 use Rattle.rules.specs.declared.Act.TheVariants.{Tau, Meeting, New, Spawn, Assignment}
 use Rattle.rules_laws.specs.Granted.{Granted}
-use Rattle.published.specs.Syntax.{Process, Sum, nothing, wait, branch, and_wait, waits}
+use Rattle.published.specs.Syntax.{Process, Sum, nothing, wait, and_wait, waits}
 use Rattle.published_laws.specs.Readable.{Readable}
 use Rattle.published_laws.specs.Standing.{prefix_of, sum_before, node_process, unrolled, process_at}
 

@@ -4,229 +4,169 @@
 
 ghost use Rattle.std.specs.Prelude.{◌≡◌, ◌≤◌};
 ghost use Rattle.numbers.specs.Search.{every, first};
-ghost use Rattle.table.specs.Table.{table_of};
 ghost use Rattle.table.specs.Layout.{start};
-ghost use Rattle.table.specs.Index.{Indexed};
 ghost use Rattle.table.specs.declared.Part.TheVariants.{Nodes};
 ghost use Rattle.table.specs.Roles.{operand_count};
 ghost use Rattle.ranges.specs.Ranges.{role_in_range, ahead, rest_unused, type_in_range, definition_in_range, argument_in_range, call_in_range, node_in_range, operand_in_range, targets_in_range, branch_in_range, row_in_range, out_of_range};
 
 use roles::{operand_of, role_of};
 use table::{
-    MAX_OWN_BRANCHES, MAX_OWN_NODES, MAX_OWN_SLOTS, MAX_PARAMETERS, Part, Role, cell,
-    definition_at, field, is_within, node_at, nodes_of, owner_of, parameters_of, slots_of,
-    start_of,
+    MAX_OWN_BRANCHES, MAX_OWN_NODES, MAX_OWN_SLOTS, MAX_PARAMETERS, Part, Role, Table, field,
+    is_within,
 };
 
 // Whether the numbers of a row from number k on are 0.
-fn rest_unused(table: &[u8], row: usize, k: usize) -> bool
-    ensures { result ≡ rest_unused (table_of table.now) row k }
+fn rest_unused(table: &Table, row: usize, k: usize) -> bool
+    ensures { result ≡ rest_unused table.now row k }
 {
-    for i in k..table::ROW_NUMBERS {
-        if cell(table, row, i) != 0 {
-            return false;
-        }
-    }
-    true
+    (k..table::ROW_NUMBERS).all(|i| table.cell(row, i) == 0)
 }
 
 // Whether the line of a type, or of a slot, names a type that there is.
-fn type_in_range(table: &[u8], row: usize) -> bool
-    ensures { result ≡ type_in_range (table_of table.now) row }
+#[tactic(auto, unfolding(crate::specs::Ranges::type_in_range))]
+fn type_in_range(table: &Table, row: usize) -> bool
+    ensures { result ≡ type_in_range table.now row }
 {
-    if !is_within(
-        0,
-        cell(table, 0, field::TYPES),
-        cell(table, row, field::TYPE),
-    ) {
-        return false;
-    }
-    rest_unused(table, row, 2)
+    let types = table.cell(0, field::TYPES);
+    is_within(0, types, table.cell(row, field::TYPE)) && rest_unused(table, row, 2)
 }
 
 // Whether the counts in the line of a definition are in range.
-fn definition_in_range(table: &[u8], row: usize) -> bool
-    ensures { result ≡ definition_in_range (table_of table.now) row }
+#[tactic(auto, unfolding(crate::specs::Ranges::definition_in_range))]
+fn definition_in_range(table: &Table, row: usize) -> bool
+    ensures { result ≡ definition_in_range table.now row }
 {
-    let parameters = cell(table, row, field::PARAMETERS);
-    if !is_within(0, MAX_PARAMETERS, parameters) {
-        return false;
-    }
-    let slots = cell(table, row, field::OWN_SLOTS);
-    if !is_within(parameters, MAX_OWN_SLOTS, slots) {
-        return false;
-    }
-    if !is_within(1, MAX_OWN_NODES, cell(table, row, field::OWN_NODES)) {
-        return false;
-    }
-    rest_unused(table, row, 4)
+    let parameters = table.cell(row, field::PARAMETERS);
+    let slots = table.cell(row, field::OWN_SLOTS);
+    is_within(0, MAX_PARAMETERS, parameters)
+        && is_within(parameters, MAX_OWN_SLOTS, slots)
+        && is_within(1, MAX_OWN_NODES, table.cell(row, field::OWN_NODES))
+        && rest_unused(table, row, 4)
 }
 
 // Whether the n arguments of the call in a row are slots of the calling definition, which has s slots.
-fn arguments_in_range(table: &[u8], row: usize, s: u32, n: u32) -> bool
-    ensures { result ≡ every (argument_in_range (table_of table.now) row s) n }
+fn arguments_in_range(table: &Table, row: usize, s: u32, n: u32) -> bool
+    ensures { result ≡ every (argument_in_range table.now row s) n }
 {
-    for i in 0..n {
-        if s <= cell(table, row, field::ARGUMENTS + i as usize) {
-            return false;
-        }
-    }
-    true
+    (0..n).all(|i| table.cell(row, field::ARGUMENTS + i as usize) < s)
 }
 
 // Whether the call in a row, out of a definition of s slots, is of a definition that there is, with an argument for each parameter.
-fn call_in_range(table: &[u8], row: usize, s: u32) -> bool
-    ensures { result ≡ call_in_range (table_of table.now) row s }
+#[tactic(auto, unfolding(crate::specs::Ranges::call_in_range))]
+fn call_in_range(table: &Table, row: usize, s: u32) -> bool
+    ensures { result ≡ call_in_range table.now row s }
 {
-    let called = cell(table, row, field::CALLEE);
-    if called < cell(table, 0, field::DEFINITIONS) {
-        let n = parameters_of(table, called);
-        if !arguments_in_range(table, row, s, n) {
-            return false;
-        }
-        return rest_unused(table, row, field::ARGUMENTS + n as usize);
-    }
-    false
+    let called = table.cell(row, field::CALLEE);
+    let n = table.parameters(called);
+    called < table.cell(0, field::DEFINITIONS)
+        && arguments_in_range(table, row, s, n)
+        && rest_unused(table, row, field::ARGUMENTS + n as usize)
 }
 
 // Whether the line of a node is in range, by its form: an end, a choice or a call.
-fn node_in_range(table: &[u8], index: &[u32], row: usize) -> bool
-    requires { Indexed (table_of table.now) index.now }
-    ensures { result ≡ node_in_range (table_of table.now) row }
+#[tactic(auto, unfolding(crate::specs::Ranges::node_in_range))]
+fn node_in_range(table: &Table, row: usize) -> bool
+    ensures { result ≡ node_in_range table.now row }
 {
-    let form = cell(table, row, field::NODE_KIND);
-    if form == 0 {
-        return rest_unused(table, row, 2);
-    }
-    if form == 1 {
-        if !is_within(1, MAX_OWN_BRANCHES, cell(table, row, field::OWN_BRANCHES)) {
-            return false;
+    match table.cell(row, field::NODE_KIND) {
+        0 => rest_unused(table, row, 2),
+        1 => {
+            is_within(1, MAX_OWN_BRANCHES, table.cell(row, field::OWN_BRANCHES))
+                && rest_unused(table, row, 3)
         }
-        return rest_unused(table, row, 3);
+        2 => {
+            let d = table.definition_at(row);
+            call_in_range(table, row, table.slots(d))
+        }
+        _ => false,
     }
-    if form == 2 {
-        return call_in_range(
-            table,
-            row,
-            slots_of(table, definition_at(table, index, row)),
-        );
-    }
-    false
 }
 
 // Whether a value is in the range of its role, in a definition of s slots.
+#[tactic(auto, unfolding(crate::specs::Ranges::role_in_range))]
 fn role_in_range(role: Role, s: u32, v: u32) -> bool
     ensures { result ≡ role_in_range role s v }
 {
     match role {
         Role::Unused => v == 0,
         Role::Constant => true,
-        Role::ReadNumber => v < s,
-        Role::ReadChannel => v < s,
-        Role::ReadCarried => v < s,
-        Role::WriteNumber => v < s,
-        Role::WriteChannel => v < s,
-        Role::WriteCarried => v < s,
+        Role::ReadNumber
+        | Role::ReadChannel
+        | Role::ReadCarried
+        | Role::WriteNumber
+        | Role::WriteChannel
+        | Role::WriteCarried => v < s,
     }
 }
 
 // Whether all operands of the branch in a row are in the ranges of their roles, in a definition of s slots.
-fn operands_in_range(table: &[u8], row: usize, s: u32) -> bool
-    ensures { result ≡ every (operand_in_range (table_of table.now) row s) operand_count }
+fn operands_in_range(table: &Table, row: usize, s: u32) -> bool
+    ensures { result ≡ every (operand_in_range table.now row s) operand_count }
 {
-    for k in 0..table::OPERANDS {
-        if !role_in_range(role_of(table, row, k), s, operand_of(table, row, k)) {
-            return false;
-        }
-    }
-    true
+    (0..table::OPERANDS).all(|k| {
+        let role = role_of(table, row, k);
+        role_in_range(role, s, operand_of(table, row, k))
+    })
 }
 
 // Whether node v lies past the branch's own node, in a definition of n nodes.
+#[tactic(auto, unfolding(crate::specs::Ranges::ahead))]
 fn is_ahead(own: u32, n: u32, v: u32) -> bool
     ensures { result ≡ ahead own n v }
 {
-    if own < v {
-        return v < n;
-    }
-    false
+    own < v && v < n
 }
 
 // Whether the branch in a row leads ahead, and to a child just where it is a spawn.
-fn targets_in_range(table: &[u8], row: usize, own: u32, n: u32) -> bool
-    ensures { result ≡ targets_in_range (table_of table.now) row own n }
+#[tactic(auto, unfolding(crate::specs::Ranges::targets_in_range))]
+fn targets_in_range(table: &Table, row: usize, own: u32, n: u32) -> bool
+    ensures { result ≡ targets_in_range table.now row own n }
 {
-    if !is_ahead(own, n, cell(table, row, field::NEXT)) {
-        return false;
-    }
-    if cell(table, row, field::ACTION) == 4 {
-        return is_ahead(own, n, cell(table, row, field::CHILD));
-    }
-    cell(table, row, field::CHILD) == 0
+    let child = table.cell(row, field::CHILD);
+    let spawns = table.cell(row, field::ACTION) == 4;
+    is_ahead(own, n, table.cell(row, field::NEXT))
+        && if spawns {
+            is_ahead(own, n, child)
+        } else {
+            child == 0
+        }
 }
 
 // Whether the line of a branch, of a node of definition d, is in range.
-fn branch_in_range(table: &[u8], index: &[u32], row: usize, node: u32, d: u32) -> bool
-    requires indexed { Indexed (table_of table.now) index.now }
-    requires d_bound { start (table_of table.now) Nodes d ≤ node }
-    ensures { result ≡ branch_in_range (table_of table.now) row node d }
+#[tactic(auto, unfolding(crate::specs::Ranges::branch_in_range))]
+fn branch_in_range(table: &Table, row: usize, node: u32, d: u32) -> bool
+    requires d_bound { start table.now Nodes d ≤ node }
+    ensures { result ≡ branch_in_range table.now row node d }
 {
-    if !is_within(0, 4, cell(table, row, field::GUARD)) {
-        return false;
-    }
-    if !is_within(0, 7, cell(table, row, field::ACTION)) {
-        return false;
-    }
-    if !operands_in_range(table, row, slots_of(table, d)) {
-        return false;
-    }
-    let own = node - start_of(table, index, Part::Nodes, d);
-    if !targets_in_range(table, row, own, nodes_of(table, d)) {
-        return false;
-    }
-    rest_unused(table, row, 10)
+    let own = node - table.start(Part::Nodes, d);
+    is_within(0, 4, table.cell(row, field::GUARD))
+        && is_within(0, 7, table.cell(row, field::ACTION))
+        && operands_in_range(table, row, table.slots(d))
+        && targets_in_range(table, row, own, table.nodes(d))
+        && rest_unused(table, row, 10)
 }
 
 // Whether a row is in range, by its kind.
-fn row_in_range(table: &[u8], index: &[u32], row: usize) -> bool
-    requires { Indexed (table_of table.now) index.now }
-    ensures { result ≡ row_in_range (table_of table.now) row }
+#[tactic(auto, using(table::specs::Layout::Laws::start_owner), unfolding(crate::specs::Ranges::row_in_range))]
+fn row_in_range(table: &Table, row: usize) -> bool
+    ensures { result ≡ row_in_range table.now row }
 {
-    let kind = cell(table, row, field::KIND);
-    if kind == 1 {
-        return rest_unused(table, row, 7);
+    match table.cell(row, field::KIND) {
+        1 => rest_unused(table, row, 7),
+        2 | 4 => type_in_range(table, row),
+        3 => definition_in_range(table, row),
+        5 => node_in_range(table, row),
+        _ => {
+            let node = table.node_at(row);
+            let d = table.owner(Part::Nodes, node as usize);
+            branch_in_range(table, row, node, d)
+        }
     }
-    if kind == 2 {
-        return type_in_range(table, row);
-    }
-    if kind == 3 {
-        return definition_in_range(table, row);
-    }
-    if kind == 4 {
-        return type_in_range(table, row);
-    }
-    if kind == 5 {
-        return node_in_range(table, index, row);
-    }
-    let node = node_at(table, index, row);
-    branch_in_range(
-        table,
-        index,
-        row,
-        node,
-        owner_of(table, index, Part::Nodes, node as usize),
-    )
 }
 
 // The first of n rows with a field out of its range; n where there is none.
-pub fn first_out_of_range(table: &[u8], index: &[u32], n: usize) -> usize
-    requires { Indexed (table_of table.now) index.now }
-    ensures { result ≡ first (out_of_range (table_of table.now)) n }
+pub fn first_out_of_range(table: &Table, n: usize) -> usize
+    ensures { result ≡ first (out_of_range table.now) n }
 {
-    for row in 0..n {
-        if !row_in_range(table, index, row) {
-            return row;
-        }
-    }
-    n
+    (0..n).find(|row| !row_in_range(table, *row)).unwrap_or(n)
 }

@@ -1,10 +1,9 @@
 -- What a ready thread does: which move it makes, what the move writes, and the state after it.
-use Rattle.std.specs.Prelude.{ℕ, suc, ◌+◌, Bool, true, false, not, ◌&&◌, cond, List, ◌∷◌, ltb, leb, eqb, set}
+use Rattle.rules.specs.Answers.{Partner}
+use Rattle.std.specs.Prelude.{ℕ, suc, ◌+◌, Bool, true, false, not, ◌&&◌, cond, List, ◌∷◌, ltb, leb, eqb, set, None, Option, Some, ℤ}
 use Rattle.std.specs.Int.{w32}
 use Rattle.std.proofs.Common.{of_z}
 use Rattle.numbers.specs.Search.{first}
-use Rattle.numbers.specs.declared.Checked.{Checked}
-use Rattle.numbers.specs.declared.Checked.TheVariants.{Exact, Overflow}
 use Rattle.table.specs.Table.{Table}
 use Rattle.table.specs.Layout.{branch_count}
 use Rattle.state.specs.Words as Word
@@ -17,8 +16,6 @@ use Rattle.rules.specs.declared.Direction.{Direction}
 use Rattle.rules.specs.declared.Direction.TheVariants.{Out, In}
 use Rattle.rules.specs.declared.Act.{Act}
 use Rattle.rules.specs.declared.Act.TheVariants.{Tau, Meeting, New, Spawn, Assignment}
-use Rattle.rules.specs.declared.Partner.{Partner}
-use Rattle.rules.specs.declared.Partner.TheVariants.{Nobody, At}
 use Rattle.rules.specs.declared.Move.{Move}
 use Rattle.rules.specs.declared.Move.TheVariants.{Ends, Calls, Waits, Goes, Creates, Spawns, Meets, LacksThread, LacksChannel}
 
@@ -52,8 +49,8 @@ free_channel s = around max_channels (channel_mark s) (is_free_channel s)
 
 -- a meeting by branch i waits where there is no partner; new and spawn need a free row
 unfoldable pub meeting : ℕ → Partner → Move
-meeting i Nobody = Waits
-meeting i (At u j) = Meets i u j
+meeting i None = Waits
+meeting i (Some (u, j)) = Meets i u j
 
 unfoldable pub creation : ℕ → ℕ → Move
 creation i c = cond (ltb c max_channels) (Creates i c) LacksChannel
@@ -122,12 +119,12 @@ met Out row n b v = resumed row n
 met In row n b v = stored (resumed row n) b v
 
 -- a row with what an assignment comes to in slot k. No move stores an overflow: the guard of such a branch counts as false
-unfoldable pub stored_number : List ℕ → ℕ → Checked → List ℕ
-stored_number row k (Exact z) = stored row k (of_z w32 z)
-stored_number row k Overflow = row
+unfoldable pub stored_number : List ℕ → ℕ → Option ℤ → List ℕ
+stored_number row k (Some z) = stored row k (of_z w32 z)
+stored_number row k None = row
 
 -- the row after a tau or an assignment in row r
-unfoldable pub gone : Act → List ℕ → ℕ → ℕ → Checked → List ℕ
+unfoldable pub gone : Act → List ℕ → ℕ → ℕ → Option ℤ → List ℕ
 gone Tau row n a v = resumed row n
 gone (Meeting d) row n a v = resumed row n
 gone New row n a v = resumed row n

@@ -1,5 +1,6 @@
 -- What waiting threads offer, and who meets whom.
-use Rattle.std.specs.Prelude.{ℕ, Bool, false, not, ◌&&◌, cond, List, ltb, eqb}
+use Rattle.rules.specs.Answers.{Partner}
+use Rattle.std.specs.Prelude.{ℕ, Bool, false, not, ◌&&◌, cond, List, ltb, eqb, None, Some}
 use Rattle.numbers.specs.Search.{first, some}
 use Rattle.table.specs.Table.{Table}
 use Rattle.table.specs.Layout.{branch_count}
@@ -8,8 +9,6 @@ use Rattle.rules.specs.Program.{branch_at, field_a, act_of, guard_holds, same}
 use Rattle.rules.specs.declared.Direction.{Direction}
 use Rattle.rules.specs.declared.Act.{Act}
 use Rattle.rules.specs.declared.Act.TheVariants.{Tau, Meeting, New, Spawn, Assignment}
-use Rattle.rules.specs.declared.Partner.{Partner}
-use Rattle.rules.specs.declared.Partner.TheVariants.{Nobody, At}
 
 -- an act is a meeting of direction d
 unfoldable pub meets? : Act → Direction → Bool
@@ -47,4 +46,4 @@ module _ (tb : Table) where
 
     -- the partner is the first thread that answers, and of its branches the first that does
     unfoldable pub partner_of : Partner
-    partner_of = cond (ltb answering max_threads) (At answering (offering_branch (thread s answering) d c)) Nobody
+    partner_of = cond (ltb answering max_threads) (Some (answering, offering_branch (thread s answering) d c)) None

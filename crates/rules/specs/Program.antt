@@ -1,12 +1,10 @@
 -- What a table says of the nodes at which threads stand. Nodes are counted over the whole file, slots and branches within their definition and
 -- their choice.
-use Rattle.std.specs.Prelude.{ℕ, ◌+◌, Bool, true, false, not, ◌&&◌, cond, List, ltb, eqb, ◌+ℤ◌, ◌-ℤ◌}
+use Rattle.std.specs.Prelude.{ℕ, ◌+◌, Bool, true, false, not, ◌&&◌, cond, List, ltb, eqb, ◌+ℤ◌, ◌-ℤ◌, Option, Some, ℤ}
 use Rattle.std.specs.Int.{w32}
 use Rattle.std.proofs.Common.{to_z}
 use Rattle.numbers.specs.Rows.{at}
 use Rattle.numbers.specs.Signed.{narrowed, is_exact, lower, widened}
-use Rattle.numbers.specs.declared.Checked.{Checked}
-use Rattle.numbers.specs.declared.Checked.TheVariants.{Exact}
 use Rattle.table.specs.Fields as Field
 use Rattle.table.specs.Table.{Table, node_row, branch_row, slot_count}
 use Rattle.table.specs.Layout.{start, definition_of, slot_type}
@@ -19,14 +17,14 @@ use Rattle.rules.specs.declared.Act.TheVariants.{Tau, Meeting, New, Spawn, Assig
 
 -- ---- numbers in slots, each by its pattern: the sum of two whole numbers, if it fits a slot, and their difference (document 02, S-4)
 
-unfoldable pub checked_sum : ℕ → ℕ → Checked
+unfoldable pub checked_sum : ℕ → ℕ → Option ℤ
 checked_sum x y = narrowed (to_z w32 x +ℤ to_z w32 y)
 
-unfoldable pub checked_difference : ℕ → ℕ → Checked
+unfoldable pub checked_difference : ℕ → ℕ → Option ℤ
 checked_difference x y = narrowed (to_z w32 x -ℤ to_z w32 y)
 
 -- whether what a branch assigns fits: an assignment that comes to v; other acts assign nothing
-unfoldable pub fitting : Act → Checked → Bool
+unfoldable pub fitting : Act → Option ℤ → Bool
 fitting Tau v = true
 fitting (Meeting d) v = true
 fitting New v = true
@@ -103,9 +101,9 @@ module _ (tb : Table) where
         (lower (slot_of row (at tb r Field.first)) (slot_of row (at tb r Field.second))))))
 
     -- what an assignment comes to: the constant b, the sum of slots b and c, or their difference
-    unfoldable pub assigned : List ℕ → Checked
+    unfoldable pub assigned : List ℕ → Option ℤ
     assigned row =
-        cond (eqb (at tb r Field.action) 5) (Exact (to_z w32 (widened field_b)))
+        cond (eqb (at tb r Field.action) 5) (Some (to_z w32 (widened field_b)))
         (cond (eqb (at tb r Field.action) 6) (checked_sum (slot_of row field_b) (slot_of row field_c))
         (checked_difference (slot_of row field_b) (slot_of row field_c)))
 

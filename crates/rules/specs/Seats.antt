@@ -3,7 +3,8 @@
 -- `Calls.antt` has it.
 pub mod Laws
 pub mod Entitled
-use Rattle.std.specs.Prelude.{ℕ, ◌+◌, ◌*◌, Bool, ◌&&◌, ◌||◌, cond, List, ltb, leb, eqb, length, get_or}
+use Rattle.rules.specs.Answers.{Admission, Given, Ran, Stepped, Taken}
+use Rattle.std.specs.Prelude.{ℕ, ◌+◌, ◌*◌, Bool, ◌&&◌, ◌||◌, cond, List, ltb, leb, eqb, length, get_or, Err, Ok}
 use Rattle.numbers.specs.Bytes.{words}
 use Rattle.numbers.specs.Search.{every}
 use Rattle.table.specs.Table.{max_ports}
@@ -12,16 +13,6 @@ use Rattle.rules.specs.declared.Right.{Right}
 use Rattle.rules.specs.declared.Right.TheVariants.{Take, Give, StepAndRun, Collect}
 use Rattle.rules.specs.declared.Refusal.{Refusal}
 use Rattle.rules.specs.declared.Refusal.TheVariants as Ground
-use Rattle.rules.specs.declared.Admission.{Admission}
-use Rattle.rules.specs.declared.Admission.TheVariants as Admission
-use Rattle.rules.specs.declared.Stepped.{Stepped}
-use Rattle.rules.specs.declared.Stepped.TheVariants as Stepped
-use Rattle.rules.specs.declared.Given.{Given}
-use Rattle.rules.specs.declared.Given.TheVariants as Given
-use Rattle.rules.specs.declared.Taken.{Taken}
-use Rattle.rules.specs.declared.Taken.TheVariants as Taken
-use Rattle.rules.specs.declared.Ran.{Ran}
-use Rattle.rules.specs.declared.Ran.TheVariants as Ran
 
 -- ---- a list of rights: nine numbers for each of eight seats, as their 32-bit patterns, so that what is at most 3 is not negative
 
@@ -77,30 +68,30 @@ has_right rights seat right = ltb seat seats && grants rights seat right
 
 unfoldable pub rights_admission : List ℕ → ℕ → Right → Admission
 rights_admission rights seat right =
-    cond (rights_in_range rights) (cond (has_right rights seat right) Admission.Admitted (Admission.Refused Ground.Seat)) (Admission.Refused Ground.Rights)
+    cond (rights_in_range rights) (cond (has_right rights seat right) (Ok tt) (Err Ground.Seat)) (Err Ground.Rights)
 
 unfoldable pub seat_admission : List ℕ → List ℕ → List ℕ → ℕ → Right → Admission
 seat_admission table state rights seat right =
-    cond (eqb (length rights) rights_length) (and_then (start_admission table state) (rights_admission rights seat right)) (Admission.Refused Ground.Length)
+    cond (eqb (length rights) rights_length) (and_then (start_admission table state) (rights_admission rights seat right)) (Err Ground.Length)
 
 -- ---- a call at a seat: its refusal, or the call as it is without seats, which asks grounds 8 and 9 again, 10, and its own
 
 unfoldable pub by_seat : {A : Type 0} → (Refusal → A) → Admission → List ℕ → Outcome A → Outcome A
-by_seat refused (Admission.Refused r) state call = outcome (refused r) state
-by_seat refused Admission.Admitted state call = call
+by_seat refused (Err r) state call = outcome (refused r) state
+by_seat refused (Ok tt) state call = call
 
 module _ (table state rights : List ℕ) (seat : ℕ) where
   unfoldable pub at_seat : {A : Type 0} → (Refusal → A) → Right → Outcome A → Outcome A
   at_seat refused right call = by_seat refused (seat_admission table state rights seat right) state call
 
   unfoldable pub seated_step : ℕ → Outcome Stepped
-  seated_step t = at_seat Stepped.Refused StepAndRun (step_call table state t)
+  seated_step t = at_seat Err StepAndRun (step_call table state t)
 
   unfoldable pub seated_give : ℕ → ℕ → Outcome Given
-  seated_give p v = at_seat Given.Refused (Give p) (give_call table state p v)
+  seated_give p v = at_seat Err (Give p) (give_call table state p v)
 
   unfoldable pub seated_take : ℕ → Outcome Taken
-  seated_take p = at_seat Taken.Refused (Take p) (take_call table state p)
+  seated_take p = at_seat Err (Take p) (take_call table state p)
 
   unfoldable pub seated_run : ℕ → Outcome Ran
-  seated_run n = at_seat Ran.Refused StepAndRun (run_call table state n)
+  seated_run n = at_seat Err StepAndRun (run_call table state n)

@@ -1,5 +1,6 @@
 -- What holds of a state when a thread's move is chosen there: `chosen`, of every move, and `partner_answers`, of a partner that is found.
-use Rattle.std.specs.Prelude.{ℕ, ◌<◌, ◌≡◌, true, List, ◌⊎◌, ◌≢◌, ltb}
+use Rattle.rules.specs.Answers.{Partner}
+use Rattle.std.specs.Prelude.{ℕ, ◌<◌, ◌≡◌, true, List, ◌⊎◌, ◌≢◌, ltb, None, Some}
 use Rattle.std.proofs.Common.{arith}
 use Rattle.std.proofs.Math.Path.{refl}
 use Rattle.std.proofs.Math.Bool.{false}
@@ -16,8 +17,6 @@ use Rattle.rules.specs.Moves.{is_free_thread, is_free_channel, free_thread, free
 use Rattle.rules.specs.declared.Direction.{Direction}
 use Rattle.rules.specs.declared.Act.{Act}
 use Rattle.rules.specs.declared.Act.TheVariants.{Tau, Meeting, New, Spawn, Assignment}
-use Rattle.rules.specs.declared.Partner.{Partner}
-use Rattle.rules.specs.declared.Partner.TheVariants.{Nobody, At}
 use Rattle.rules.specs.declared.Move.{Move}
 use Rattle.rules.specs.declared.Move.TheVariants.{Ends, Calls, Waits, Goes, Creates, Spawns, Meets, LacksThread, LacksChannel}
 use Rattle.next_rows.specs.Around.{around_in, around_none}
@@ -92,7 +91,7 @@ module _ (tb : Table) (s : State) (t : ℕ) where
 
 -- ---- partners
 
-at_differs : (u j : ℕ) {A : Type 0} → At u j ≡ Nobody → A
+at_differs : (u j : ℕ) {A : Type 0} → ◌≡◌ {A = Partner} (Some (u, j)) None → A
 at_differs u j e = clash cc
 
 module _ (tb : Table) (row : List ℕ) (d : Direction) (c j : ℕ) (e : offers_at tb row d c j ≡ true) where
@@ -110,7 +109,7 @@ module _ (tb : Table) (row : List ℕ) (d : Direction) (c j : ℕ) (e : offers_a
 
 module _ (tb : Table) (s : State) (t : ℕ) (d : Direction) (c : ℕ) where
   -- a partner that is found answers
-  pub partner_answers : (u j : ℕ) → partner_of tb s t d c ≡ At u j → Answering tb s t d c u j
+  pub partner_answers : (u j : ℕ) → partner_of tb s t d c ≡ Some (u, j) → Answering tb s t d c u j
   partner_answers u j e =
       let (l, o, a, b, g) = partner_in tb s t d c u j e in
       let (k, w, i, p) = offers_says tb (thread s u) d c a in
@@ -128,7 +127,7 @@ module _ (tb : Table) (s : State) (t : ℕ) (d : Direction) (c : ℕ) where
       }
 
   -- where none is found, nobody does
-  pub nobody_answers : partner_of tb s t d c ≡ Nobody → (u : ℕ) → u < max_threads → u ≢ t → offers tb (thread s u) d c ≡ false
+  pub nobody_answers : partner_of tb s t d c ≡ None → (u : ℕ) → u < max_threads → u ≢ t → offers tb (thread s u) d c ≡ false
   unfolding partner_of answering answers
   nobody_answers e u l n =
       case_b (ltb (answering tb s t d c) max_threads)
@@ -144,10 +143,10 @@ module _ (tb : Table) (s : State) (t : ℕ) where
 
   -- ---- a branch with a true guard that does not go ahead
 
-  meeting_waits : (i : ℕ) (p : Partner) → goes_ahead (meeting i p) ≡ false → p ≡ Nobody
+  meeting_waits : (i : ℕ) (p : Partner) → goes_ahead (meeting i p) ≡ false → p ≡ None
   unfolding meeting goes_ahead
-  meeting_waits i Nobody e = refl
-  meeting_waits i (At u j) e = contra refl e
+  meeting_waits i None e = refl
+  meeting_waits i (Some (u, j)) e = contra refl e
 
   creation_ahead : (i c : ℕ) → goes_ahead (creation i c) ≡ true
   unfolding creation goes_ahead
@@ -171,7 +170,7 @@ module _ (tb : Table) (s : State) (t : ℕ) where
     unfolding ahead branch_move
     open_waits g = rw g at e
 
-    waits_alone_lem : (d : Direction) → Open tb s t i (Meeting d) → partner_of tb s t (opposite d) (channel_by tb s t i) ≡ Nobody
+    waits_alone_lem : (d : Direction) → Open tb s t i (Meeting d) → partner_of tb s t (opposite d) (channel_by tb s t i) ≡ None
     unfolding act_move
     waits_alone_lem d o =
         let w : goes_ahead (act_move tb s t i (Meeting d)) ≡ false = rw o.does at open_waits o.passes in

@@ -1,6 +1,7 @@
 -- What a move that is decided says of the state: `move_says` of any move, and what follows for the moves that change more than the thread's own
 -- row. Assumes nothing.
-use Rattle.std.specs.Prelude.{ℕ, ◌<◌, ◌≤◌, ◌≡◌, false, ◌⊎◌, ◌≢◌, ltb, eqb}
+use Rattle.rules.specs.Answers.{Partner}
+use Rattle.std.specs.Prelude.{ℕ, ◌<◌, ◌≤◌, ◌≡◌, false, ◌⊎◌, ◌≢◌, ltb, eqb, None, Some}
 use Rattle.std.proofs.Common.{arith, sym, ◌∙◌}
 use Rattle.std.proofs.Math.Path.{refl}
 use Rattle.std.proofs.Math.Bool.{true, not}
@@ -18,8 +19,6 @@ use Rattle.rules.specs.Moves.{is_free_thread, is_free_channel, free_thread, free
 use Rattle.rules.specs.declared.Direction.{Direction}
 use Rattle.rules.specs.declared.Act.{Act}
 use Rattle.rules.specs.declared.Act.TheVariants.{Tau, Meeting, New, Spawn, Assignment}
-use Rattle.rules.specs.declared.Partner.{Partner}
-use Rattle.rules.specs.declared.Partner.TheVariants.{Nobody, At}
 use Rattle.rules.specs.declared.Move.{Move}
 use Rattle.rules.specs.declared.Move.TheVariants.{Ends, Calls, Waits, Goes, Creates, Spawns, Meets, LacksThread, LacksChannel}
 use Rattle.next_rows.specs.Around.{around_in}
@@ -48,7 +47,7 @@ module _ (tb : Table) (s : State) (t : ℕ) where
   Says (Creates i c) = Taken i New × (c ≡ free_channel s) × (c < max_channels)
   Says (Spawns i u) = Taken i Spawn × (u ≡ free_thread s) × (u < max_threads)
   Says (Meets i u j) =
-      (d : Direction) × Taken i (Meeting d) × (partner_of tb s t (opposite d) (slot_of (thread s t) (field_a tb (row_at i))) ≡ At u j)
+      (d : Direction) × Taken i (Meeting d) × (partner_of tb s t (opposite d) (slot_of (thread s t) (field_a tb (row_at i))) ≡ Some (u, j))
   Says LacksThread = (i : ℕ) × Taken i Spawn × (max_threads ≤ free_thread s)
   Says LacksChannel = (i : ℕ) × Taken i New × (max_channels ≤ free_channel s)
 
@@ -56,8 +55,8 @@ module _ (tb : Table) (s : State) (t : ℕ) where
   meeting_says : (i : ℕ) (d : Direction) (p : Partner) → Taken i (Meeting d)
       → partner_of tb s t (opposite d) (slot_of (thread s t) (field_a tb (row_at i))) ≡ p → goes_ahead (meeting i p) ≡ true → Says (meeting i p)
   unfolding meeting goes_ahead Says
-  meeting_says i d Nobody k e g = contra g refl
-  meeting_says i d (At u j) k e g = (d, k, e)
+  meeting_says i d None k e g = contra g refl
+  meeting_says i d (Some (u, j)) k e g = (d, k, e)
 
   creation_says : (i : ℕ) → Taken i New → Says (creation i (free_channel s))
   unfolding creation Says

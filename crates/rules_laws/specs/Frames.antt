@@ -1,5 +1,5 @@
 -- Who takes part in a move, and the thread rows that a move leaves as they were. Assumes nothing.
-use Rattle.std.specs.Prelude.{ℕ, ◌<◌, ◌≡◌, Bool, true, false, ◌||◌, ◌⊎◌, ◌≢◌, eqb}
+use Rattle.std.specs.Prelude.{ℕ, ◌<◌, ◌≡◌, Bool, true, false, ◌||◌, ◌⊎◌, ◌≢◌, eqb, Some}
 use Rattle.std.proofs.Math.Path.{refl}
 use Rattle.std.proofs.Common.{◌∙◌, inl, inr, eqb-true, eq-eqb, ne_eqb}
 use mathlib.Core.List.{List, [], ◌∷◌, ◌++◌}
@@ -14,7 +14,6 @@ use Rattle.rules.specs.Moves.{move, typed, met_by, spawned_by, written, perform,
 use Rattle.rules.specs.Calls.{bench, past_turn}
 use Rattle.rules.specs.declared.Direction.{Direction}
 use Rattle.rules.specs.declared.Act.TheVariants.{Meeting}
-use Rattle.rules.specs.declared.Partner.TheVariants.{At}
 use Rattle.rules.specs.declared.Move.{Move}
 use Rattle.rules.specs.declared.Move.TheVariants.{Ends, Calls, Waits, Goes, Creates, Spawns, Meets, LacksThread, LacksChannel}
 use Rattle.rules_laws.specs.Reading.Laws.{ready_used, waiting_used, ready_not_waiting}
@@ -174,6 +173,6 @@ module _ (tb : Table) (s : State) (t : ℕ) where
   met_waited i u j e = let o = met_joins i u j e in (o.direction, o.takes.does, o.partner.waits, o.partner.offering)
 
 -- a thread that the bench meets on port p waits, with an offer on that port
-pub bench_waited : (tb : Table) (s : State) (d : Direction) (p u j : ℕ) → partner_of tb s bench d p ≡ At u j
+pub bench_waited : (tb : Table) (s : State) (d : Direction) (p u j : ℕ) → partner_of tb s bench d p ≡ Some (u, j)
     → (u < max_threads) × (is_waiting (thread s u) ≡ true) × (offers tb (thread s u) d p ≡ true)
 bench_waited tb s d p u j e = let a = partner_answers tb s bench d p u j e in (a.thread_in, a.waits, a.offering)

@@ -1,5 +1,5 @@
 -- The guards of branches from inside: what counts as true is the guard as the file has it, and that what the branch assigns fits. Assumes nothing.
-use Rattle.std.specs.Prelude.{ℕ, ◌<◌, ◌≡◌, true, List, ltb, eqb, ℤ, ◌+ℤ◌, ◌-ℤ◌}
+use Rattle.std.specs.Prelude.{ℕ, ◌<◌, ◌≡◌, true, List, ltb, eqb, ℤ, ◌+ℤ◌, ◌-ℤ◌, None, Option, Some}
 use Rattle.std.proofs.Common.{arith}
 use mir.Syntax.{w32}
 use mir.Val.{Fits, SFits, to_z, of_z}
@@ -9,8 +9,6 @@ use Rattle.numbers.specs.Search.Laws.{case_b}
 use Rattle.numbers.specs.Signed.{narrowed, widened}
 use Rattle.numbers.specs.Signed.Laws.{narrowed_exact, exact_is, sum_below}
 use Rattle.numbers.specs.Tests.{and_right}
-use Rattle.numbers.specs.declared.Checked.{Checked}
-use Rattle.numbers.specs.declared.Checked.TheVariants.{Exact, Overflow}
 use Rattle.table.specs.Fields as Field
 use Rattle.table.specs.Table.{Table}
 use Rattle.state.specs.State.{stands_at, slot_of}
@@ -24,21 +22,21 @@ widened_fits : (v : ℕ) → v < 65536 → Fits w32 (widened v)
 unfolding widened
 widened_fits v h = record { fits = case_b (ltb v 32768) (λ e. rw e (omega arith)) (λ e. rw e (sum_below v 4294901760)) }
 
-narrowed_fit : (z w : ℤ) → narrowed z ≡ Exact w → SFits w32 w
+narrowed_fit : (z w : ℤ) → narrowed z ≡ Some w → SFits w32 w
 narrowed_fit z w e = let (q, f) = narrowed_exact z w e in rw q f
 
 module _ (tb : Table) (r : ℕ) (row : List ℕ) where
   -- a branch whose guard counts as true, and which assigns, comes to a number
-  number_assigned : guard_holds tb r row ≡ true → act_of tb r ≡ Assignment → (z : ℤ) × (assigned tb r row ≡ Exact z)
+  number_assigned : guard_holds tb r row ≡ true → act_of tb r ≡ Assignment → (z : ℤ) × (assigned tb r row ≡ Some z)
   unfolding guard_holds fitting
   number_assigned e a = exact_is (assigned tb r row) (rw a at (and_right (printed_guard tb r row) (fitting (act_of tb r) (assigned tb r row)) e))
 
   -- and that number is one of 32 signed bits
-  pub assigned_fits : field_b tb r < 65536 → (z : ℤ) → assigned tb r row ≡ Exact z → SFits w32 z
+  pub assigned_fits : field_b tb r < 65536 → (z : ℤ) → assigned tb r row ≡ Some z → SFits w32 z
   unfolding assigned checked_sum checked_difference
   assigned_fits h z e =
       case_b (eqb (at tb r Field.action) 5)
-      (λ f. let q : Exact (to_z w32 (widened (field_b tb r))) ≡ Exact z = rw f at e in
+      (λ f. let q : Some (to_z w32 (widened (field_b tb r))) ≡ Some z = rw f at e in
       let p : to_z w32 (widened (field_b tb r)) ≡ z = cc in rw (← p) (sfits_to_z (widened_fits (field_b tb r) h)))
       (λ f. case_b (eqb (at tb r Field.action) 6)
       (λ j. narrowed_fit (to_z w32 (slot_of row (field_b tb r)) +ℤ to_z w32 (slot_of row (field_c tb r))) z (rw (f, j) at e))
@@ -46,12 +44,12 @@ module _ (tb : Table) (r : ℕ) (row : List ℕ) where
 
 -- what holds of a thread's row that goes on, with any number stored in slot k or without, holds of the row after a tau or an assignment
 module _ (P : List ℕ → Type 0) (row : List ℕ) (n k : ℕ) (went : P (resumed row n)) (wrote : (v : ℕ) → P (stored (resumed row n) k v)) where
-  number_rows : (v : Checked) → P (stored_number (resumed row n) k v)
+  number_rows : (v : Option ℤ) → P (stored_number (resumed row n) k v)
   unfolding stored_number
-  number_rows (Exact z) = wrote (of_z w32 z)
-  number_rows Overflow = went
+  number_rows (Some z) = wrote (of_z w32 z)
+  number_rows None = went
 
-  pub gone_rows : (v : Checked) (a : Act) → P (gone a row n k v)
+  pub gone_rows : (v : Option ℤ) (a : Act) → P (gone a row n k v)
   unfolding gone
   gone_rows v Tau = went
   gone_rows v (Meeting d) = went
@@ -62,7 +60,7 @@ module _ (P : List ℕ → Type 0) (row : List ℕ) (n k : ℕ) (went : P (resum
 -- a thread's row after its branch i, an assignment that is taken: the number z stands in the slot
 pub record Assigning (tb : Table) (row : List ℕ) (i : ℕ) : Type 0 where
   pub z : ℤ
-  pub comes_to : assigned tb (branch_at tb (stands_at row) i) row ≡ Exact z
+  pub comes_to : assigned tb (branch_at tb (stands_at row) i) row ≡ Some z
   pub goes : gone_by tb row i ≡ stored (resumed row (next_of tb (stands_at row) (branch_at tb (stands_at row) i))) (field_a tb (branch_at tb (stands_at row) i)) (of_z w32 z)
 
 pub assigning : (tb : Table) (row : List ℕ) (i : ℕ) → guard_holds tb (branch_at tb (stands_at row) i) row ≡ true

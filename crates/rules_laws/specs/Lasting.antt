@@ -1,6 +1,8 @@
 -- A sound state stays sound: through every move, every meeting with the bench, every move of the turn, every run, and every call on a state. Assumes
 -- nothing but what the table grants.
-use Rattle.std.specs.Prelude.{ℕ, zero, suc, ◌<◌, ◌≡◌, refl, true, ltb}
+use Rattle.std.specs.declared.ops.ControlFlow.TheVariants.{Break, Continue}
+use Rattle.rules.specs.Answers.{Partner, Stepped, Turn}
+use Rattle.std.specs.Prelude.{ℕ, zero, suc, ◌<◌, ◌≡◌, refl, true, ltb, Err, None, Ok, Some}
 use Rattle.std.proofs.Common.{arith, ap, ◌∙◌}
 use borrow.Author.Tests.{ltb-true}
 use Rattle.numbers.specs.Search.Laws.{case_b}
@@ -13,12 +15,6 @@ use Rattle.rules.specs.Moves.{one_up, met_by, move, written, perform, met_by_ben
 use Rattle.rules.specs.Calls.{step_answer, step_end, can_step, step_on, bench, given_to, give_on, taken_from, take_on, next_ready, past_turn, turn_by, Course, onward, one_more, turn_end, take_turn, course_of, run_on}
 use Rattle.rules.specs.declared.Direction.{Direction}
 use Rattle.rules.specs.declared.Direction.TheVariants.{Out, In}
-use Rattle.rules.specs.declared.Partner.{Partner}
-use Rattle.rules.specs.declared.Partner.TheVariants.{Nobody, At}
-use Rattle.rules.specs.declared.Stepped.{Stepped}
-use Rattle.rules.specs.declared.Stepped.TheVariants as Stepped
-use Rattle.rules.specs.declared.Turn.{Turn}
-use Rattle.rules.specs.declared.Turn.TheVariants.{Went, Stopped}
 use Rattle.upkeep.specs.Upkeep.{settled_mark}
 use Rattle.next_rows.specs.Around.{next_ready_in}
 use Rattle.rules_laws.specs.Granted.{Granted}
@@ -62,12 +58,12 @@ move_kept tb g s ok t l r = settle tb g (written tb s t (move tb s t)) (written_
 
 -- the state after the environment gives the number v on port p to the thread that is found to receive it is sound
 pub give_kept : (tb : Table) → Granted tb → (s : State) → Sound tb s → (p v u j : ℕ) → p < ports tb → v < 4294967296
-    → partner_of tb s bench In p ≡ At u j → Sound tb (met_by_bench tb s u j v)
+    → partner_of tb s bench In p ≡ Some (u, j) → Sound tb (met_by_bench tb s u j v)
 give_kept tb g s ok p v u j l b e = bench_kept tb g s ok In p v u j l b (partner_answers tb s bench In p u j e)
 
 -- the state after the environment takes a number on port p from the thread that is found to send it is sound
 pub take_kept : (tb : Table) → Granted tb → (s : State) → Sound tb s → (p u j : ℕ) → p < ports tb
-    → partner_of tb s bench Out p ≡ At u j → Sound tb (met_by_bench tb s u j 0)
+    → partner_of tb s bench Out p ≡ Some (u, j) → Sound tb (met_by_bench tb s u j 0)
 take_kept tb g s ok p u j l e = bench_kept tb g s ok Out p 0 u j l (omega arith) (partner_answers tb s bench Out p u j e)
 
 -- the turn of a run may move past any thread
@@ -86,8 +82,8 @@ turn_kept tb s ok t l =
 module _ (tb : Table) (g : Granted tb) where
   turn_end_kept : (s : State) → Sound tb s → (t : ℕ) → t < max_threads → is_ready (thread s t) ≡ true → (w : Turn) → Sound tb (turn_end tb s t w).state
   unfolding turn_end
-  turn_end_kept s ok t l r Went = turn_kept tb (perform tb s t (move tb s t)) (move_kept tb g s ok t l r) t l
-  turn_end_kept s ok t l r (Stopped x) = turn_kept tb s ok t l
+  turn_end_kept s ok t l r (Continue tt) = turn_kept tb (perform tb s t (move tb s t)) (move_kept tb g s ok t l r) t l
+  turn_end_kept s ok t l r (Break x) = turn_kept tb s ok t l
 
   -- the state after a turn is sound
   pub take_turn_kept : (s : State) → Sound tb s → Sound tb (take_turn tb s).state
@@ -100,8 +96,8 @@ module _ (tb : Table) (g : Granted tb) where
 
   onward_kept : (w : Turn) (s : State) (f : State → Course) → Sound tb s → ((x : State) → Sound tb x → Sound tb (f x).state) → Sound tb (onward w s f).state
   unfolding onward one_more
-  onward_kept Went s f ok h = h s ok
-  onward_kept (Stopped r) s f ok h = ok
+  onward_kept (Continue tt) s f ok h = h s ok
+  onward_kept (Break r) s f ok h = ok
 
 -- the state in which a run ends is sound
 pub course_kept : (tb : Table) → Granted tb → (n : ℕ) (s : State) → Sound tb s → Sound tb (course_of tb n s).state
@@ -114,8 +110,8 @@ course_kept tb g (suc n) s ok = onward_kept tb g (take_turn tb s).turn (take_tur
 module _ (tb : Table) (g : Granted tb) (s : State) (ok : Sound tb s) where
   step_end_kept : (a : Stepped) (s' : State) → Sound tb s' → Sound tb (step_end a s s').state
   unfolding step_end
-  step_end_kept (Stepped.Done n d) s' h = h
-  step_end_kept (Stepped.Refused r) s' h = ok
+  step_end_kept (Ok (n, d)) s' h = h
+  step_end_kept (Err r) s' h = ok
 
   stepped_kept : (t : ℕ) → can_step s t ≡ true → Sound tb (perform tb s t (move tb s t))
   unfolding can_step
@@ -130,8 +126,8 @@ module _ (tb : Table) (g : Granted tb) (s : State) (ok : Sound tb s) where
 
   given_kept : (p v : ℕ) → p < ports tb → v < 4294967296 → (m : Partner) → partner_of tb s bench In p ≡ m → Sound tb (given_to tb s m v).state
   unfolding given_to
-  given_kept p v l h Nobody e = ok
-  given_kept p v l h (At u j) e = give_kept tb g s ok p v u j l h e
+  given_kept p v l h None e = ok
+  given_kept p v l h (Some (u, j)) e = give_kept tb g s ok p v u j l h e
 
   -- a give of a 32-bit number, on whatever port
   pub give_on_kept : (p v : ℕ) → v < 4294967296 → Sound tb (give_on tb s p v).state
@@ -142,8 +138,8 @@ module _ (tb : Table) (g : Granted tb) (s : State) (ok : Sound tb s) where
 
   taken_kept : (p : ℕ) → p < ports tb → (m : Partner) → partner_of tb s bench Out p ≡ m → Sound tb (taken_from tb s m).state
   unfolding taken_from
-  taken_kept p l Nobody e = ok
-  taken_kept p l (At u j) e = take_kept tb g s ok p u j l e
+  taken_kept p l None e = ok
+  taken_kept p l (Some (u, j)) e = take_kept tb g s ok p u j l e
 
   -- a take, on whatever port
   pub take_on_kept : (p : ℕ) → Sound tb (take_on tb s p).state

@@ -1,6 +1,6 @@
 -- What a thread may learn by a move: every channel that it holds afterwards it held before, or a thread that took part did, or it was free. A port
 -- brings nothing to hold. Assumes nothing but what the table grants.
-use Rattle.std.specs.Prelude.{ℕ, ◌<◌, ◌≡◌, true, ◌⊎◌, ◌≢◌, length}
+use Rattle.std.specs.Prelude.{ℕ, ◌<◌, ◌≡◌, true, ◌⊎◌, ◌≢◌, length, Some}
 use Rattle.std.proofs.Common.{arith, sym, ◌∙◌, ap}
 use Rattle.std.proofs.Math.Path.{refl}
 use mathlib.Core.List.{List, [], ◌∷◌}
@@ -17,7 +17,6 @@ use Rattle.rules.specs.Moves.{move, gone, side_of, typed, gone_by, created_by, m
 use Rattle.rules.specs.Calls.{bench}
 use Rattle.rules.specs.declared.Direction.{Direction}
 use Rattle.rules.specs.declared.Act.TheVariants.{Tau, Meeting, Assignment}
-use Rattle.rules.specs.declared.Partner.TheVariants.{At}
 use Rattle.rules.specs.declared.Move.{Move}
 use Rattle.rules.specs.declared.Move.TheVariants.{Ends, Calls, Waits, Goes, Creates, Spawns, Meets, LacksThread, LacksChannel}
 use Rattle.rules_laws.specs.Granted.{Granted}
@@ -212,5 +211,5 @@ learnt tb g s ok t l ready = learns tb g s ok.orderly t l ready (move tb s t) (c
 
 -- after a meeting with the bench every thread holds only what it held: a port carries numbers
 pub bench_learns_nothing : (tb : Table) → Granted tb → (s : State) → Sound tb s → (d : Direction) (p u j : ℕ) → p < ports tb
-    → partner_of tb s bench d p ≡ At u j → (v w c : ℕ) → holds tb (thread (met_by_bench tb s u j v) w) c ≡ true → holds tb (thread s w) c ≡ true
+    → partner_of tb s bench d p ≡ Some (u, j) → (v w c : ℕ) → holds tb (thread (met_by_bench tb s u j v) w) c ≡ true → holds tb (thread s w) c ≡ true
 bench_learns_nothing tb g s ok d p u j port e = bench_held tb g s ok.orderly d p u j port (partner_answers tb s bench d p u j e)

@@ -1,10 +1,9 @@
 -- A thread that goes on by one of its branches has a sound row, and is ready. Assumes nothing but what the table grants.
-use Rattle.std.specs.Prelude.{ℕ, ◌<◌, ◌≡◌, true, List}
+use Rattle.std.specs.Prelude.{ℕ, ◌<◌, ◌≡◌, true, List, Option, ℤ}
 use Rattle.std.proofs.Common.{arith, ⊎_elim, of_z}
 use Rattle.std.proofs.Math.Path.{refl}
 use mir.Syntax.{w32}
 use Rattle.std.proofs.Math.Facts.{Fits-of_z}
-use Rattle.numbers.specs.declared.Checked.{Checked}
 use Rattle.table.specs.Table.{Table, slot_count}
 use Rattle.table.specs.Layout.{branch_count, definition_of}
 use Rattle.state.specs.State.{max_channels, row_slots, stands_at, in_use, is_ready}
@@ -25,7 +24,7 @@ module _ (row : List ℕ) (n k : ℕ) where
   pub stored_ready : (v : ℕ) → is_ready (stored (resumed row n) k v) ≡ true
   stored_ready v = rw (stored_status (resumed row n) k v) (resumed_ready row n)
 
-  gone_ready : (v : Checked) (a : Act) → is_ready (gone a row n k v) ≡ true
+  gone_ready : (v : Option ℤ) (a : Act) → is_ready (gone a row n k v) ≡ true
   gone_ready = gone_rows (λ r. is_ready r ≡ true) row n k (resumed_ready row n) stored_ready
 
   met_ready : (v : ℕ) (d : Direction) → is_ready (met d row n k v) ≡ true

@@ -1,5 +1,5 @@
 -- What it says that a table is accepted: no ground from 3 to 7 refuses it. Assumes nothing.
-use Rattle.std.specs.Prelude.{ℕ, ◌+◌, ◌*◌, ◌<◌, ◌≡◌, true, cond, List, ltb, eqb, get_or}
+use Rattle.std.specs.Prelude.{ℕ, ◌+◌, ◌*◌, ◌<◌, ◌≡◌, true, cond, List, ltb, eqb, get_or, Err, Ok}
 use Rattle.std.proofs.Common.{arith}
 use Rattle.std.proofs.Math.ListN.{length}
 use borrow.Author.Tests.{ltb-true, ltb-false, eq-eqb, eqb-true}
@@ -20,7 +20,6 @@ use Rattle.loader.specs.Verdict.{at_fault, judged_flow, judged_rows, judged}
 use Rattle.loader.specs.Verdict.Laws.{no_sound, judged_header}
 use Rattle.loader.specs.Load.{table_length, accepted}
 use Rattle.loader.specs.declared.Ground.TheVariants.{Kind, Sums, Range, Types, Unwritten, Unreachable}
-use Rattle.loader.specs.declared.Verdict.TheVariants.{Sound, Fault}
 use Rattle.loader_laws.specs.Grounds.{Formed}
 use Rattle.loader_laws.specs.PrintedFile.{fault_sound, sound_read}
 use Rattle.loader_laws.specs.Yields.{judged_total, acceptable_iff, buffer_shaped}
@@ -34,16 +33,16 @@ pub record Passed (tb : Table) : Type 0 where
 
 module _ (tb : Table) where
   -- of ground 3 the kinds and the sums, and the rest of the verdict
-  past_form : (n : ℕ) → judged tb n ≡ Sound → (first (kind_wrong tb) n ≡ n) × (sums_agree tb ≡ true) × (judged_rows tb n ≡ Sound)
+  past_form : (n : ℕ) → judged tb n ≡ Ok tt → (first (kind_wrong tb) n ≡ n) × (sums_agree tb ≡ true) × (judged_rows tb n ≡ Ok tt)
   unfolding judged
   past_form n e =
-      let k : at_fault Kind (kind_wrong tb) n (cond (sums_agree tb) (judged_rows tb n) (Fault Sums 1)) ≡ Sound =
+      let k : at_fault Kind (kind_wrong tb) n (cond (sums_agree tb) (judged_rows tb n) (Err (Sums, 1))) ≡ Ok tt =
       rw (judged_header tb n e, eq-eqb n (line_total tb) (judged_total tb n e)) at e in
-      let (f, q) = fault_sound Kind (kind_wrong tb) n (cond (sums_agree tb) (judged_rows tb n) (Fault Sums 1)) k in
+      let (f, q) = fault_sound Kind (kind_wrong tb) n (cond (sums_agree tb) (judged_rows tb n) (Err (Sums, 1))) k in
       case_b (sums_agree tb) (λ y. (f, y, rw y at q)) (λ y. no_sound Sums 1 (rw y at q))
 
   -- a table in which the verdict finds no fault passes every ground
-  pub judged_passed : (n : ℕ) → judged tb n ≡ Sound → Passed tb
+  pub judged_passed : (n : ℕ) → judged tb n ≡ Ok tt → Passed tb
   unfolding judged_rows judged_flow
   judged_passed n e =
       let t : n ≡ line_total tb = judged_total tb n e in

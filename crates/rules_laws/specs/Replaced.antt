@@ -5,7 +5,6 @@ use Rattle.std.proofs.Common.{arith, ◌∙◌, get_or-set_same, get_or-set_othe
 use mathlib.Core.List.{List, []}
 use Rattle.std.proofs.Math.ListN.{length-set}
 use Rattle.std.proofs.lemmas.Bool.{eqb-false}
-use Rattle.numbers.specs.Rows.{at}
 use Rattle.numbers.specs.Rows.Laws.{at_put_same, at_put_row}
 use Rattle.numbers.specs.Search.Laws.{case_b, contra}
 use Rattle.table.specs.Table.{Table}

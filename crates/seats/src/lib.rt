@@ -4,7 +4,7 @@
 ghost use Rattle.std.specs.Prelude.{◌≡◌};
 ghost use Rattle.rules.specs.Seats.{right_at, rights_in_range, grants_first, grants_second, grants, has_right, rights_admission};
 
-use rules::{Admission, Refusal, Right};
+use rules::{Refusal, Right};
 
 // The bytes of a list of rights.
 pub const BYTES: usize = 288;
@@ -22,15 +22,11 @@ const NINTH: u32 = 8;
 fn rights_in_range(rights: &[u8]) -> bool
     ensures { result ≡ rights_in_range rights.now }
 {
-    for i in 0..NUMBERS {
-        if numbers::word_at(rights, i) > 3 {
-            return false;
-        }
-    }
-    true
+    (0..NUMBERS).all(|i| numbers::word_at(rights, i) <= 3)
 }
 
 // The number at place k of those of a seat.
+#[tactic(auto, unfolding(rules::specs::Seats::right_at))]
 fn right_at(rights: &[u8], seat: u32, k: u32) -> u32
     ensures { result ≡ right_at rights.now seat k }
 {
@@ -38,6 +34,7 @@ fn right_at(rights: &[u8], seat: u32, k: u32) -> u32
 }
 
 // Whether a number grants the first of its two things.
+#[tactic(auto, unfolding(rules::specs::Seats::grants_first))]
 fn grants_first(number: u32) -> bool
     ensures { result ≡ grants_first number }
 {
@@ -45,6 +42,7 @@ fn grants_first(number: u32) -> bool
 }
 
 // Whether a number grants the second of its two things.
+#[tactic(auto, unfolding(rules::specs::Seats::grants_second))]
 fn grants_second(number: u32) -> bool
     ensures { result ≡ grants_second number }
 {
@@ -52,6 +50,7 @@ fn grants_second(number: u32) -> bool
 }
 
 // Whether the numbers of a seat grant a right. The number behind those of the ports is no port's.
+#[tactic(auto, unfolding(rules::specs::Seats::grants))]
 fn grants(rights: &[u8], seat: u32, right: Right) -> bool
     ensures { result ≡ grants rights.now seat right }
 {
@@ -68,6 +67,7 @@ fn grants(rights: &[u8], seat: u32, right: Right) -> bool
 }
 
 // Whether a seat has a right.
+#[tactic(auto, unfolding(rules::specs::Seats::has_right))]
 fn has_right(rights: &[u8], seat: u32, right: Right) -> bool
     ensures { result ≡ has_right rights.now seat right }
 {
@@ -75,14 +75,15 @@ fn has_right(rights: &[u8], seat: u32, right: Right) -> bool
 }
 
 // Grounds 18 and 19.
-pub fn admit(rights: &[u8], seat: u32, right: Right) -> Admission
+#[tactic(auto, unfolding(rules::specs::Seats::rights_admission))]
+pub fn admit(rights: &[u8], seat: u32, right: Right) -> Result<(), Refusal>
     ensures { result ≡ rights_admission rights.now seat right }
 {
     if !rights_in_range(rights) {
-        return Admission::Refused(Refusal::Rights);
+        Err(Refusal::Rights)
+    } else if has_right(rights, seat, right) {
+        Ok(())
+    } else {
+        Err(Refusal::Seat)
     }
-    if has_right(rights, seat, right) {
-        return Admission::Admitted;
-    }
-    Admission::Refused(Refusal::Seat)
 }

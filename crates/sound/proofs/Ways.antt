@@ -1,25 +1,25 @@
--- One law for each way out of the functions that test a state. Assumes nothing.
-use Prim.Native.Nat.{ℕ, ◌+◌, ◌≤◌, ◌<◌}
+-- What the functions that test a state come to. Assumes nothing.
+use Prim.Native.Nat.{ℕ, zero, suc, ◌+◌, ◌≤◌, ◌<◌}
 use native.Mathlib.Omega.{arith}
 use native.Mathlib.Nat.{zero-add}
 use mathlib.Core.Path.{◌≡◌, refl, ◌∙◌}
-use mathlib.Core.Bool.{Bool, true, false, ◌&&◌, ◌||◌}
+use mathlib.Core.Bool.{Bool, true, false, ◌&&◌, ◌||◌, cond, beq}
 use mathlib.Core.List.{List}
 use lib.Dec.{ltb, leb, eqb}
 use lib.ListN.{get_or}
-use borrow.Author.Tests.{lt-ltb, le-ltb, le-leb, lt-leb, eq-eqb, ne_eqb}
+use borrow.Author.Tests.{lt-ltb, le-ltb, eq-eqb, ne_eqb}
 use Rattle.numbers.specs.Bits.{bits_of, joined_all}
 use Rattle.numbers.specs.Count.{bit}
 use Rattle.numbers.specs.Rows.{at}
 use Rattle.numbers.specs.Search.{every, tabulate}
-use Rattle.numbers.specs.Search.Laws.{every_more, every_not, every_all, get_d_tabulate}
+use Rattle.numbers.specs.Search.Laws.{get_d_tabulate}
 use Rattle.numbers.specs.Tests.{and_true}
 use Rattle.table.specs.Fields as Field
 use Rattle.table.specs.Table.{Table, nodes, ports, slot_row, slot_count}
 use Rattle.table.specs.Layout.{start, definition_of, slot_type}
 use Rattle.table.specs.declared.Part.TheVariants.{Slots}
 use Rattle.flow.specs.Flow.{Gaps, flow, has_gap, may_lack}
-use Rattle.state.specs.State.{State, max_threads, max_channels, thread_words, row_slots, thread_mark, channel_mark, turn, thread, status, stands_at, slot_of, in_use, type_in}
+use Rattle.state.specs.State.{State, max_threads, max_channels, thread_words, row_slots, thread, status, stands_at, slot_of, in_use, type_in}
 use Rattle.rules.specs.Program.{channel_slot}
 use Rattle.rules.specs.Holding.{count_of, holders, waiters}
 use Rattle.rules.specs.Sound.{marks_in_range, free_zero, row_in_range, spare_zero, slot_typed, slots_typed, slot_filled, slots_filled, count_true, port_typed, waits_rightly, sound}
@@ -32,25 +32,7 @@ or_true : (b : Bool) → (b || true) ≡ true
 or_true true = refl
 or_true false = refl
 
--- ---- marks_in_range
-
-module _ (s : State) (a : ℕ) (e : a ≡ thread_mark s) where
-  pub thread_mark_past : max_threads ≤ a → false ≡ marks_in_range s
-  unfolding marks_in_range
-  thread_mark_past h = rw (← e, le-ltb a 64 h)
-
-  module _ (h : a < max_threads) (b : ℕ) (f : b ≡ channel_mark s) where
-    pub channel_mark_past : max_channels ≤ b → false ≡ marks_in_range s
-    unfolding marks_in_range
-    channel_mark_past i = rw (← e, lt-ltb a 64 h, ← f, le-ltb b 128 i)
-
-    pub turn_tested : (c : ℕ) → b < max_channels → c ≡ turn s → ltb c max_threads ≡ marks_in_range s
-    unfolding marks_in_range
-    turn_tested c i g = rw (← e, lt-ltb a 64 h, ← f, lt-ltb b 128 i, g)
-
-pub ruleset marks = (thread_mark_past, channel_mark_past, turn_tested)
-
--- ---- row_is_zero, spare_at and spare_zero: x has the bits of what was looked at
+-- ---- row_is_zero and spare_zero: x has the bits of what was looked at
 
 module _ (row : List ℕ) (x i : ℕ) where
   pub words_zero : x ≡ bits_of (λ k. get_or row k 0) i → i ≤ thread_words → thread_words ≤ i → eqb x 0 ≡ every (word_zero row) thread_words
@@ -60,24 +42,6 @@ module _ (row : List ℕ) (x i : ℕ) where
   pub spares_zero : (n : ℕ) → x ≡ bits_of (spare_of row n) i → i ≤ row_slots → row_slots ≤ i → eqb x 0 ≡ every (spare_zero_at row n) row_slots
   unfolding spare_zero_at
   spares_zero n e h l = joined_all (spare_of row n) i row_slots x e h l
-
-module _ (row : List ℕ) (n k : ℕ) where
-  pub spare_own : k < n → 0 ≡ spare_of row n k
-  unfolding spare_of
-  spare_own h = rw (lt-ltb k n h)
-
-  pub spare_there : (v : ℕ) → n ≤ k → v ≡ slot_of row k → v ≡ spare_of row n k
-  unfolding spare_of
-  spare_there v h e = e ∙ rw (le-ltb k n h)
-
--- ---- in_range: m is the number of nodes
-
-module _ (tb : Table) (x n : ℕ) where
-  pub status_unknown : 2 < x → false ≡ (leb x 2 && ltb n (nodes tb))
-  status_unknown h = rw (lt-leb x 2 h)
-
-  pub node_tested : (m : ℕ) → x ≤ 2 → m ≡ nodes tb → ltb n m ≡ (leb x 2 && ltb n (nodes tb))
-  node_tested m h e = rw (le-leb x 2 h, e)
 
 -- ---- slot_sound: the row stands at node n; slot k, of the type ty, has v
 
@@ -122,8 +86,6 @@ pub slot_empty : (tb : Table) (s : State) (row : List ℕ) (k n : ℕ) (ms : Gap
     → k < own_room tb row → r ≡ slot_sound tb s row k
 slot_empty tb s row k n ms r i p f v e w q from ty g j o h = empty_slot tb s row k n from ty f g h j o v e q ms r p i w
 
-pub ruleset slots = (slot_number, slot_channel, slot_empty, slot_no_channel)
-
 -- ---- pass_row: x is the row's status
 
 pub in_use_lem : (row : List ℕ) (x : ℕ) → x ≡ status row → (x ≡ 0 → ⊥) → in_use row ≡ true
@@ -151,6 +113,13 @@ module _ (tb : Table) (s : State) (row : List ℕ) (x : ℕ) (e : x ≡ status r
       turned false true false = refl
       turned false false true = refl
       turned false false false = refl
+
+-- what is unused has no holder, and what is used has one
+used_as_held : (t : Bool) (a : ℕ) → beq t (eqb a 0) ≡ cond t (eqb a 0) (ltb 0 a)
+used_as_held true zero = refl
+used_as_held true (suc a) = rw (ne_eqb (suc a) 0 (λ q. omega (arith, q)))
+used_as_held false zero = refl
+used_as_held false (suc a) = rw (ne_eqb (suc a) 0 (λ q. omega (arith, q)), lt-ltb 0 (suc a) (omega arith))
 
 -- ---- count_due and channel_sound: a is the channel's count, z its type
 
@@ -180,27 +149,9 @@ module _ (tb : Table) (s : State) (c a x : ℕ) (e : a ≡ at s.channels c 1) (f
     waiting_false o = rw (← e, ← f, eq-eqb a x g, ← h, ← waiting_counted, ne_eqb b y o)
 
     module _ (o : b ≡ y) (z : ℕ) (p : z ≡ type_in s c) where
-      pub count_free : z ≡ 0 → eqb a 0 ≡ count_true tb s c
+      pub count_told : beq (eqb z 0) (eqb a 0) ≡ count_true tb s c
       unfolding count_true
-      count_free q = rw (← e, ← f, eq-eqb a x g, ← h, ← waiting_counted, eq-eqb b y o, ← p, q)
-
-      pub count_used : (z ≡ 0 → ⊥) → ltb 0 a ≡ count_true tb s c
-      unfolding count_true
-      count_used q = rw (← e, ← f, eq-eqb a x g, ← h, ← waiting_counted, eq-eqb b y o, ← p, ne_eqb z 0 q)
-
--- ---- ports_sound
-
-module _ (tb : Table) (s : State) (c n : ℕ) where
-  pub port_typed_lem : (x : ℕ) → every (port_typed tb s) c ≡ true → x ≡ type_in s c → x ≡ 1 → every (port_typed tb s) (c + 1) ≡ true
-  unfolding port_typed
-  port_typed_lem x f e g = every_more (port_typed tb s) c true f (rw (← e, g)) refl
-
-  pub port_untyped : (x : ℕ) → (x ≡ 1 → ⊥) → x ≡ type_in s c → c < n → n ≡ ports tb → false ≡ every (port_typed tb s) (ports tb)
-  unfolding port_typed
-  port_untyped x f e h g = rw (← g) (every_not (port_typed tb s) c n false (rw (← e, ne_eqb x 1 f)) refl h)
-
-  pub ports_typed_lem : every (port_typed tb s) c ≡ true → c ≤ n → n ≤ c → n ≡ ports tb → true ≡ every (port_typed tb s) (ports tb)
-  ports_typed_lem f h i g = rw (← g) (every_all (port_typed tb s) c n f h i)
+      count_told = rw (← e, ← f, eq-eqb a x g, ← h, ← waiting_counted, eq-eqb b y o, ← p) (used_as_held (eqb z 0) a)
 
 -- ---- is_sound
 

@@ -4,8 +4,7 @@
 ghost use Rattle.std.specs.Prelude.{◌≡◌, ◌&&◌, ◌+◌, ◌≤◌, ◌<◌, ltb, leb, length, replicate};
 ghost use Rattle.numbers.specs.Count.{bit};
 ghost use Rattle.numbers.specs.Search.{every, tabulate};
-ghost use Rattle.table.specs.Table.{table_of, nodes, ports};
-ghost use Rattle.table.specs.Index.{Indexed};
+ghost use Rattle.table.specs.Table.{nodes, ports};
 ghost use Rattle.flow.specs.Flow.{flow};
 ghost use Rattle.flow.specs.Gaps.{gaps_of};
 ghost use Rattle.state.specs.State.{state_of, max_threads, max_channels, thread_words, row_slots, thread, stands_at, is_waiting};
@@ -16,28 +15,26 @@ ghost use Rattle.rules.specs.Sound.{marks_in_range, count_true, port_typed, soun
 ghost use Rattle.recount.specs.Tally.{row_added, Fresh};
 ghost use Rattle.sound.specs.SoundRows.{word_zero, spare_of, spare_zero_at, slot_sound, row_sound, rows_sound};
 
-use table::field;
+use table::{Table, field};
 
 // Every port has this type.
 const PORT_TYPE: u32 = 1;
 
 // Whether the marks and the turn are in range.
+#[tactic(auto, unfolding(rules::specs::Sound::marks_in_range))]
 fn marks_in_range(state: &[u32; state::WORDS]) -> bool
     ensures { result ≡ marks_in_range (state_of state.now) }
 {
-    if state::mark(state, state::THREAD_MARK) < state::THREADS {
-        if state::mark(state, state::CHANNEL_MARK) < state::CHANNELS {
-            return state::mark(state, state::TURN) < state::THREADS;
-        }
-    }
-    false
+    state::mark(state, state::THREAD_MARK) < state::THREADS
+        && state::mark(state, state::CHANNEL_MARK) < state::CHANNELS
+        && state::mark(state, state::TURN) < state::THREADS
 }
 
 // Whether slot k of thread t is typed, and filled if it must be. The thread is in use and stands at node n, and the types of its slots, of which k is one, stand from a
 // row of the table on.
+#[tactic(auto, using(crate::proofs::Ways::slot_number, crate::proofs::Ways::slot_channel, crate::proofs::Ways::slot_empty, crate::proofs::Ways::slot_no_channel))]
 fn slot_sound(
-    table: &[u8],
-    index: &[u32],
+    table: &Table,
     gaps: &[u32],
     state: &[u32; state::WORDS],
     t: u32,
@@ -45,33 +42,25 @@ fn slot_sound(
     from: usize,
     k: u32,
 ) -> bool
-    requires indexed { Indexed (table_of table.now) index.now }
-    requires gaps_value { gaps_of gaps.now ≡ flow (table_of table.now) }
+    requires gaps_value { gaps_of gaps.now ≡ flow table.now }
     requires n_value { n ≡ stands_at (thread (state_of state.now) t) }
-    requires from_value { from ≡ types_of (table_of table.now) (thread (state_of state.now) t) }
+    requires from_value { from ≡ types_of table.now (thread (state_of state.now) t) }
     requires from_bound { from ≤ 12713792 }
-    requires k_bound { k < own_room (table_of table.now) (thread (state_of state.now) t) }
-    ensures { result ≡ slot_sound (table_of table.now) (state_of state.now) (thread (state_of state.now) t) k }
+    requires k_bound { k < own_room table.now (thread (state_of state.now) t) }
+    ensures { result ≡ slot_sound table.now (state_of state.now) (thread (state_of state.now) t) k }
 {
-    let ty = table::cell_of(table, index, from + k as usize, field::TYPE);
-    if ty == 0 {
-        return true;
-    }
-    let v = program::slot(state, t, k);
-    if v < state::CHANNELS {
-        return state::channel_word(state, v as usize, state::TYPE) == ty;
-    }
-    if v == state::MINUS_ONE {
-        return flow::has_gap(gaps, n as usize, k);
-    }
-    false
+    let ty = table.cell(from + k as usize, field::TYPE);
+    ty == 0
+        || match program::slot(state, t, k) {
+            state::MINUS_ONE => flow::has_gap(gaps, n as usize, k),
+            v => v < state::CHANNELS && state::channel_word(state, v as usize, state::TYPE) == ty,
+        }
 }
 
 // The slots of thread t, of which there are `count`, are put to their tests, and the thread is counted at the channels in them. Answers whether all pass; the counts
 // are true whether they do or not.
 fn pass_slots(
-    table: &[u8],
-    index: &[u32],
+    table: &Table,
     gaps: &[u32],
     state: &[u32; state::WORDS],
     t: u32,
@@ -82,38 +71,39 @@ fn pass_slots(
     held: &mut [u8; recount::CHANNELS],
     waiting: &mut [u8; recount::CHANNELS],
 ) -> bool
-    requires indexed { Indexed (table_of table.now) index.now }
-    requires gaps_value { gaps_of gaps.now ≡ flow (table_of table.now) }
+    requires gaps_value { gaps_of gaps.now ≡ flow table.now }
     requires t_lt_max_threads { t < max_threads }
     requires n_value { n ≡ stands_at (thread (state_of state.now) t) }
-    requires from_value { from ≡ types_of (table_of table.now) (thread (state_of state.now) t) }
+    requires from_value { from ≡ types_of table.now (thread (state_of state.now) t) }
     requires from_bound { from ≤ 12713792 }
-    requires count_value { count ≡ own_room (table_of table.now) (thread (state_of state.now) t) }
+    requires count_value { count ≡ own_room table.now (thread (state_of state.now) t) }
     requires fresh { Fresh t stamps.old }
     requires held_len { length held.old ≡ max_channels }
     requires waiting_len { length waiting.old ≡ max_channels }
-    ensures value { result ≡ every (slot_sound (table_of table.now) (state_of state.now) (thread (state_of state.now) t)) count }
-    ensures held_after { held.new ≡ row_added (table_of table.now) (thread (state_of state.now) t) 1 held.old }
-    ensures waiting_after { waiting.new ≡ row_added (table_of table.now) (thread (state_of state.now) t) (bit (is_waiting (thread (state_of state.now) t))) waiting.old }
+    ensures value { result ≡ every (slot_sound table.now (state_of state.now) (thread (state_of state.now) t)) count }
+    ensures held_after { held.new ≡ row_added table.now (thread (state_of state.now) t) 1 held.old }
+    ensures waiting_after { waiting.new ≡ row_added table.now (thread (state_of state.now) t) (bit (is_waiting (thread (state_of state.now) t))) waiting.old }
     ensures fresh_after { Fresh (t + 1) stamps.new }
 {
     let w = holding::weight(state, t);
     let mut passed = true;
     for k in 0..count {
-        passed = passed & slot_sound(table, index, gaps, state, t, n, from, k);
-        recount::count_slot(table, index, state, t, from, k, w, stamps, held, waiting);
+        passed &= slot_sound(table, gaps, state, t, n, from, k);
+        recount::count_slot(table, state, t, from, k, w, stamps, held, waiting);
     }
     passed
 }
 
 // What stands in slot k of thread t, which has `count` slots of its own, if it is a spare one; 0 of its own.
+#[tactic(auto, unfolding(crate::specs::SoundRows::spare_of))]
 fn spare_at(state: &[u32; state::WORDS], t: u32, count: u32, k: u32) -> u32
     ensures { result ≡ spare_of (thread (state_of state.now) t) count k }
 {
     if k < count {
-        return 0;
+        0
+    } else {
+        program::slot(state, t, k)
     }
-    program::slot(state, t, k)
 }
 
 // Whether the spare slots of thread t, which has `count` of its own, are 0: so is then every bit that one of them has. (All are joined, with no way out of the loop:
@@ -123,7 +113,7 @@ fn spare_zero(state: &[u32; state::WORDS], t: u32, count: u32) -> bool
 {
     let mut all: u32 = 0;
     for k in 0..state::SLOTS {
-        all = all | spare_at(state, t, count, k);
+        all |= spare_at(state, t, count, k);
     }
     all == 0
 }
@@ -134,26 +124,21 @@ fn row_is_zero(state: &[u32; state::WORDS], t: u32) -> bool
 {
     let mut all: u32 = 0;
     for k in 0..state::THREAD_WORDS {
-        all = all | state::thread_word(state, t as usize, k);
+        all |= state::thread_word(state, t as usize, k);
     }
     all == 0
 }
 
 // Whether the status and the node of a thread are in range.
-fn in_range(table: &[u8], index: &[u32], status: u32, n: u32) -> bool
-    requires { Indexed (table_of table.now) index.now }
-    ensures { result ≡ (leb status waiting_status && ltb n (nodes (table_of table.now))) }
+fn in_range(table: &Table, status: u32, n: u32) -> bool
+    ensures { result ≡ (leb status waiting_status && ltb n (nodes table.now)) }
 {
-    if state::WAITING < status {
-        return false;
-    }
-    n < table::cell_of(table, index, 0, field::NODES)
+    status <= state::WAITING && n < table.cell(0, field::NODES)
 }
 
 // Thread t's row is put to all its tests, and is counted at the channels that it holds. Answers whether it passes.
 fn pass_row(
-    table: &[u8],
-    index: &[u32],
+    table: &Table,
     gaps: &[u32],
     state: &[u32; state::WORDS],
     t: u32,
@@ -161,15 +146,14 @@ fn pass_row(
     held: &mut [u8; recount::CHANNELS],
     waiting: &mut [u8; recount::CHANNELS],
 ) -> bool
-    requires indexed { Indexed (table_of table.now) index.now }
-    requires gaps_value { gaps_of gaps.now ≡ flow (table_of table.now) }
+    requires gaps_value { gaps_of gaps.now ≡ flow table.now }
     requires t_lt_max_threads { t < max_threads }
     requires fresh { Fresh t stamps.old }
     requires held_len { length held.old ≡ max_channels }
     requires waiting_len { length waiting.old ≡ max_channels }
-    ensures value { result ≡ row_sound (table_of table.now) (state_of state.now) (thread (state_of state.now) t) }
-    ensures held_after { held.new ≡ row_added (table_of table.now) (thread (state_of state.now) t) 1 held.old }
-    ensures waiting_after { waiting.new ≡ row_added (table_of table.now) (thread (state_of state.now) t) (bit (is_waiting (thread (state_of state.now) t))) waiting.old }
+    ensures value { result ≡ row_sound table.now (state_of state.now) (thread (state_of state.now) t) }
+    ensures held_after { held.new ≡ row_added table.now (thread (state_of state.now) t) 1 held.old }
+    ensures waiting_after { waiting.new ≡ row_added table.now (thread (state_of state.now) t) (bit (is_waiting (thread (state_of state.now) t))) waiting.old }
     ensures fresh_after { Fresh (t + 1) stamps.new }
 {
     let status = state::thread_word(state, t as usize, state::STATUS);
@@ -177,137 +161,112 @@ fn pass_row(
         return row_is_zero(state, t);
     }
     let n = state::thread_word(state, t as usize, state::NODE);
-    let slots = holding::slots_of(table, index, state, t);
+    let slots = holding::slots_of(table, state, t);
     let count = slots.count;
     let typed = pass_slots(
-        table, index, gaps, state, t, n, slots.from, count, stamps, held, waiting,
+        table, gaps, state, t, n, slots.from, count, stamps, held, waiting,
     );
-    typed & spare_zero(state, t, count) & in_range(table, index, status, n)
+    typed & spare_zero(state, t, count) & in_range(table, status, n)
 }
 
 // One pass over the thread rows: each is put to its tests, and is counted at the channels that it holds. Answers whether all pass. Nothing ends the pass early, so
 // that the counts, which come as zeros, are true whether the rows pass or not.
 fn pass_rows(
-    table: &[u8],
-    index: &[u32],
+    table: &Table,
     gaps: &[u32],
     state: &[u32; state::WORDS],
     held: &mut [u8; recount::CHANNELS],
     waiting: &mut [u8; recount::CHANNELS],
 ) -> bool
-    requires indexed { Indexed (table_of table.now) index.now }
-    requires gaps_value { gaps_of gaps.now ≡ flow (table_of table.now) }
+    requires gaps_value { gaps_of gaps.now ≡ flow table.now }
     requires held_value { held.old ≡ replicate max_channels 0 }
     requires waiting_value { waiting.old ≡ replicate max_channels 0 }
-    ensures value { result ≡ rows_sound (table_of table.now) (state_of state.now) }
-    ensures held_after { held.new ≡ tabulate max_channels (holders (table_of table.now) (state_of state.now).threads) }
-    ensures waiting_after { waiting.new ≡ tabulate max_channels (waiters (table_of table.now) (state_of state.now).threads) }
+    ensures value { result ≡ rows_sound table.now (state_of state.now) }
+    ensures held_after { held.new ≡ tabulate max_channels (holders table.now (state_of state.now).threads) }
+    ensures waiting_after { waiting.new ≡ tabulate max_channels (waiters table.now (state_of state.now).threads) }
 {
     let mut stamps = [0u8; recount::CHANNELS];
     let mut passed = true;
     for t in 0..state::THREADS {
-        passed = passed & pass_row(table, index, gaps, state, t, &mut stamps, held, waiting);
+        passed &= pass_row(table, gaps, state, t, &mut stamps, held, waiting);
     }
     passed
 }
 
 // The count that channel c ought to have: its holders, and the bench if it is a port.
+#[tactic(auto, using(crate::proofs::Ways::due_port, crate::proofs::Ways::due_other))]
 fn count_due(
-    table: &[u8],
+    table: &Table,
     state: &[u32; state::WORDS],
     held: &[u8; recount::CHANNELS],
     c: u32,
 ) -> u32
-    requires held_value { held.now ≡ tabulate max_channels (holders (table_of table.now) (state_of state.now).threads) }
+    requires held_value { held.now ≡ tabulate max_channels (holders table.now (state_of state.now).threads) }
     requires c_lt_max_channels { c < max_channels }
-    ensures { result ≡ count_of (table_of table.now) (state_of state.now).threads c }
+    ensures { result ≡ count_of table.now (state_of state.now).threads c }
 {
     let n = recount::byte_at(held, c) as u32;
-    if c < table::cell(table, 0, field::PORTS) {
-        return 1 + n;
+    if c < table.cell(0, field::PORTS) {
+        1 + n
+    } else {
+        n
     }
-    n
 }
 
 // Whether the counts of channel c are true, and it is in use exactly when its count is above 0.
+#[tactic(auto, using(crate::proofs::Ways::count_false, crate::proofs::Ways::waiting_false))]
 fn channel_sound(
-    table: &[u8],
+    table: &Table,
     state: &[u32; state::WORDS],
     held: &[u8; recount::CHANNELS],
     waiting: &[u8; recount::CHANNELS],
     c: u32,
 ) -> bool
-    requires held_value { held.now ≡ tabulate max_channels (holders (table_of table.now) (state_of state.now).threads) }
-    requires waiting_value { waiting.now ≡ tabulate max_channels (waiters (table_of table.now) (state_of state.now).threads) }
+    requires held_value { held.now ≡ tabulate max_channels (holders table.now (state_of state.now).threads) }
+    requires waiting_value { waiting.now ≡ tabulate max_channels (waiters table.now (state_of state.now).threads) }
     requires c_lt_max_channels { c < max_channels }
-    ensures { result ≡ count_true (table_of table.now) (state_of state.now) c }
+    ensures { result ≡ count_true table.now (state_of state.now) c }
 {
     let count = state::channel_word(state, c as usize, state::COUNT);
-    if count != count_due(table, state, held, c) {
-        return false;
-    }
-    if state::channel_word(state, c as usize, state::WAITERS)
-        != recount::byte_at(waiting, c) as u32
-    {
-        return false;
-    }
-    if state::channel_word(state, c as usize, state::TYPE) == 0 {
-        return count == 0;
-    }
-    0 < count
+    count == count_due(table, state, held, c)
+        && state::channel_word(state, c as usize, state::WAITERS)
+            == recount::byte_at(waiting, c) as u32
+        && (state::channel_word(state, c as usize, state::TYPE) == 0) == (count == 0)
 }
 
 // Whether the counts of all channels are true, given the numbers of their holders and of the waiting ones.
 fn counts_sound(
-    table: &[u8],
+    table: &Table,
     state: &[u32; state::WORDS],
     held: &[u8; recount::CHANNELS],
     waiting: &[u8; recount::CHANNELS],
 ) -> bool
-    requires held_value { held.now ≡ tabulate max_channels (holders (table_of table.now) (state_of state.now).threads) }
-    requires waiting_value { waiting.now ≡ tabulate max_channels (waiters (table_of table.now) (state_of state.now).threads) }
-    ensures { result ≡ every (count_true (table_of table.now) (state_of state.now)) max_channels }
+    requires held_value { held.now ≡ tabulate max_channels (holders table.now (state_of state.now).threads) }
+    requires waiting_value { waiting.now ≡ tabulate max_channels (waiters table.now (state_of state.now).threads) }
+    ensures { result ≡ every (count_true table.now (state_of state.now)) max_channels }
 {
-    for c in 0..state::CHANNELS {
-        if !channel_sound(table, state, held, waiting, c) {
-            return false;
-        }
-    }
-    true
+    (0..state::CHANNELS).all(|c| channel_sound(table, state, held, waiting, c))
 }
 
 // Whether the ports are in use, of type 1.
-fn ports_sound(table: &[u8], state: &[u32; state::WORDS]) -> bool
-    ensures { result ≡ every (port_typed (table_of table.now) (state_of state.now)) (ports (table_of table.now)) }
+fn ports_sound(table: &Table, state: &[u32; state::WORDS]) -> bool
+    ensures { result ≡ every (port_typed table.now (state_of state.now)) (ports table.now) }
 {
-    let n = table::cell(table, 0, field::PORTS);
-    for c in 0..n {
-        if state::channel_word(state, c as usize, state::TYPE) != PORT_TYPE {
-            return false;
-        }
-    }
-    true
+    let n = table.cell(0, field::PORTS);
+    (0..n).all(|c| state::channel_word(state, c as usize, state::TYPE) == PORT_TYPE)
 }
 
 // Whether a state is sound for a table, whose flow has these gaps: ground 10.
-pub fn is_sound(table: &[u8], index: &[u32], gaps: &[u32], state: &[u32; state::WORDS]) -> bool
-    requires indexed { Indexed (table_of table.now) index.now }
-    requires gaps_value { gaps_of gaps.now ≡ flow (table_of table.now) }
-    ensures { result ≡ sound (table_of table.now) (state_of state.now) }
+#[tactic(auto, using(crate::proofs::Ways::marks_unsound, crate::proofs::Ways::threads_unsound, crate::proofs::Ways::counts_unsound, crate::proofs::Ways::ports_unsound, crate::proofs::Ways::waits_tested))]
+pub fn is_sound(table: &Table, gaps: &[u32], state: &[u32; state::WORDS]) -> bool
+    requires gaps_value { gaps_of gaps.now ≡ flow table.now }
+    ensures { result ≡ sound table.now (state_of state.now) }
 {
-    if !marks_in_range(state) {
-        return false;
-    }
     let mut held = [0u8; recount::CHANNELS];
     let mut waiting = [0u8; recount::CHANNELS];
-    if !pass_rows(table, index, gaps, state, &mut held, &mut waiting) {
-        return false;
-    }
-    if !counts_sound(table, state, &held, &waiting) {
-        return false;
-    }
-    if !ports_sound(table, state) {
-        return false;
-    }
-    waits::waits_rightly(table, index, state)
+    marks_in_range(state)
+        && pass_rows(table, gaps, state, &mut held, &mut waiting)
+        && counts_sound(table, state, &held, &waiting)
+        && ports_sound(table, state)
+        && waits::waits_rightly(table, state)
 }

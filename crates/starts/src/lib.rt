@@ -2,16 +2,15 @@
 #![tactic(auto)]
 
 ghost use Rattle.std.specs.Prelude.{◌≡◌, [], ◌∷◌, ◌<◌, replicate};
-ghost use Rattle.table.specs.Table.{table_of};
-ghost use Rattle.table.specs.Index.{Indexed};
 ghost use Rattle.numbers.specs.Search.{tabulate};
 ghost use Rattle.state.specs.State.{max_channels, state_of, row_slots, with_thread, with_channel};
 ghost use Rattle.rules.specs.Start.{entered, started};
 ghost use Rattle.starts.specs.Opening.{port_held, freed, opened, marked, unstarted, port_at};
 
-use table::Part;
+use table::{Part, Table};
 
 // Every thread row is free.
+#[tactic(auto, using(crate::specs::Opening::Laws::freeing))]
 fn free_threads(state: &mut [u32; state::WORDS])
     ensures { state_of state.new ≡ freed (state_of state.old) }
 {
@@ -21,30 +20,31 @@ fn free_threads(state: &mut [u32; state::WORDS])
 }
 
 // Channel c's row: its type, its count, and no waiting holder.
+#[tactic(auto, using(crate::specs::Opening::Laws::row_put))]
 fn put_channel_row(state: &mut [u32; state::WORDS], c: u32, ty: u32, n: u32)
     requires { c < max_channels }
     ensures { state_of state.new ≡ with_channel (state_of state.old) c (ty ∷ n ∷ 0 ∷ []) }
 {
-    // As a slice the state tells its length, as in `thread_rows::put_head`.
-    let words: &[u32] = state;
     state::put_channel(state, c as usize, state::TYPE, ty);
     state::put_channel(state, c as usize, state::COUNT, n);
     state::put_channel(state, c as usize, state::WAITERS, 0);
 }
 
 // Channel c where this many channels are ports: a port is of type 1 and held by the bench, any other channel is free.
+#[tactic(auto, unfolding(crate::specs::Opening::port_held))]
 fn open_channel(state: &mut [u32; state::WORDS], c: u32, ports: u32)
     requires { c < max_channels }
     ensures { state_of state.new ≡ with_channel (state_of state.old) c (port_held ports c) }
 {
     if c < ports {
         put_channel_row(state, c, 1, 1);
-        return;
+    } else {
+        put_channel_row(state, c, 0, 0);
     }
-    put_channel_row(state, c, 0, 0);
 }
 
 // Every channel is opened where this many channels are ports.
+#[tactic(auto, using(crate::specs::Opening::Laws::opening))]
 fn open_ports(state: &mut [u32; state::WORDS], ports: u32)
     ensures { state_of state.new ≡ opened (state_of state.old) ports }
 {
@@ -54,67 +54,67 @@ fn open_ports(state: &mut [u32; state::WORDS], ports: u32)
 }
 
 // The marks: thread row 0 is taken, so are the ports' rows, and the turn is with thread 0.
+#[tactic(auto, using(crate::specs::Opening::Laws::marks_put))]
 fn put_marks(state: &mut [u32; state::WORDS], ports: u32)
     ensures { state_of state.new ≡ marked (state_of state.old) ports }
 {
-    // As a slice the state tells its length, as in `thread_rows::put_head`.
-    let words: &[u32] = state;
     state::put_mark(state, state::THREAD_MARK, 1);
     state::put_mark(state, state::CHANNEL_MARK, ports);
     state::put_mark(state, state::TURN, 0);
 }
 
 // The state before thread 0 has its row: the bench alone holds the ports.
-fn write_unstarted(table: &[u8], state: &mut [u32; state::WORDS])
-    ensures { state_of state.new ≡ unstarted (table_of table.now) }
+#[tactic(auto, unfolding(crate::specs::Opening::unstarted, crate::specs::Opening::freed, crate::specs::Opening::opened, crate::specs::Opening::marked, state::specs::State::with_channels))]
+fn write_unstarted(table: &Table, state: &mut [u32; state::WORDS])
+    ensures { state_of state.new ≡ unstarted table.now }
 {
-    let ports = table::cell(table, 0, table::field::PORTS);
+    let ports = table.cell(0, table::field::PORTS);
     free_threads(state);
     open_ports(state, ports);
     put_marks(state, ports);
 }
 
 // Slot k of thread 0 as a file starts: parameter k is port k, any other slot is blank.
-fn port_slot(table: &[u8], index: &[u32], k: u32) -> u32
-    requires { Indexed (table_of table.now) index.now }
-    ensures { result ≡ port_at (table_of table.now) k }
+#[tactic(auto, unfolding(crate::specs::Opening::port_at))]
+fn port_slot(table: &Table, k: u32) -> u32
+    ensures { result ≡ port_at table.now k }
 {
-    if k < table::parameter_count_of(table, index, 0) {
-        return k;
+    if k < table.parameters(0) {
+        k
+    } else {
+        program::blank_of(table, 0, k)
     }
-    program::blank_of(table, index, 0, k)
 }
 
 // All slots with which thread 0 starts are laid down.
-fn port_slots(table: &[u8], index: &[u32], slots: &mut [u32; thread_rows::SLOTS])
-    requires indexed { Indexed (table_of table.now) index.now }
+fn port_slots(table: &Table, slots: &mut [u32; thread_rows::SLOTS])
     requires slots_value { slots.old ≡ replicate row_slots 0 }
-    ensures { slots.new ≡ tabulate row_slots (port_at (table_of table.now)) }
+    ensures { slots.new ≡ tabulate row_slots (port_at table.now) }
 {
     for k in 0..state::SLOTS {
-        numbers::put_cell(slots, k as usize, port_slot(table, index, k));
+        slots[k as usize] = port_slot(table, k);
     }
 }
 
 // Thread 0 enters definition 0 with the ports.
-fn write_start(table: &[u8], index: &[u32], state: &mut [u32; state::WORDS])
-    requires { Indexed (table_of table.now) index.now }
-    ensures { state_of state.new ≡ with_thread (state_of state.old) 0 (entered (table_of table.now) 0 (λ k. k)) }
+#[tactic(auto, unfolding(rules::specs::Start::entered, crate::specs::Opening::port_at))]
+fn write_start(table: &Table, state: &mut [u32; state::WORDS])
+    ensures { state_of state.new ≡ with_thread (state_of state.old) 0 (entered table.now 0 (λ k. k)) }
 {
-    let mut slots = [0u32; thread_rows::SLOTS];
-    port_slots(table, index, &mut slots);
-    let node = table::start_of(table, index, Part::Nodes, 0);
-    thread_rows::put_row(state, 0, 1, node, &slots);
+    let mut slots = [0; thread_rows::SLOTS];
+    port_slots(table, &mut slots);
+    let node = table.start(Part::Nodes, 0);
+    thread_rows::put_row(state, 0, state::READY, node, &slots);
 }
 
 // The state with which the table's file starts.
-pub fn write_started(table: &[u8], index: &[u32], state: &mut [u32; state::WORDS])
-    requires { Indexed (table_of table.now) index.now }
-    ensures { state_of state.new ≡ started (table_of table.now) }
+#[tactic(auto, using(crate::specs::Opening::Laws::started_is))]
+pub fn write_started(table: &Table, state: &mut [u32; state::WORDS])
+    ensures { state_of state.new ≡ started table.now }
 {
-    let mut old = [0u8; holding::LIST];
+    let mut old = [0; holding::LIST];
     write_unstarted(table, state);
-    let waits = upkeep::note_held(table, index, state, 0, &mut old);
-    write_start(table, index, state);
-    upkeep::settle_one(table, index, state, 0, &old, waits);
+    let waits = upkeep::note_held(table, state, 0, &mut old);
+    write_start(table, state);
+    upkeep::settle_one(table, state, 0, &old, waits);
 }

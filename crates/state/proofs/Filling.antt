@@ -1,7 +1,7 @@
 -- Laws of a list whose entries are filled in one after the other. Assumes nothing.
 use Prim.Native.Nat.{ℕ, ◌+◌, ◌<◌, ◌≤◌}
 use native.Mathlib.Omega.{arith}
-use mathlib.Core.Path.{◌≡◌, sym, ◌∙◌, ap}
+use mathlib.Core.Path.{◌≡◌, refl, sym, ◌∙◌, ap}
 use mathlib.Core.List.{List}
 use lib.ListN.{length, get_or, set}
 use lib.Dec.{ltb}
@@ -31,6 +31,9 @@ module _ (l m : List ℕ) where
       (λ y. let q : k < i = ltb-true k i y in rw e (get_or-set_other l i k v 0 (λ z. omega (arith, z)) ∙ a k q))
       (λ y. let q : k ≡ i = omega (arith, ltb-false k i y) in rw (e, q) (get_or-set_same l i v 0 h ∙ f))
 
+  pub agree_set : (i v : ℕ) → Agree l m i → v ≡ get_or m i 0 → i < length l → Agree (set l i v) m (i + 1)
+  agree_set i v a f h = agree_more (set l i v) i v refl a f h
+
   agree_all : Agree l m (length l) → length l ≡ length m → l ≡ m
   unfolding Agree
   agree_all a e = ext_get_or 0 l m e a
@@ -53,3 +56,7 @@ all_written b l i a e g f h =
     let w = words_long b e in
     let q : words b ≡ l = agree_all (words b) l (λ k j. a k (omega (arith, w))) (w ∙ sym f) in
     sym (encode_numbers 4 b (omega (arith, e)) (bytes_fit b g)) ∙ ap (encode 4) q ∙ sym (words_bytes l f)
+
+pub ruleset words_read = (agree_none, all_read)
+
+pub ruleset words_written = (agree_none, agree_more, word_inside, all_written)

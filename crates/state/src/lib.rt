@@ -65,71 +65,71 @@ const CHANNEL_ROWS: usize = CHANNELS as usize;
 const CHANNELS_FROM: usize = MARKS + THREAD_ROWS * THREAD_WORDS;
 
 // Mark i; 0 where there is none.
+#[tactic(auto, unfolding(crate::specs::State::state_of))]
 pub fn mark(state: &[u32; WORDS], i: usize) -> u32
     ensures { result ≡ get_or (state_of state.now).marks i 0 }
 {
-    if i < MARKS {
-        return numbers::cell_at(state, i);
-    }
-    0
+    state[..MARKS].get(i).copied().unwrap_or(0)
 }
 
 // Mark i becomes v.
+#[tactic(auto, using(crate::specs::State::Laws::places))]
 pub fn put_mark(state: &mut [u32; WORDS], i: usize, v: u32)
     ensures { state_of state.new ≡ with_mark (state_of state.old) i v }
 {
     if i < MARKS {
-        numbers::put_cell(state, i, v);
+        state[i] = v;
     }
 }
 
 // Word k of thread t's row; 0 where there is none.
+#[tactic(auto, using(crate::specs::State::Laws::places))]
 pub fn thread_word(state: &[u32; WORDS], t: usize, k: usize) -> u32
     ensures { result ≡ at (state_of state.now).threads t k }
 {
-    if t < THREAD_ROWS {
-        if k < THREAD_WORDS {
-            return numbers::cell_at(state, MARKS + t * THREAD_WORDS + k);
-        }
+    if t < THREAD_ROWS && k < THREAD_WORDS {
+        let at = MARKS + t * THREAD_WORDS + k;
+        state[at]
+    } else {
+        0
     }
-    0
 }
 
 // Word k of thread t's row becomes v.
+#[tactic(auto, using(crate::specs::State::Laws::places))]
 pub fn put_thread(state: &mut [u32; WORDS], t: usize, k: usize, v: u32)
     ensures { state_of state.new ≡ with_thread (state_of state.old) t (set (thread (state_of state.old) t) k v) }
 {
-    if t < THREAD_ROWS {
-        if k < THREAD_WORDS {
-            numbers::put_cell(state, MARKS + t * THREAD_WORDS + k, v);
-        }
+    if t < THREAD_ROWS && k < THREAD_WORDS {
+        state[MARKS + t * THREAD_WORDS + k] = v;
     }
 }
 
 // Word k of channel c's row; 0 where there is none.
+#[tactic(auto, using(crate::specs::State::Laws::places))]
 pub fn channel_word(state: &[u32; WORDS], c: usize, k: usize) -> u32
     ensures { result ≡ at (state_of state.now).channels c k }
 {
-    if c < CHANNEL_ROWS {
-        if k < CHANNEL_WORDS {
-            return numbers::cell_at(state, CHANNELS_FROM + c * CHANNEL_WORDS + k);
-        }
+    if c < CHANNEL_ROWS && k < CHANNEL_WORDS {
+        let at = CHANNELS_FROM + c * CHANNEL_WORDS + k;
+        state[at]
+    } else {
+        0
     }
-    0
 }
 
 // Word k of channel c's row becomes v.
+#[tactic(auto, using(crate::specs::State::Laws::places))]
 pub fn put_channel(state: &mut [u32; WORDS], c: usize, k: usize, v: u32)
     ensures { state_of state.new ≡ with_channel (state_of state.old) c (set (channel (state_of state.old) c) k v) }
 {
-    if c < CHANNEL_ROWS {
-        if k < CHANNEL_WORDS {
-            numbers::put_cell(state, CHANNELS_FROM + c * CHANNEL_WORDS + k, v);
-        }
+    if c < CHANNEL_ROWS && k < CHANNEL_WORDS {
+        state[CHANNELS_FROM + c * CHANNEL_WORDS + k] = v;
     }
 }
 
 // The words of a state out of its buffer.
+#[tactic(auto, using(crate::proofs::Filling::words_read))]
 pub fn read(buffer: &[u8], state: &mut [u32])
     requires buffer_len { length buffer.now ≡ state_length }
     requires state_len { length state.old ≡ state_words }
@@ -141,17 +141,15 @@ pub fn read(buffer: &[u8], state: &mut [u32])
 }
 
 // The words of a state into its buffer.
+#[tactic(auto, using(crate::proofs::Filling::words_written))]
 pub fn write(state: &[u32; WORDS], buffer: &mut [u8])
     requires { length buffer.old ≡ state_length }
     ensures { buffer.new ≡ state_bytes (state_of state.now) }
 {
-    // A slice knows its length, which an array behind a reference does not tell.
-    let words: &[u32] = state;
     // The length is asked once more for the compiler, which then writes sixteen bytes at a time.
-    if buffer.len() != BYTES {
-        return;
-    }
-    for i in 0..WORDS {
-        numbers::put_word(buffer, i, words[i]);
+    if buffer.len() == BYTES {
+        for i in 0..WORDS {
+            numbers::put_word(buffer, i, state[i]);
+        }
     }
 }

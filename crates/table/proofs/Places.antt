@@ -93,11 +93,6 @@ module _ (tb : Table) (l : List ℕ) (g : Indexed tb l) where
   pub branch_row_low : get_or l 806 0 ≤ 481
   branch_row_low = let c = header_counts tb g.counts in rw branch_row_is (omega arith)
 
--- what stands in a row that a call answered
-module _ (tb : Table) (p : Part) (r x y : ℕ) (e : x ≡ y) where
-  pub owner_read : r ≡ owner tb p x → r ≡ owner tb p y
-  owner_read f = rw (← e) f
-
 -- a start is small
 module _ (b l : List ℕ) (g : Indexed (table_of b) l) (v : (i : ℕ) → Fits w8 (get_or b i 0)) where
   pub start_low : (p : Part) (f n : ℕ) → f ≡ starts_from p → n ≡ starts_room p → (i : ℕ) → i < n → get_or l (f + i) 0 ≤ 12582720
@@ -120,3 +115,25 @@ module _ (b l : List ℕ) (g : Indexed (table_of b) l) (t k : ℕ) (h : t < max_
 
   pub cell_known : (r : ℕ) → r ≡ little (get_or b ((t * row_numbers + k) * 2) 0 ∷ get_or b ((t * row_numbers + k) * 2 + 1) 0 ∷ []) → r ≡ at (table_of b) t k
   cell_known r e = cell_in b t k r (short_is b (t * row_numbers + k) r e (omega (arith, whole_long b l g))) h j
+
+pub ruleset starts_read = (start_is, start_past)
+
+pub ruleset starts_read_within = (within_inside, within_is, within_low)
+
+pub ruleset owners_read = (owner_is, owner_small, owner_none)
+
+pub ruleset first_rows = (
+  wider,
+  definition_row_inside,
+  definition_row_is,
+  definition_row_low,
+  slot_row_inside,
+  slot_row_is,
+  slot_row_low,
+  node_row_inside,
+  node_row_is,
+  node_row_low,
+  branch_row_inside,
+  branch_row_is,
+  branch_row_low,
+)

@@ -3,7 +3,8 @@
 pub mod Laws
 use Rattle.std.specs.Prelude.{ℕ, ◌+◌, ◌-◌, ◌<◌, true, cond, List, [], ◌≡◌, length, get_or, ltb, eqb}
 use Rattle.numbers.specs.Search.{tabulate}
-use Rattle.table.specs.Table.{Table, last_row, row_numbers, max_nodes, max_branches, definition_row, slot_row, node_row, branch_row}
+use Rattle.std.proofs.Common.{Fits, w8}
+use Rattle.table.specs.Table.{Table, table_of, last_row, row_numbers, max_nodes, max_branches, definition_row, slot_row, node_row, branch_row}
 use Rattle.table.specs.Layout.{start, owner}
 use Rattle.table.specs.Form.{header_in_range}
 use Rattle.table.specs.declared.Part.{Part}
@@ -62,3 +63,8 @@ module _ (tb : Table) where
     pub counts : header_in_range tb ≡ true
     pub entries : l ≡ index_of
     pub whole : length (get_or tb last_row []) ≡ row_numbers
+
+-- a table's bytes b with their index l. That each byte is one is known of a slice by its type, but not of a slice in a field
+pub record Held (b l : List ℕ) : Type 0 where
+  pub indexed : Indexed (table_of b) l
+  pub bytes : (i : ℕ) → Fits w8 (get_or b i 0)

@@ -28,17 +28,13 @@ fn seek(table: &[u8], index: &[u32], part: Part, from: u32, x: u32) -> u32
     ensures { result ≡ first (ends_past (table_of table.now) part x) (blocks (table_of table.now) part) }
 {
     let n = blocks_of(table, part);
-    let mut i = from;
-    while i < n {
-        if x < start_at(index, part, i + 1) {
-            return i;
-        }
-        i += 1;
-    }
-    i
+    (from..n)
+        .find(|&i| x < start_at(index, part, i + 1))
+        .unwrap_or(n)
 }
 
 // A part's starts are laid behind what the index has already.
+#[tactic(auto, using(crate::proofs::indexing::Laying::starts_laid))]
 fn lay_starts(table: &[u8], index: &mut [u32], part: Part)
     requires header { header_in_range (table_of table.now) ≡ true }
     requires index_value { index.old ≡ laid (entry (table_of table.now)) (starts_from part) index_length }
@@ -46,7 +42,7 @@ fn lay_starts(table: &[u8], index: &mut [u32], part: Part)
 {
     let n = blocks_of(table, part);
     let from = starts_from(part);
-    let mut sum: u32 = 0;
+    let mut sum = 0;
     for i in 0..n {
         sum += block_size(table, part, i);
         numbers::put_cell(index, from + i as usize + 1, sum);
@@ -54,6 +50,7 @@ fn lay_starts(table: &[u8], index: &mut [u32], part: Part)
 }
 
 // A part's owners are laid behind what the index has already, all starts among it.
+#[tactic(auto, using(crate::proofs::indexing::Laying::owners_laid))]
 fn lay_owners(table: &[u8], index: &mut [u32], part: Part)
     requires header { header_in_range (table_of table.now) ≡ true }
     requires has_owners { 0 < owners_room part }
@@ -62,7 +59,7 @@ fn lay_owners(table: &[u8], index: &mut [u32], part: Part)
 {
     let n = lines_of(table, part);
     let from = owners_from(part);
-    let mut block: u32 = 0;
+    let mut block = 0;
     for x in 0..n {
         block = seek(table, index, part, block, x);
         numbers::put_cell(index, from + x as usize, block);
@@ -81,6 +78,7 @@ fn lay_rows(table: &[u8], index: &mut [u32])
 }
 
 // The index of a table whose header is in range, into a slice of zeros.
+#[tactic(auto, using(crate::proofs::indexing::Laying::index_none, crate::proofs::indexing::Laying::index_whole))]
 pub fn fill_index(table: &[u8], index: &mut [u32])
     requires header { header_in_range (table_of table.now) ≡ true }
     requires index_value { index.old ≡ replicate index_length 0 }

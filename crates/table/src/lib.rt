@@ -4,10 +4,13 @@
 
 ghost use Rattle.std.specs.Prelude.{◌≡◌, ◌+◌, ◌-◌, ◌≤◌, ◌<◌};
 ghost use Rattle.numbers.specs.Rows.{at};
-ghost use Rattle.table.specs.Table.{table_of, definition_row, slot_row, node_row, branch_row, line_total, parameters, slot_count, node_count};
+ghost use Rattle.table.specs.Table.{table_of, definition_row, slot_row, node_row, branch_row, line_total, parameters, slot_count, node_count, nodes};
 ghost use Rattle.table.specs.Layout.{blocks, lines, branch_count, size, start, owner, definition_of, node_of, slot_type};
 ghost use Rattle.table.specs.Index.{starts_from, starts_room, owners_from, owners_room, Indexed};
+ghost use Rattle.table.specs.Form.Laws.{Counts};
 ghost use Rattle.table.specs.Form.{within};
+
+use std::marker::Model;
 
 pub mod field;
 pub mod indexing;
@@ -79,16 +82,16 @@ pub enum Role {
 }
 
 // Number k of a row; 0 outside the table.
+#[tactic(auto, using(crate::proofs::Cells::cells))]
 pub fn cell(table: &[u8], row: usize, k: usize) -> u32
     ensures value { result ≡ at (table_of table.now) row k }
     ensures upper_bound { result < 65536 }
 {
-    if row < MAX_ROWS {
-        if k < ROW_NUMBERS {
-            return numbers::short_at(table, row * ROW_NUMBERS + k);
-        }
+    if row < MAX_ROWS && k < ROW_NUMBERS {
+        numbers::short_at(table, row * ROW_NUMBERS + k)
+    } else {
+        0
     }
-    0
 }
 
 // The row of the first definition: it follows the header and the types.
@@ -130,14 +133,6 @@ pub fn line_total(table: &[u8]) -> usize
     branch_row(table) + cell(table, 0, field::BRANCHES) as usize
 }
 
-// The number of parameters of definition d.
-pub fn parameters_of(table: &[u8], d: u32) -> u32
-    ensures value { result ≡ parameters (table_of table.now) d }
-    ensures upper_bound { result < 65536 }
-{
-    cell(table, definition_row(table) + d as usize, field::PARAMETERS)
-}
-
 // The number of slots of definition d.
 pub fn slots_of(table: &[u8], d: u32) -> u32
     ensures value { result ≡ slot_count (table_of table.now) d }
@@ -155,18 +150,19 @@ pub fn nodes_of(table: &[u8], d: u32) -> u32
 }
 
 // How many blocks a part has.
+#[tactic(auto, unfolding(crate::specs::Layout::blocks))]
 pub fn blocks_of(table: &[u8], part: Part) -> u32
     ensures value { result ≡ blocks (table_of table.now) part }
     ensures upper_bound { result < 65536 }
 {
     match part {
-        Part::Slots => cell(table, 0, field::DEFINITIONS),
-        Part::Nodes => cell(table, 0, field::DEFINITIONS),
+        Part::Slots | Part::Nodes => cell(table, 0, field::DEFINITIONS),
         Part::Branches => cell(table, 0, field::NODES),
     }
 }
 
 // How many lines the header gives to a part.
+#[tactic(auto, unfolding(crate::specs::Layout::lines))]
 pub fn lines_of(table: &[u8], part: Part) -> u32
     ensures value { result ≡ lines (table_of table.now) part }
     ensures upper_bound { result < 65536 }
@@ -179,18 +175,21 @@ pub fn lines_of(table: &[u8], part: Part) -> u32
 }
 
 // How many branches a node has: a choice says it, and other nodes have none.
+#[tactic(auto, unfolding(crate::specs::Layout::branch_count))]
 pub fn branch_count(table: &[u8], node: u32) -> u32
     ensures value { result ≡ branch_count (table_of table.now) node }
     ensures upper_bound { result < 65536 }
 {
     let row = node_row(table) + node as usize;
     if cell(table, row, field::NODE_KIND) == 1 {
-        return cell(table, row, field::OWN_BRANCHES);
+        cell(table, row, field::OWN_BRANCHES)
+    } else {
+        0
     }
-    0
 }
 
 // How many lines block i of a part has.
+#[tactic(auto, unfolding(crate::specs::Layout::size))]
 pub fn block_size(table: &[u8], part: Part, i: u32) -> u32
     ensures value { result ≡ size (table_of table.now) part i }
     ensures upper_bound { result < 65536 }
@@ -203,13 +202,11 @@ pub fn block_size(table: &[u8], part: Part, i: u32) -> u32
 }
 
 // Whether a number is in its range.
+#[tactic(auto, unfolding(crate::specs::Form::within))]
 pub fn is_within(least: u32, most: u32, v: u32) -> bool
     ensures { result ≡ within least most v }
 {
-    if v < least {
-        return false;
-    }
-    v <= most
+    (least..=most).contains(&v)
 }
 
 // The place in an index where the starts of a part begin.
@@ -230,8 +227,7 @@ pub fn owners_from(part: Part) -> usize
     ensures upper_bound { result ≤ 419 }
 {
     match part {
-        Part::Slots => 227,
-        Part::Nodes => 227,
+        Part::Slots | Part::Nodes => 227,
         Part::Branches => 419,
     }
 }
@@ -241,9 +237,8 @@ fn starts_room(part: Part) -> u32
     ensures { result ≡ starts_room part }
 {
     match part {
-        Part::Slots => 17,
-        Part::Nodes => 17,
-        Part::Branches => 193,
+        Part::Slots | Part::Nodes => MAX_DEFINITIONS + 1,
+        Part::Branches => MAX_NODES + 1,
     }
 }
 
@@ -254,182 +249,215 @@ fn owners_room(part: Part) -> usize
 {
     match part {
         Part::Slots => 0,
-        Part::Nodes => 192,
-        Part::Branches => 384,
+        Part::Nodes => MAX_NODES as usize,
+        Part::Branches => MAX_BRANCHES as usize,
     }
 }
 
-// Where block i of a part starts; 0 past the end of the last block.
-pub fn start_of(table: &[u8], index: &[u32], part: Part, i: u32) -> u32
-    requires { Indexed (table_of table.now) index.now }
-    ensures value { result ≡ start (table_of table.now) part i }
-    ensures upper_bound { result ≤ 12582720 }
-{
-    if i < starts_room(part) {
-        return index[starts_from(part) + i as usize];
+// A table with the index that was filled for it, so that a look-up is one read and the table's length is known.
+#[derive(Drop)]
+pub struct Table<'a> {
+    bytes: &'a [u8],
+    index: &'a [u32],
+}
+
+impl<'a> Model for Table<'a> {
+    ghost use Rattle.table.specs.Table.{Table, table_of};
+    ghost use Rattle.table.specs.Index.{Held};
+
+    ghost Value = { Table };
+
+    ghost view = { λ t. table_of t.bytes.now };
+
+    ghost invariant = { λ t. Held t.bytes.now t.index.now };
+}
+
+impl<'a> Table<'a> {
+    // The table in a buffer, by its index.
+    pub fn new(bytes: &'a [u8], index: &'a [u32]) -> Self
+        requires { Indexed (table_of bytes.now) index.now }
+        ensures { result ≡ table_of bytes.now }
+    {
+        Table { bytes, index }
     }
-    0
-}
 
-// Where block i of a part starts, for a block that is there or one past the last.
-pub fn start_within(table: &[u8], index: &[u32], part: Part, i: u32) -> u32
-    requires indexed { Indexed (table_of table.now) index.now }
-    requires i_bound { i ≤ blocks (table_of table.now) part }
-    ensures value { result ≡ start (table_of table.now) part i }
-    ensures upper_bound { result ≤ 12582720 }
-{
-    index[starts_from(part) + i as usize]
-}
-
-// The block that x stands in; 0 past the part's lines.
-pub fn owner_of(table: &[u8], index: &[u32], part: Part, x: usize) -> u32
-    requires indexed { Indexed (table_of table.now) index.now }
-    requires has_owners { 0 < owners_room part }
-    ensures value { result ≡ owner (table_of table.now) part x }
-    ensures upper_bound { result ≤ blocks (table_of table.now) part }
-{
-    if x < owners_room(part) {
-        return index[owners_from(part) + x];
+    // The bytes of the table.
+    pub fn bytes(&self) -> &[u8]
+        ensures { table_of result.now ≡ self.now }
+    {
+        self.bytes
     }
-    0
-}
 
-// The row of the first definition, from the index.
-pub fn definition_row_of(table: &[u8], index: &[u32]) -> usize
-    requires { Indexed (table_of table.now) index.now }
-    ensures value { result ≡ definition_row (table_of table.now) }
-    ensures upper_bound { result ≤ 17 }
-{
-    index[DEFINITION_ROW] as usize
-}
+    // The number of nodes in all. That the header's counts are in range is known of each value of this type.
+    pub fn node_total(&self) -> u32
+        ensures value { result ≡ nodes self.now }
+        ensures counts { Counts self.now }
+    {
+        cell(self.bytes, 0, field::NODES)
+    }
 
-// The row of the first slot, from the index.
-pub fn slot_row_of(table: &[u8], index: &[u32]) -> usize
-    requires { Indexed (table_of table.now) index.now }
-    ensures value { result ≡ slot_row (table_of table.now) }
-    ensures upper_bound { result ≤ 33 }
-{
-    index[SLOT_ROW] as usize
-}
+    // The number of nodes of definition d.
+    pub fn nodes(&self, d: u32) -> u32
+        ensures value { result ≡ node_count self.now d }
+        ensures upper_bound { result < 65536 }
+    {
+        self.cell(self.definition_row() + d as usize, field::OWN_NODES)
+    }
 
-// The row of the first node, from the index.
-pub fn node_row_of(table: &[u8], index: &[u32]) -> usize
-    requires { Indexed (table_of table.now) index.now }
-    ensures value { result ≡ node_row (table_of table.now) }
-    ensures upper_bound { result ≤ 289 }
-{
-    index[NODE_ROW] as usize
-}
-
-// The row of the first branch, from the index.
-pub fn branch_row_of(table: &[u8], index: &[u32]) -> usize
-    requires { Indexed (table_of table.now) index.now }
-    ensures value { result ≡ branch_row (table_of table.now) }
-    ensures upper_bound { result ≤ 481 }
-{
-    index[BRANCH_ROW] as usize
-}
-
-// Number k of a row of a table that has an index, so that its length is known.
-pub fn cell_of(table: &[u8], index: &[u32], row: usize, k: usize) -> u32
-    requires { Indexed (table_of table.now) index.now }
-    ensures value { result ≡ at (table_of table.now) row k }
-    ensures upper_bound { result < 65536 }
-{
-    if row < MAX_ROWS {
-        if k < ROW_NUMBERS {
-            let place = (row * ROW_NUMBERS + k) * 2;
-            return numbers::pair(table[place], table[place + 1]);
+    // Where block i of a part starts; 0 past the end of the last block.
+    #[tactic(auto, using(crate::proofs::Places::starts_read))]
+    pub fn start(&self, part: Part, i: u32) -> u32
+        ensures value { result ≡ start self.now part i }
+        ensures upper_bound { result ≤ 12582720 }
+    {
+        if i < starts_room(part) {
+            self.index[starts_from(part) + i as usize]
+        } else {
+            0
         }
     }
-    0
-}
 
-// The number of parameters of definition d, read with the index.
-pub fn parameter_count_of(table: &[u8], index: &[u32], d: u32) -> u32
-    requires { Indexed (table_of table.now) index.now }
-    ensures value { result ≡ parameters (table_of table.now) d }
-    ensures upper_bound { result < 65536 }
-{
-    cell_of(
-        table,
-        index,
-        definition_row_of(table, index) + d as usize,
-        field::PARAMETERS,
-    )
-}
-
-// The number of slots of definition d, read with the index.
-pub fn slot_count_of(table: &[u8], index: &[u32], d: u32) -> u32
-    requires { Indexed (table_of table.now) index.now }
-    ensures value { result ≡ slot_count (table_of table.now) d }
-    ensures upper_bound { result < 65536 }
-{
-    cell_of(
-        table,
-        index,
-        definition_row_of(table, index) + d as usize,
-        field::OWN_SLOTS,
-    )
-}
-
-// How many branches a node has, read with the index.
-pub fn branch_count_of(table: &[u8], index: &[u32], node: u32) -> u32
-    requires { Indexed (table_of table.now) index.now }
-    ensures value { result ≡ branch_count (table_of table.now) node }
-    ensures upper_bound { result < 65536 }
-{
-    let row = node_row_of(table, index) + node as usize;
-    if cell_of(table, index, row, field::NODE_KIND) == 1 {
-        return cell_of(table, index, row, field::OWN_BRANCHES);
+    // Where block i of a part starts, for a block that is there or one past the last.
+    #[tactic(auto, using(crate::proofs::Places::starts_read_within))]
+    pub fn start_within(&self, part: Part, i: u32) -> u32
+        requires i_bound { i ≤ blocks self.now part }
+        ensures value { result ≡ start self.now part i }
+        ensures upper_bound { result ≤ 12582720 }
+    {
+        self.index[starts_from(part) + i as usize]
     }
-    0
-}
 
-// The type of slot k of definition d.
-pub fn slot_type(table: &[u8], index: &[u32], d: u32, k: u32) -> u32
-    requires { Indexed (table_of table.now) index.now }
-    ensures value { result ≡ slot_type (table_of table.now) d k }
-    ensures upper_bound { result < 65536 }
-{
-    let place = start_of(table, index, Part::Slots, d) as usize + k as usize;
-    cell_of(table, index, slot_row_of(table, index) + place, field::TYPE)
-}
-
-// The node in a row, counted over the whole file; 0 for the rows before the first node.
-pub fn node_in(table: &[u8], row: usize) -> usize
-    ensures { result ≡ row - node_row (table_of table.now) }
-{
-    let from = node_row(table);
-    if row < from {
-        return 0;
+    // The block that x stands in; 0 past the part's lines.
+    #[tactic(auto, using(crate::proofs::Places::owners_read))]
+    pub fn owner(&self, part: Part, x: usize) -> u32
+        requires has_owners { 0 < owners_room part }
+        ensures value { result ≡ owner self.now part x }
+        ensures upper_bound { result ≤ blocks self.now part }
+    {
+        if x < owners_room(part) {
+            self.index[owners_from(part) + x]
+        } else {
+            0
+        }
     }
-    row - from
-}
 
-// The branch in a row, counted over the whole file; 0 for the rows before the first branch.
-pub fn branch_in(table: &[u8], row: usize) -> usize
-    ensures { result ≡ row - branch_row (table_of table.now) }
-{
-    let from = branch_row(table);
-    if row < from {
-        return 0;
+    // The row of the first definition.
+    #[tactic(auto, using(crate::proofs::Places::first_rows))]
+    pub fn definition_row(&self) -> usize
+        ensures value { result ≡ definition_row self.now }
+        ensures upper_bound { result ≤ 17 }
+    {
+        self.index[DEFINITION_ROW] as usize
     }
-    row - from
-}
 
-// The definition of the node in a row.
-pub fn definition_at(table: &[u8], index: &[u32], row: usize) -> u32
-    requires { Indexed (table_of table.now) index.now }
-    ensures { result ≡ definition_of (table_of table.now) (row - node_row (table_of table.now)) }
-{
-    owner_of(table, index, Part::Nodes, node_in(table, row))
-}
+    // The row of the first slot.
+    #[tactic(auto, using(crate::proofs::Places::first_rows))]
+    pub fn slot_row(&self) -> usize
+        ensures value { result ≡ slot_row self.now }
+        ensures upper_bound { result ≤ 33 }
+    {
+        self.index[SLOT_ROW] as usize
+    }
 
-// The node of the branch in a row.
-pub fn node_at(table: &[u8], index: &[u32], row: usize) -> u32
-    requires { Indexed (table_of table.now) index.now }
-    ensures { result ≡ node_of (table_of table.now) (row - branch_row (table_of table.now)) }
-{
-    owner_of(table, index, Part::Branches, branch_in(table, row))
+    // The row of the first node.
+    #[tactic(auto, using(crate::proofs::Places::first_rows))]
+    pub fn node_row(&self) -> usize
+        ensures value { result ≡ node_row self.now }
+        ensures upper_bound { result ≤ 289 }
+    {
+        self.index[NODE_ROW] as usize
+    }
+
+    // The row of the first branch.
+    #[tactic(auto, using(crate::proofs::Places::first_rows))]
+    pub fn branch_row(&self) -> usize
+        ensures value { result ≡ branch_row self.now }
+        ensures upper_bound { result ≤ 481 }
+    {
+        self.index[BRANCH_ROW] as usize
+    }
+
+    // Number k of a row; 0 outside the table.
+    #[tactic(auto, using(crate::proofs::Cells::cells))]
+    pub fn cell(&self, row: usize, k: usize) -> u32
+        ensures value { result ≡ at self.now row k }
+        ensures upper_bound { result < 65536 }
+    {
+        if row < MAX_ROWS && k < ROW_NUMBERS {
+            let place = (row * ROW_NUMBERS + k) * 2;
+            numbers::pair(self.bytes[place], self.bytes[place + 1])
+        } else {
+            0
+        }
+    }
+
+    // The number of parameters of definition d.
+    pub fn parameters(&self, d: u32) -> u32
+        ensures value { result ≡ parameters self.now d }
+        ensures upper_bound { result < 65536 }
+    {
+        self.cell(self.definition_row() + d as usize, field::PARAMETERS)
+    }
+
+    // The number of slots of definition d.
+    pub fn slots(&self, d: u32) -> u32
+        ensures value { result ≡ slot_count self.now d }
+        ensures upper_bound { result < 65536 }
+    {
+        self.cell(self.definition_row() + d as usize, field::OWN_SLOTS)
+    }
+
+    // How many branches a node has.
+    #[tactic(auto, unfolding(crate::specs::Layout::branch_count))]
+    pub fn branch_count(&self, node: u32) -> u32
+        ensures value { result ≡ branch_count self.now node }
+        ensures upper_bound { result < 65536 }
+    {
+        let row = self.node_row() + node as usize;
+        if self.cell(row, field::NODE_KIND) == 1 {
+            self.cell(row, field::OWN_BRANCHES)
+        } else {
+            0
+        }
+    }
+
+    // The type of slot k of definition d.
+    #[tactic(auto, unfolding(crate::specs::Layout::slot_type))]
+    pub fn slot_type(&self, d: u32, k: u32) -> u32
+        ensures value { result ≡ slot_type self.now d k }
+        ensures upper_bound { result < 65536 }
+    {
+        let place = self.start(Part::Slots, d) as usize + k as usize;
+        self.cell(self.slot_row() + place, field::TYPE)
+    }
+
+    // The node in a row, counted over the whole file; 0 for the rows before the first node.
+    pub fn node_in(&self, row: usize) -> usize
+        ensures { result ≡ row - node_row self.now }
+    {
+        row.saturating_sub(self.node_row())
+    }
+
+    // The branch in a row, counted over the whole file; 0 for the rows before the first branch.
+    pub fn branch_in(&self, row: usize) -> usize
+        ensures { result ≡ row - branch_row self.now }
+    {
+        row.saturating_sub(self.branch_row())
+    }
+
+    // The definition of the node in a row.
+    #[tactic(auto, unfolding(crate::specs::Layout::definition_of))]
+    pub fn definition_at(&self, row: usize) -> u32
+        ensures { result ≡ definition_of self.now (row - node_row self.now) }
+    {
+        self.owner(Part::Nodes, self.node_in(row))
+    }
+
+    // The node of the branch in a row.
+    #[tactic(auto, unfolding(crate::specs::Layout::node_of))]
+    pub fn node_at(&self, row: usize) -> u32
+        ensures { result ≡ node_of self.now (row - branch_row self.now) }
+    {
+        self.owner(Part::Branches, self.branch_in(row))
+    }
 }

@@ -1,5 +1,6 @@
 -- The columns that the reader compares are the printed form; so what it accepts is a text, and what it refuses is none. Assumes nothing.
-use Prim.Native.Nat.{ℕ, suc, ◌+◌, ◌-◌, ◌*◌, ◌/◌, ◌%◌, ◌<◌, ◌≤◌}
+use Rattle.std.specs.Prelude.{None, Option, Some}
+use Prim.Native.Nat.{ℕ, ◌+◌, ◌-◌, ◌*◌, ◌/◌, ◌%◌, ◌<◌, ◌≤◌}
 use native.Mathlib.Omega.{arith}
 use native.Mathlib.Decide.{dec_lt}
 use native.Mathlib.Nat.{div-eq_of_lt}
@@ -7,36 +8,18 @@ use mathlib.Core.Path.{◌≡◌, refl, sym, ◌∙◌, ap}
 use mathlib.Core.Bool.{Bool, true, false, cond}
 use mathlib.Core.List.{List, [], ◌∷◌}
 use lib.Dec.{ltb, eqb}
-use lib.ListN.{length, get_or, set}
-use lib.Seq.{sets}
-use borrow.Author.Tests.{lt-ltb, le-ltb, ltb-true, ltb-false, eqb-true, eq-eqb, ne_eqb}
-use Rattle.numbers.specs.Tests.{cond_self}
-use Rattle.numbers.specs.Search.Laws.{contra}
-use Rattle.text.specs.declared.Reading.{Reading}
-use Rattle.text.specs.declared.Reading.TheVariants.{Value, Wrong}
-use Rattle.text.specs.Text.{figures, negative, size, signed, numeral, right_justified, text, figure_of, size_from, has_minus, same, read_number}
+use lib.ListN.{length, get_or}
+use lib.Seq.{sets, sets-eq, drop-drop}
+use borrow.Rule.Slice.PartMut.{put_mid}
+use Rattle.std.proofs.Common.{nat_eq, append_assoc}
+use Rattle.std.specs.List.{list_any}
+use lib.Pointwise.{pointwise}
+use Rattle.std.specs.Cmp.Lexicographic.{same_text, other_text}
+use borrow.Author.Tests.{lt-ltb, le-ltb, ltb-true, ltb-false, eqb-true}
+use Rattle.numbers.specs.Search.Laws.{case_b, contra}
+use Rattle.text.specs.Text.{figures, negative, size, signed, numeral, right_justified, text, figure_of, size_from, has_minus, read_number}
 use Rattle.text.specs.Columns.{six, letter_of, columns, blank_of}
-use Rattle.text.specs.Text.Laws.{figures_one, figures_more, size_text, minus_text, same_true, same_self, text_reads, wrong_reads}
-
--- ---- a column
-
-module _ (n : Bool) (here right : ℕ) where
-  pub letter_figure : 0 < here → 48 + here % 10 ≡ letter_of n here right
-  unfolding letter_of
-  letter_figure h = rw (lt-ltb 0 here h)
-
-  module _ (h : here ≤ 0) where
-    pub letter_minus : n ≡ true → 0 < right → 45 ≡ letter_of n here right
-    unfolding letter_of
-    letter_minus e l = rw (le-ltb 0 here h, e, lt-ltb 0 right l)
-
-    pub letter_before : n ≡ true → right ≤ 0 → 32 ≡ letter_of n here right
-    unfolding letter_of
-    letter_before e l = rw (le-ltb 0 here h, e, le-ltb 0 right l)
-
-    pub letter_blank : n ≡ false → 32 ≡ letter_of n here right
-    unfolding letter_of
-    letter_blank e = rw (le-ltb 0 here h, e)
+use Rattle.text.specs.Text.Laws.{figures_one, figures_more, size_text, minus_text, text_reads, wrong_reads}
 
 -- ---- the columns of a number
 
@@ -116,82 +99,51 @@ text_pos v h = rw (le-ltb 32767 v h) (columns_are false v (omega arith))
 
 -- ---- the tests of columns
 
--- a minus at this column, further on, or at the last one
-module _ (c : ℕ) where
-  pub minus_here : (s : List ℕ) → c ≡ 45 → true ≡ has_minus (c ∷ s)
-  unfolding has_minus
-  minus_here s e = rw e
+-- whether a minus is among the columns
+abbrev minus_in : List ℕ → Bool
+minus_in s = list_any (λ y. nat_eq y 45) s
 
-  pub minus_past : (s : List ℕ) (r : Bool) → (c ≡ 45 → ⊥) → r ≡ has_minus s → r ≡ has_minus (c ∷ s)
-  unfolding has_minus
-  minus_past s r h e = rw (ne_eqb c 45 h) e
-
-  pub minus_last : eqb c 45 ≡ has_minus (c ∷ [])
-  unfolding has_minus
-  minus_last = cond_self (eqb c 45)
-
--- the columns before the last, from the right
-module _ (a b c d e : ℕ) where
-  pub fifth_filled : (e ≡ 32 → ⊥) → false ≡ blank_of a b c d e
-  unfolding blank_of
-  fifth_filled h = rw (ne_eqb e 32 h)
-
-  module _ (p : e ≡ 32) where
-    pub fourth_filled : (d ≡ 32 → ⊥) → false ≡ blank_of a b c d e
-    unfolding blank_of
-    fourth_filled h = rw (p, ne_eqb d 32 h)
-
-    module _ (q : d ≡ 32) where
-      pub third_filled : (c ≡ 32 → ⊥) → false ≡ blank_of a b c d e
-      unfolding blank_of
-      third_filled h = rw (p, q, ne_eqb c 32 h)
-
-      module _ (r : c ≡ 32) where
-        pub second_filled : (b ≡ 32 → ⊥) → false ≡ blank_of a b c d e
-        unfolding blank_of
-        second_filled h = rw (p, q, r, ne_eqb b 32 h)
-
-        pub all_blank : b ≡ 32 → eqb a 32 ≡ blank_of a b c d e
-        unfolding blank_of
-        all_blank h = rw (p, q, r, h)
-
--- a column x is compared with the letter v that a call answered for it
-module _ (x y v : ℕ) (xs ys : List ℕ) (e : v ≡ y) where
-  pub column_differs : (x ≡ v → ⊥) → false ≡ same (x ∷ xs) (y ∷ ys)
-  unfolding same
-  column_differs h = rw (ne_eqb x y (λ q. h (q ∙ sym e)))
-
-  pub column_agrees : (r : Bool) → x ≡ v → r ≡ same xs ys → r ≡ same (x ∷ xs) (y ∷ ys)
-  unfolding same
-  column_agrees r h f = rw (eq-eqb x y (h ∙ e)) f
-
-pub last_column : (x y : ℕ) → eqb x y ≡ same (x ∷ []) (y ∷ [])
-unfolding same
-last_column x y = cond_self (eqb x y)
+minus_is : (s : List ℕ) → minus_in s ≡ has_minus s
+unfolding has_minus
+minus_is [] = refl
+minus_is (c ∷ s) = case_b (eqb c 45) (λ t. rw (minus_is s, t)) (λ f. rw (minus_is s, f))
 
 -- ---- what the reader answers
 
+-- six columns, by their places
+six_is : (l : List ℕ) → length l ≡ 6 → l ≡ six (get_or l 0 0) (get_or l 1 0) (get_or l 2 0) (get_or l 3 0) (get_or l 4 0) (get_or l 5 0)
+six_is [] h = absurd (omega arith)
+six_is (a ∷ []) h = absurd (omega arith)
+six_is (a ∷ b ∷ []) h = absurd (omega arith)
+six_is (a ∷ b ∷ c ∷ []) h = absurd (omega arith)
+six_is (a ∷ b ∷ c ∷ d ∷ []) h = absurd (omega arith)
+six_is (a ∷ b ∷ c ∷ d ∷ e ∷ []) h = absurd (omega arith)
+six_is (a ∷ b ∷ c ∷ d ∷ e ∷ f ∷ []) h = refl
+six_is (a ∷ b ∷ c ∷ d ∷ e ∷ f ∷ g ∷ l) h = absurd (omega arith)
+
 -- the figures of six columns, each read
-pub value_is : (a b c d e f p q r s t u : ℕ) → p ≡ figure_of a → q ≡ figure_of b → r ≡ figure_of c → s ≡ figure_of d → t ≡ figure_of e → u ≡ figure_of f
-    → ((((p * 10 + q) * 10 + r) * 10 + s) * 10 + t) * 10 + u ≡ size_from 0 (six a b c d e f)
+pub value_is : (l : List ℕ) (p q r s t u : ℕ) → length l ≡ 6 → p ≡ figure_of (get_or l 0 0) → q ≡ figure_of (get_or l 1 0) → r ≡ figure_of (get_or l 2 0)
+    → s ≡ figure_of (get_or l 3 0) → t ≡ figure_of (get_or l 4 0) → u ≡ figure_of (get_or l 5 0)
+    → ((((p * 10 + q) * 10 + r) * 10 + s) * 10 + t) * 10 + u ≡ size_from 0 l
 unfolding size_from
-value_is a b c d e f p q r s t u h i j k l m = rw (h, i, j, k, l, m) (omega arith)
+value_is l p q r s t u six_long h i j k m n = rw (six_is l six_long, h, i, j, k, m, n) (omega arith)
 
-module _ (l : List ℕ) (n : ℕ) (p : Bool) where
+-- six columns and their size n, which were compared with the columns k
+module _ (l k : List ℕ) (n : ℕ) (p : Bool) where
   -- accepted
-  pub neg_reads : 0 < n → n ≤ 32768 → p ≡ same l (columns true n) → p ≡ true → Value (65536 - n) ≡ read_number l
-  neg_reads g h e t =
-      let f : 65536 - (65536 - n) ≡ n = omega arith in
-      sym (text_reads l (65536 - n) (omega arith) (same_true l (columns true n) (sym e ∙ t) ∙ sym (text_neg (65536 - n) (omega arith) ∙ rw f)))
+  pub neg_reads : 1 ≤ n → n < 32769 → k ≡ columns true n → p ≡ pointwise nat_eq l k → p ≡ true → Some (65536 - n) ≡ read_number l
+  neg_reads g h e f t =
+      let m : 65536 - (65536 - n) ≡ n = omega arith in
+      sym (text_reads l (65536 - n) (omega arith) (same_text l k (sym t ∙ f) ∙ e ∙ sym (text_neg (65536 - n) (omega arith) ∙ rw m)))
 
-  pub pos_reads : n ≤ 32767 → p ≡ same l (columns false n) → p ≡ true → Value n ≡ read_number l
-  pos_reads g e t = sym (text_reads l n (omega arith) (same_true l (columns false n) (sym e ∙ t) ∙ sym (text_pos n g)))
+  pub pos_reads : n < 32768 → k ≡ columns false n → p ≡ pointwise nat_eq l k → p ≡ true → Some n ≡ read_number l
+  pos_reads g e f t = sym (text_reads l n (omega arith) (same_text l k (sym t ∙ f) ∙ e ∙ sym (text_pos n (omega arith))))
 
   -- refused
-  module _ (q : Bool) (sized : n ≡ size_from 0 l) (minused : q ≡ has_minus l) where
+  module _ (q : Bool) (sized : n ≡ size_from 0 l) (minused : q ≡ minus_in l) where
     -- what the text of v would have been read as
     of_text : (v : ℕ) → l ≡ text v → (n ≡ size v) × (q ≡ negative v)
-    of_text v e = (sized ∙ rw e (size_text v), minused ∙ rw e (minus_text v))
+    of_text v e = (sized ∙ rw e (size_text v), minused ∙ minus_is l ∙ rw e (minus_text v))
 
     if_neg : q ≡ true → (v : ℕ) → l ≡ text v → (n ≡ 65536 - v) × (32767 < v) × (l ≡ columns true n)
     if_neg t v e =
@@ -209,24 +161,20 @@ module _ (l : List ℕ) (n : ℕ) (p : Bool) where
         let g : v ≤ 32767 = ltb-false 32767 v s in
         (m, g, rw m (e ∙ text_pos v g))
 
-    -- the columns that were compared are those of l
-    not_same : (m : Bool) → p ≡ same l (columns m n) → p ≡ false → l ≡ columns m n → ⊥
-    not_same m e f g = contra (rw (← g) (same_self l)) (sym e ∙ f)
-
-    pub zero_refused : q ≡ true → n ≤ 0 → Wrong ≡ read_number l
+    pub zero_refused : q ≡ true → n < 1 → None ≡ read_number l
     zero_refused t g = sym (wrong_reads l (λ v h e. let k = if_neg t v e in omega arith))
 
-    pub far_refused : q ≡ true → 32768 < n → Wrong ≡ read_number l
+    pub far_refused : q ≡ true → 32769 ≤ n → None ≡ read_number l
     far_refused t g = sym (wrong_reads l (λ v h e. let k = if_neg t v e in omega arith))
 
-    pub neg_refused : q ≡ true → p ≡ same l (columns true n) → p ≡ false → Wrong ≡ read_number l
-    neg_refused t f g = sym (wrong_reads l (λ v h e. not_same true f g (if_neg t v e).2))
+    pub neg_refused : q ≡ true → k ≡ columns true n → p ≡ pointwise nat_eq l k → p ≡ false → None ≡ read_number l
+    neg_refused t e f g = sym (wrong_reads l (λ v h i. other_text l k (sym g ∙ f) ((if_neg t v i).2 ∙ sym e)))
 
-    pub high_refused : q ≡ false → 32767 < n → Wrong ≡ read_number l
+    pub high_refused : q ≡ false → 32768 ≤ n → None ≡ read_number l
     high_refused t g = sym (wrong_reads l (λ v h e. let k = if_pos t v e in omega arith))
 
-    pub pos_refused : q ≡ false → p ≡ same l (columns false n) → p ≡ false → Wrong ≡ read_number l
-    pos_refused t f g = sym (wrong_reads l (λ v h e. not_same false f g (if_pos t v e).2))
+    pub pos_refused : q ≡ false → k ≡ columns false n → p ≡ pointwise nat_eq l k → p ≡ false → None ≡ read_number l
+    pos_refused t e f g = sym (wrong_reads l (λ v h i. other_text l k (sym g ∙ f) ((if_pos t v i).2 ∙ sym e)))
 
 pub ruleset refusals = (zero_refused, far_refused, neg_refused, high_refused, pos_refused)
 
@@ -240,17 +188,7 @@ both : (s t : Bool) → cond s t false ≡ true → (s ≡ true) × (t ≡ true)
 both true t h = (refl, h)
 both false t h = contra h refl
 
-six_is : (l : List ℕ) → length l ≡ 6 → l ≡ six (get_or l 0 0) (get_or l 1 0) (get_or l 2 0) (get_or l 3 0) (get_or l 4 0) (get_or l 5 0)
-six_is [] h = absurd (omega arith)
-six_is (a ∷ []) h = absurd (omega arith)
-six_is (a ∷ b ∷ []) h = absurd (omega arith)
-six_is (a ∷ b ∷ c ∷ []) h = absurd (omega arith)
-six_is (a ∷ b ∷ c ∷ d ∷ []) h = absurd (omega arith)
-six_is (a ∷ b ∷ c ∷ d ∷ e ∷ []) h = absurd (omega arith)
-six_is (a ∷ b ∷ c ∷ d ∷ e ∷ f ∷ []) h = refl
-six_is (a ∷ b ∷ c ∷ d ∷ e ∷ f ∷ g ∷ l) h = absurd (omega arith)
-
-one_reads : (a b c d e f : ℕ) (p : Bool) → p ≡ blank_of a b c d e → p ≡ true → 48 ≤ f → f ≤ 57 → Value (f - 48) ≡ read_number (six a b c d e f)
+one_reads : (a b c d e f : ℕ) (p : Bool) → p ≡ blank_of a b c d e → p ≡ true → 48 ≤ f → f < 58 → Some (f - 48) ≡ read_number (six a b c d e f)
 unfolding blank_of
 one_reads a b c d e f p h t i j =
     let w = both (eqb e 32) _ (sym h ∙ t) in
@@ -262,33 +200,28 @@ one_reads a b c d e f p h t i j =
     (rw (eqb-true a 32 z.1, eqb-true b 32 z.0, eqb-true c 32 y.0, eqb-true d 32 x.0, eqb-true e 32 w.0) (sym (text_one (f - 48) (omega arith) ∙ rw o))))
 
 module _ (l : List ℕ) (six_long : length l ≡ 6) where
-  pub figure_reads : (p : Bool) → p ≡ blank_of (get_or l 0 0) (get_or l 1 0) (get_or l 2 0) (get_or l 3 0) (get_or l 4 0) → p ≡ true → 48 ≤ get_or l 5 0 → get_or l 5 0 ≤ 57
-      → Value (get_or l 5 0 - 48) ≡ read_number l
+  pub figure_reads : (p : Bool) → p ≡ blank_of (get_or l 0 0) (get_or l 1 0) (get_or l 2 0) (get_or l 3 0) (get_or l 4 0) → p ≡ true → 48 ≤ get_or l 5 0 → get_or l 5 0 < 58
+      → Some (get_or l 5 0 - 48) ≡ read_number l
   figure_reads p h t i j = one_reads _ _ _ _ _ _ p h t i j ∙ ap read_number (sym (six_is l six_long))
 
-  pub columns_read : (r : Reading) → r ≡ read_number (six (get_or l 0 0) (get_or l 1 0) (get_or l 2 0) (get_or l 3 0) (get_or l 4 0) (get_or l 5 0)) → r ≡ read_number l
+  pub columns_read : (r : Option ℕ) → r ≡ read_number (six (get_or l 0 0) (get_or l 1 0) (get_or l 2 0) (get_or l 3 0) (get_or l 4 0) (get_or l 5 0)) → r ≡ read_number l
   columns_read r e = e ∙ ap read_number (sym (six_is l six_long))
 
 -- ---- a field that is laid into a buffer
 
--- six stores, one after the other
-six_laid : (l : List ℕ) (at a b c d e f : ℕ) → set (set (set (set (set (set l at a) (at + 1) b) (at + 2) c) (at + 3) d) (at + 4) e) (at + 5) f ≡ sets l at (six a b c d e f)
-six_laid l at a b c d e f =
-    let e1 : at + 1 ≡ suc at = omega arith in
-    let e2 : at + 2 ≡ suc (suc at) = omega arith in
-    let e3 : at + 3 ≡ suc (suc (suc at)) = omega arith in
-    let e4 : at + 4 ≡ suc (suc (suc (suc at))) = omega arith in
-    let e5 : at + 5 ≡ suc (suc (suc (suc (suc at)))) = omega arith in
-    rw (e1, e2, e3, e4, e5)
+-- six bytes of the buffer become those of a field
+module _ (l ys zs : List ℕ) (at : ℕ) (inside : at + 6 ≤ length l) where
+  six_laid : length zs ≡ 6 → ys ≡ zs → put_mid at (at + 6 - at) l ys ≡ sets l at zs
+  six_laid n e =
+      let k : at + 6 - at ≡ 6 = omega arith in
+      rw (e, k, sets-eq zs l at (omega arith), n, drop-drop 6 at l, append_assoc)
 
-pub columns_laid : (l : List ℕ) (at a b c d e f : ℕ) (n : Bool) (m : ℕ) → a ≡ letter_of n (m / 100000) (m / 10000) → b ≡ letter_of n (m / 10000) (m / 1000)
-    → c ≡ letter_of n (m / 1000) (m / 100) → d ≡ letter_of n (m / 100) (m / 10) → e ≡ letter_of n (m / 10) 1 → f ≡ 48 + m % 10
-    → set (set (set (set (set (set l at a) (at + 1) b) (at + 2) c) (at + 3) d) (at + 4) e) (at + 5) f ≡ sets l at (columns n m)
-unfolding columns
-columns_laid l at a b c d e f n m p q r s t u = six_laid l at a b c d e f ∙ rw (p, q, r, s, t, u)
+  pub columns_laid : (n : Bool) (m : ℕ) → zs ≡ columns n m → ys ≡ zs → put_mid at (at + 6 - at) l ys ≡ sets l at (columns n m)
+  unfolding columns
+  columns_laid n m e h = six_laid (ap length e) h ∙ ap (sets l at) e
 
-pub figure_laid : (l : List ℕ) (at v : ℕ) → v < 10 → set (set (set (set (set (set l at 32) (at + 1) 32) (at + 2) 32) (at + 3) 32) (at + 4) 32) (at + 5) (48 + v) ≡ sets l at (text v)
-figure_laid l at v h = six_laid l at 32 32 32 32 32 (48 + v) ∙ rw (text_one v h)
+  pub figure_laid : (v : ℕ) → v < 10 → zs ≡ six 32 32 32 32 32 (48 + v) → ys ≡ zs → put_mid at (at + 6 - at) l ys ≡ sets l at (text v)
+  figure_laid v h e k = six_laid (ap length e) k ∙ ap (sets l at) (e ∙ sym (text_one v h))
 
 module _ (l l₁ : List ℕ) (at v : ℕ) where
   pub text_laid : v ≤ 32767 → l₁ ≡ sets l at (columns false v) → l₁ ≡ sets l at (text v)

@@ -3,10 +3,8 @@
 -- The laws are in `Text/Laws.antt`.
 pub mod Laws
 pub mod Characters
-use Rattle.std.specs.Prelude.{ℕ, zero, suc, ◌+◌, ◌-◌, ◌*◌, ◌/◌, ◌%◌, Bool, true, false, cond, List, [], ◌∷◌, ◌++◌, map, ltb, leb, eqb, length, take, drop, replicate}
+use Rattle.std.specs.Prelude.{ℕ, zero, suc, ◌+◌, ◌-◌, ◌*◌, ◌/◌, ◌%◌, Bool, true, false, cond, List, [], ◌∷◌, ◌++◌, map, ltb, leb, eqb, length, take, drop, replicate, None, Option, Some}
 use Rattle.numbers.specs.Bytes.{joined}
-use Rattle.text.specs.declared.Reading.{Reading}
-use Rattle.text.specs.declared.Reading.TheVariants.{Value, Wrong}
 
 -- ---- printing
 
@@ -86,5 +84,5 @@ same (x ∷ xs) [] = false
 same (x ∷ xs) (y ∷ ys) = cond (eqb x y) (same xs ys) false
 
 -- what a field holds: the pattern of which it is the text, and Wrong where it is the text of none
-unfoldable pub read_number : List ℕ → Reading
-read_number f = cond (same f (text (pattern_in f))) (Value (pattern_in f)) Wrong
+unfoldable pub read_number : List ℕ → Option ℕ
+read_number f = cond (same f (text (pattern_in f))) (Some (pattern_in f)) None

@@ -18,17 +18,17 @@ pub fn stands_at(state: &[u32; state::WORDS], t: u32) -> u32
 }
 
 // Thread t gets a status and a node; its slots stay.
+#[tactic(auto, using(crate::specs::WrittenRows::Laws::head_written))]
 fn put_head(state: &mut [u32; state::WORDS], t: u32, status: u32, node: u32)
     requires { t < max_threads }
     ensures { state_of state.new ≡ rewritten (state_of state.old) t (λ row. status ∷ node ∷ slots_of row) }
 {
-    // As a slice the state tells the proof its length, which it does not as an array.
-    let words: &[u32] = state;
     state::put_thread(state, t as usize, state::STATUS, status);
     state::put_thread(state, t as usize, state::NODE, node);
 }
 
 // Slot k of thread t gets v.
+#[tactic(auto, unfolding(rules::specs::Moves::stored))]
 pub fn store(state: &mut [u32; state::WORDS], t: u32, k: u32, v: u32)
     ensures { state_of state.new ≡ rewritten (state_of state.old) t (λ row. stored row k v) }
 {
@@ -36,20 +36,22 @@ pub fn store(state: &mut [u32; state::WORDS], t: u32, k: u32, v: u32)
 }
 
 // Thread t goes on, ready, at a node.
+#[tactic(auto, unfolding(rules::specs::Moves::resumed))]
 pub fn resume(state: &mut [u32; state::WORDS], t: u32, node: u32)
     requires { t < max_threads }
     ensures { state_of state.new ≡ rewritten (state_of state.old) t (λ row. resumed row node) }
 {
-    put_head(state, t, 1, node);
+    put_head(state, t, state::READY, node);
 }
 
 // Thread t waits where it stands.
+#[tactic(auto, unfolding(rules::specs::Moves::waiting_row))]
 pub fn write_waiting(state: &mut [u32; state::WORDS], t: u32)
     requires { t < max_threads }
     ensures { state_of state.new ≡ rewritten (state_of state.old) t waiting_row }
 {
     let node = stands_at(state, t);
-    put_head(state, t, 2, node);
+    put_head(state, t, state::WAITING, node);
 }
 
 // Thread t gets these slots; its status and its node stay.
@@ -57,16 +59,13 @@ fn put_slots(state: &mut [u32; state::WORDS], t: u32, slots: &[u32; SLOTS])
     requires { t < max_threads }
     ensures { state_of state.new ≡ rewritten (state_of state.old) t (λ row. reslotted row slots.now) }
 {
-    // As a slice the state tells the proof its length, which it does not as an array.
-    let words: &[u32] = state;
-    let given: &[u32] = slots;
     for k in 0..state::SLOTS {
-        let v = numbers::cell_at(given, k as usize);
-        store(state, t, k, v);
+        store(state, t, k, slots[k as usize]);
     }
 }
 
 // Thread t gets a whole row: a status, a node and sixteen slots.
+#[tactic(auto, using(crate::specs::WrittenRows::Laws::row_written_lem))]
 pub fn put_row(
     state: &mut [u32; state::WORDS],
     t: u32,
@@ -86,8 +85,7 @@ pub fn write_free(state: &mut [u32; state::WORDS], t: u32)
     requires { t < max_threads }
     ensures { state_of state.new ≡ with_thread (state_of state.old) t free_row }
 {
-    let slots = [0u32; SLOTS];
-    put_row(state, t, 0, 0, &slots);
+    put_row(state, t, state::FREE, 0, &[0; SLOTS]);
 }
 
 // The slots of thread t are copied.
@@ -96,9 +94,7 @@ pub fn copy_slots(state: &[u32; state::WORDS], t: u32, slots: &mut [u32; SLOTS])
     requires slots_value { slots.old ≡ replicate row_slots 0 }
     ensures { slots.new ≡ slots_of (thread (state_of state.now) t) }
 {
-    // As a slice the state tells the proof its length, which it does not as an array.
-    let words: &[u32] = state;
     for k in 0..state::SLOTS {
-        numbers::put_cell(slots, k as usize, program::slot(state, t, k));
+        slots[k as usize] = program::slot(state, t, k);
     }
 }

@@ -3,23 +3,20 @@
 #![tactic(auto)]
 
 ghost use Rattle.std.specs.Prelude.{◌≡◌, true, ◌<◌};
-ghost use Rattle.table.specs.Table.{table_of, ports};
-ghost use Rattle.table.specs.Index.{Indexed};
+ghost use Rattle.table.specs.Table.{ports};
 ghost use Rattle.state.specs.State.{max_threads, state_of, thread, status, with_thread};
 ghost use Rattle.rules.specs.Holding.{settled};
 ghost use Rattle.rules.specs.Start.{free_row};
 ghost use Rattle.threads.specs.Threads.{offers_marked, with_held};
 ghost use Rattle.threads.specs.Looking.{reaches_by};
 
-use offers::Offer;
-use table::field;
+use table::{Table, field};
 
 // How many ports the bench holds.
-pub fn port_count(table: &[u8], index: &[u32]) -> u32
-    requires { Indexed (table_of table.now) index.now }
-    ensures { result ≡ ports (table_of table.now) }
+pub fn port_count(table: &Table) -> u32
+    ensures { result ≡ ports table.now }
 {
-    table::cell_of(table, index, 0, field::PORTS)
+    table.cell(0, field::PORTS)
 }
 
 // The status of thread t: 0 free, 1 ready, 2 waiting.
@@ -30,89 +27,70 @@ pub fn status_of(words: &[u32; state::WORDS], t: u32) -> u32
 }
 
 // Whether the branch in a row, of thread t, offers on the channel that it names, and that channel is marked.
+#[tactic(auto, using(crate::proofs::Ways::reaches_is_offer), unfolding(crate::specs::Looking::is_marked))]
 fn reaches_by(
-    table: &[u8],
-    index: &[u32],
+    table: &Table,
     row: usize,
     words: &[u32; state::WORDS],
     t: u32,
     marks: &[bool; state::CHANNELS as usize],
 ) -> bool
-    requires { Indexed (table_of table.now) index.now }
-    ensures { result ≡ reaches_by (table_of table.now) (thread (state_of words.now) t) marks.now row }
+    ensures { result ≡ reaches_by table.now (thread (state_of words.now) t) marks.now row }
 {
-    let c = program::slot(words, t, table::cell_of(table, index, row, field::A));
-    if state::CHANNELS <= c {
-        return false;
-    }
-    if !marks[c as usize] {
-        return false;
-    }
-    match offers::offer_on(table, index, row, words, t, c) {
-        Offer::Of(_) => true,
-        Offer::Nothing => false,
-    }
+    let c = program::slot(words, t, table.cell(row, field::A));
+    c < state::CHANNELS
+        && marks[c as usize]
+        && matches!(offers::offer_on(table, row, words, t, c), Some(_))
 }
 
 // Whether thread t offers, in one direction or the other, on a channel that is marked.
 pub fn offers_marked(
-    table: &[u8],
-    index: &[u32],
+    table: &Table,
     words: &[u32; state::WORDS],
     t: u32,
     marks: &[bool; state::CHANNELS as usize],
 ) -> bool
-    requires { Indexed (table_of table.now) index.now }
-    ensures { result ≡ offers_marked (table_of table.now) (thread (state_of words.now) t) marks.now }
+    ensures { result ≡ offers_marked table.now (thread (state_of words.now) t) marks.now }
 {
     if status_of(words, t) != state::WAITING {
         return false;
     }
     let node = state::thread_word(words, t as usize, state::NODE);
-    let n = table::branch_count_of(table, index, node);
-    for i in 0..n {
-        let row = program::branch_at(table, index, node, i);
-        if reaches_by(table, index, row, words, t, marks) {
-            return true;
-        }
-    }
-    false
+    let n = table.branch_count(node);
+    (0..n).any(|i| {
+        let row = program::branch_at(table, node, i);
+        reaches_by(table, row, words, t, marks)
+    })
 }
 
 // The channels that thread t holds are marked too.
+#[tactic(auto, unfolding(crate::specs::Looking::raised_to))]
 pub fn mark_held(
-    table: &[u8],
-    index: &[u32],
+    table: &Table,
     words: &[u32; state::WORDS],
     t: u32,
     marks: &mut [bool; state::CHANNELS as usize],
 )
-    requires { Indexed (table_of table.now) index.now }
-    ensures { marks.new ≡ with_held (table_of table.now) (thread (state_of words.now) t) marks.old }
+    ensures { marks.new ≡ with_held table.now (thread (state_of words.now) t) marks.old }
 {
-    // As a slice the marks tell their number.
-    let all: &[bool] = marks;
-    let mut list = [0u8; holding::LIST];
-    holding::own_channels(table, index, words, t, &mut list);
-    for i in 0..holding::LIST {
+    let mut list = [0; holding::LIST];
+    holding::own_channels(table, words, t, &mut list);
+    for c in list {
         // An entry that is no channel marks nothing.
-        let c = list[i];
-        if c < state::NO_CHANNEL {
-            marks[c as usize] = true;
-        }
+        numbers::put_item(marks, c as usize, true);
     }
 }
 
 // The row of thread t is freed, and the channel rows are settled again.
-pub fn release(table: &[u8], index: &[u32], words: &mut [u32; state::WORDS], t: u32)
-    requires indexed { Indexed (table_of table.now) index.now }
+#[tactic(auto, using(crate::proofs::Ways::released_settled))]
+pub fn release(table: &Table, words: &mut [u32; state::WORDS], t: u32)
     requires t_lt_max_threads { t < max_threads }
-    requires words_value { settled (table_of table.now) (state_of words.old) ≡ state_of words.old }
-    ensures words_after { state_of words.new ≡ settled (table_of table.now) (with_thread (state_of words.old) t free_row) }
-    ensures stays_settled { settled (table_of table.now) (state_of words.new) ≡ state_of words.new }
+    requires words_value { settled table.now (state_of words.old) ≡ state_of words.old }
+    ensures words_after { state_of words.new ≡ settled table.now (with_thread (state_of words.old) t free_row) }
+    ensures stays_settled { settled table.now (state_of words.new) ≡ state_of words.new }
 {
-    let mut old = [0u8; holding::LIST];
-    let waits = upkeep::note_held(table, index, words, t, &mut old);
+    let mut old = [0; holding::LIST];
+    let waits = upkeep::note_held(table, words, t, &mut old);
     thread_rows::write_free(words, t);
-    upkeep::settle_one(table, index, words, t, &old, waits);
+    upkeep::settle_one(table, words, t, &old, waits);
 }

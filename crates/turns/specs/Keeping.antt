@@ -1,13 +1,12 @@
 -- Meetings after which no count of holders is to be moved, since a number is given.
 pub mod Laws
-use Rattle.std.specs.Prelude.{ℕ, ◌<◌, ◌≡◌, ◌≢◌, true}
+use Rattle.std.specs.Prelude.{ℕ, ◌<◌, ◌≡◌, ◌≢◌, true, Some}
 use Rattle.table.specs.Table.{Table, ports}
 use Rattle.state.specs.State.{State, max_threads, thread, stands_at}
 use Rattle.rules.specs.Offers.{partner_of}
 use Rattle.rules.specs.Moves.{written}
 use Rattle.rules.specs.Calls.{bench}
 use Rattle.rules.specs.declared.Direction.{Direction}
-use Rattle.rules.specs.declared.Partner.TheVariants.{At}
 use Rattle.rules.specs.declared.Move.TheVariants.{Meets}
 use Rattle.meetings.specs.Sides.{Facing}
 use Rattle.turns.specs.Running.{MoveMade}
@@ -24,4 +23,4 @@ pub record CanMeet (tb : Table) (s : State) (t i u j : ℕ) : Type 0 where
 
 -- thread u answers the bench at a port by its branch j
 unfoldable pub AtPort : Table → State → ℕ → ℕ → Type 0
-AtPort tb s u j = (d : Direction) × (p : ℕ) × (p < ports tb) × (partner_of tb s bench d p ≡ At u j)
+AtPort tb s u j = (d : Direction) × (p : ℕ) × (p < ports tb) × (partner_of tb s bench d p ≡ Some (u, j))

@@ -1,8 +1,7 @@
 -- The invariant of a run, and what a move and a turn leave.
 pub mod Laws
-use Rattle.std.specs.Prelude.{ℕ, ◌≡◌, List}
+use Rattle.std.specs.Prelude.{ℕ, ◌≡◌}
 use Rattle.table.specs.Table.{Table}
-use Rattle.table.specs.Index.{Indexed}
 use Rattle.state.specs.State.{State, thread, stands_at}
 use Rattle.rules.specs.Holding.{settled}
 use Rattle.rules.specs.Moves.{move, perform}
@@ -15,11 +14,10 @@ use Rattle.turns.specs.declared.Round.{Round}
 use Rattle.turns.specs.Counted.{Counted}
 use Rattle.turns.specs.Weights.{weighed_after}
 
--- The table is an accepted one and this is its index. The channel rows of the state are right but for their counts of waiting holders; once these are settled it
+-- The table is an accepted one. The channel rows of the state are right but for their counts of waiting holders; once these are settled it
 -- is a sound state.
-pub record Running (tb : Table) (index : List ℕ) (s : State) : Type 0 where
+pub record Running (tb : Table) (s : State) : Type 0 where
   pub accepted : Granted tb
-  pub indexed : Indexed tb index
   pub counted : Counted tb s
   pub sound : Sound tb (settled tb s)
 
@@ -31,9 +29,9 @@ pub record MoveMade (tb : Table) (s : State) (t : ℕ) (m : Move) (s₁ : State)
 
 -- Thread t had its turn in state s, which came to r and left s₁: the turn and the state are those of the rules, r tells the move that was decided, and the run
 -- can go on with no row in use from the number in r on. What is to be weighed is as after the move.
-pub record TurnTaken (tb : Table) (index : List ℕ) (s : State) (t : ℕ) (r : Round) (s₁ : State) : Type 0 where
+pub record TurnTaken (tb : Table) (s : State) (t : ℕ) (r : Round) (s₁ : State) : Type 0 where
   pub ends : turned r.turn (settled tb s₁) ≡ turn_end tb (settled tb s) t (turn_by t (move tb (settled tb s) t))
   pub decided : r.decided ≡ move tb (settled tb s) t
-  pub running : Running tb index s₁
+  pub running : Running tb s₁
   pub used : UsedBelow s₁ r.top
   pub weights : settled tb s ≡ s → settled tb s₁ ≡ weighed_after tb (stands_at (thread s t)) t r.decided s₁

@@ -2,20 +2,17 @@
 use Prim.Native.Nat.{ℕ, zero, suc, ◌+◌, ◌<◌, ◌≤◌}
 use native.Mathlib.Omega.{arith}
 use native.Mathlib.Numerals.{add-one}
-use mathlib.Core.Path.{◌≡◌, refl, ◌∙◌}
+use mathlib.Core.Path.{◌≡◌, refl}
 use mathlib.Core.List.{List, [], ◌∷◌}
 use lib.ListN.{length, get_or, set}
 use lib.Seq.{set_out}
-use Rattle.numbers.specs.Count.{bit}
 use Rattle.numbers.specs.Rows.{at}
 use Rattle.numbers.specs.Rows.Laws.{put_put}
-use Rattle.numbers.specs.Signed.{sum, difference}
-use Rattle.table.specs.Table.{Table}
-use Rattle.state.specs.State.{State, state_of, state_words, minus_one, thread, channel, is_waiting, with_channel, with_channels, max_channels, row_slots}
+use Rattle.numbers.specs.Signed.{sum}
+use Rattle.state.specs.State.{State, state_of, state_words, channel, with_channel, with_channels, max_channels}
 use Rattle.state.specs.State.Laws.{length_channels, length_channel, three_stored}
 use Rattle.rules.specs.Holding.{channel_row}
-use Rattle.holding.specs.Own.{own_list, own_room}
-use Rattle.upkeep.specs.Shift.{row_counted, shift_row, shift_to, channel_shifted, shifted_to, row_entered, row_left, row_weighed, settled_one, settled_two, settled_new}
+use Rattle.upkeep.specs.Shift.{row_counted, shift_row, shift_to, channel_shifted, shifted_to}
 
 -- put_counts: two stores make a row of one that has its type
 two : (r : List ℕ) (n w : ℕ) → length r ≡ 3 → set (set r 1 n) 2 w ≡ get_or r 0 0 ∷ n ∷ w ∷ []
@@ -44,8 +41,6 @@ module _ (b : List ℕ) (c n w : ℕ) (s₁ s₂ : State) (e : length b ≡ stat
       let r = channel (state_of b) c in
       rw (k, g, f, z, put_put (state_of b).channels c 1 0 (set r 0 0) i, put_put (state_of b).channels c 2 0 (set (set r 0 0) 1 0) i, three_stored r 0 0 0 (length_channel b e c h))
 
-pub ruleset puts = (counts_put, counts_free)
-
 -- shift: n and w are the counts that the row has, a and b those that it gets
 pub shift_in : (s s₂ : State) (c dn dw n w a b : ℕ) → s₂ ≡ row_counted s c a b → a ≡ sum n dn → b ≡ sum w dw → n ≡ at s.channels c 1
     → w ≡ at s.channels c 2 → s₂ ≡ channel_shifted s c dn dw
@@ -67,36 +62,3 @@ module _ (s : State) (l : List ℕ) (dn dw : ℕ) where
     pub shifts_more : (s₂ : State) (c : ℕ) → s₂ ≡ channel_shifted s₁ c dn dw → c ≡ get_or l k 0 → s₂ ≡ shifted_to s l dn dw (k + 1)
     unfolding shifted_to shift_to channel_shifted with_channels
     shifts_more s₂ c f g = rw (f, g, e, add-one k)
-
-    pub shifts_all : (n : ℕ) → k ≤ n → n ≤ k → s₁ ≡ shifted_to s l dn dw n
-    shifts_all n h i = let q : k ≡ n = omega arith in rw q at e
-
--- enter, shift_waiting: l and n are the row's own channels and how many they are
-module _ (tb : Table) (s s₂ : State) (t w n : ℕ) (l : List ℕ) where
-  pub enter_is : s₂ ≡ shifted_to s l 1 w n → l ≡ own_list tb (thread s t) → n ≡ own_room tb (thread s t) → w ≡ bit (is_waiting (thread s t)) → s₂ ≡ row_entered tb s t
-  unfolding row_entered
-  enter_is f e g h = rw (f, e, g, h)
-
-  pub weigh_is : s₂ ≡ shifted_to s l 0 w n → l ≡ own_list tb (thread s t) → n ≡ own_room tb (thread s t) → s₂ ≡ row_weighed tb s t w
-  unfolding row_weighed
-  weigh_is f e g = rw (f, e, g)
-
--- leave
-pub leave_is : (s s₂ : State) (w d : ℕ) (l : List ℕ) → s₂ ≡ shifted_to s l minus_one d row_slots → d ≡ difference 0 w → s₂ ≡ row_left s l w
-unfolding row_left
-leave_is s s₂ w d l f e = rw (f, e)
-
--- settle_one, settle_two, settle_new: s₁ after the row of t is entered
-module _ (tb : Table) (s s₁ : State) (t : ℕ) (e : s₁ ≡ row_entered tb s t) where
-  pub one_is : (s₂ : State) (l : List ℕ) (w : ℕ) → s₂ ≡ row_left s₁ l w → s₂ ≡ settled_one tb s t l w
-  unfolding settled_one
-  one_is s₂ l w f = f ∙ rw e
-
-  pub new_is : (s₂ s₃ : State) (c : ℕ) (l : List ℕ) (w : ℕ) → s₂ ≡ channel_shifted s₁ c 0 0 → s₃ ≡ row_left s₂ l w → s₃ ≡ settled_new tb s t c l w
-  unfolding settled_new
-  new_is s₂ s₃ c l w f g = g ∙ rw (f, e)
-
-  pub two_is : (s₂ s₃ s₄ : State) (u : ℕ) (l : List ℕ) (w : ℕ) (l' : List ℕ) (w' : ℕ) → s₂ ≡ row_entered tb s₁ u → s₃ ≡ row_left s₂ l w → s₄ ≡ row_left s₃ l' w'
-      → s₄ ≡ settled_two tb s t u l w l' w'
-  unfolding settled_two
-  two_is s₂ s₃ s₄ u l w l' w' f g h = h ∙ rw (g, f, e)

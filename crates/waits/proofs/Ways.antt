@@ -1,23 +1,21 @@
--- One law for each way out of the functions that note offers. Assumes nothing.
-use Prim.Native.Nat.{ℕ, suc, ◌+◌, ◌≤◌, ◌<◌}
+-- What the functions that note offers come to. Assumes nothing.
+use Prim.Native.Nat.{ℕ, ◌+◌, ◌≤◌, ◌<◌}
 use native.Mathlib.Omega.{arith}
 use native.Mathlib.Numerals.{add-one}
-use mathlib.Core.Path.{◌≡◌, refl, sym, ◌∙◌}
+use mathlib.Core.Path.{◌≡◌, refl, ◌∙◌}
 use mathlib.Core.Logic.{inl, inr}
 use mathlib.Core.Bool.{Bool, true, false, not, ◌&&◌}
 use mathlib.Core.List.{List, [], ◌∷◌}
 use types.Run.{OneOf}
 use denote.Enum.Declared.{tag_of}
-use lib.Dec.{eqb}
-use lib.ListN.{length, get_or, set, replicate}
-use lib.Seq.{set_out}
+use lib.ListN.{get_or, set, replicate}
 use borrow.Author.Tests.{eq-eqb, ne_eqb}
 use Rattle.numbers.specs.Search.{every, tabulate}
 use Rattle.numbers.specs.Search.Laws.{get_d_tabulate, every_all, every_not, every_cong, case_b, contra}
 use Rattle.numbers.specs.Tests.{and_true}
 use Rattle.numbers.specs.Rows.{at}
 use Rattle.table.specs.Fields as Field
-use Rattle.table.specs.Table.{Table, node_row, branch_row}
+use Rattle.table.specs.Table.{Table, branch_row}
 use Rattle.table.specs.Layout.{start, branch_count}
 use Rattle.table.specs.declared.Part.TheVariants.{Branches}
 use Rattle.state.specs.State.{State, max_threads, max_channels, thread, status, stands_at, slot_of}
@@ -33,29 +31,6 @@ use Rattle.offers.specs.Offer.Laws.{same_self}
 use Rattle.waits.specs.Waits.{noted, apart, all_apart, needs_partner, held_back, offer_noted, branch_held, waits_alone, who, who_to}
 use Rattle.waits.specs.Waits.Laws.{waits_law}
 use Rattle.waits.specs.Waits.Pass.{branch_noted, no_branch_noted, branches_noted, none_noted, none_yet}
-
--- ---- note_of and note
-
-module _ (m t : ℕ) where
-  pub note_first : m ≡ 0 → t + 1 ≡ noted m t
-  unfolding noted
-  note_first e = rw (eq-eqb m 0 e, add-one t)
-
-  module _ (e : m ≡ 0 → ⊥) where
-    pub note_same : m ≡ t + 1 → m ≡ noted m t
-    unfolding noted
-    note_same f = rw (ne_eqb m 0 e, eq-eqb m (suc t) (omega arith))
-
-    pub note_several : (m ≡ t + 1 → ⊥) → 65 ≡ noted m t
-    unfolding noted
-    note_several f = rw (ne_eqb m 0 e, ne_eqb m (suc t) (λ q. f (omega arith)))
-
-module _ (l : List ℕ) (c t : ℕ) where
-  pub note_in : (v : ℕ) → v ≡ noted (get_or l c 0) t → set l c v ≡ set l c (noted (get_or l c 0) t)
-  note_in v e = rw e
-
-  pub note_out : length l ≤ c → l ≡ set l c (noted (get_or l c 0) t)
-  note_out h = sym (set_out l c (noted (get_or l c 0) t) h)
 
 -- ---- note_branch: the act of the branch in row r is a
 
@@ -157,20 +132,6 @@ module _ (tb : Table) (s : State) (t i n k : ℕ) (f : k ≡ branch_count tb n) 
   pub held_not : (r : Bool) → r ≡ branch_held tb s t i → r ≡ false → i < k → false ≡ every (branch_held tb s t) (branch_count tb (stands_at (thread s t)))
   held_not r e a b = rw (← g, ← f) (every_not (branch_held tb s t) i k r e a b)
 
-module _ (tb : Table) (s : State) (t x n : ℕ) (e : x ≡ status (thread s t)) where
-  pub ready_alone : (x ≡ 2 → ⊥) → true ≡ waits_alone tb s t
-  unfolding waits_alone
-  ready_alone f = rw (← e, ne_eqb x 2 f)
-
-  module _ (f : x ≡ 2) (g : n ≡ stands_at (thread s t)) (y k : ℕ) (h : y ≡ at tb (k + n) Field.node_kind) (i : k ≡ node_row tb) where
-    pub elsewhere_alone : (y ≡ 1 → ⊥) → false ≡ waits_alone tb s t
-    unfolding waits_alone
-    elsewhere_alone j = rw (← e, f, ← g, ← i, ← h, ne_eqb y 1 j)
-
-    pub choice_alone : (r : Bool) → y ≡ 1 → r ≡ every (branch_held tb s t) (branch_count tb (stands_at (thread s t))) → r ≡ waits_alone tb s t
-    unfolding waits_alone
-    choice_alone r j q = let z : at tb (node_row tb + stands_at (thread s t)) Field.node_kind ≡ 1 = rw (← g, ← i, ← h) j in rw (← e, f, z) q
-
 -- ---- note_threads
 
 module _ (tb : Table) (s : State) (d : Direction) (l : List ℕ) where
@@ -183,32 +144,6 @@ module _ (tb : Table) (s : State) (d : Direction) (l : List ℕ) where
 
   pub threads_all : (t : ℕ) → l ≡ tabulate max_channels (who tb s d t) → t ≤ max_threads → max_threads ≤ t → l ≡ tabulate max_channels (who tb s d max_threads)
   threads_all t e h i = let q : t ≡ 64 = omega arith in rw q at e
-
--- ---- all_apart: a and b are the two notes
-
-module _ (a b : ℕ) where
-  pub apart_nobody : a ≡ 0 → true ≡ apart a b
-  unfolding apart
-  apart_nobody e = rw e
-
-  module _ (e : a ≡ 0 → ⊥) where
-    pub apart_no_receiver : b ≡ 0 → true ≡ apart a b
-    unfolding apart
-    apart_no_receiver f = rw (ne_eqb a 0 e, f)
-
-    module _ (f : b ≡ 0 → ⊥) where
-      pub apart_others : (a ≡ b → ⊥) → false ≡ apart a b
-      unfolding apart
-      apart_others g = rw (ne_eqb a 0 e, ne_eqb b 0 f, ne_eqb a b g)
-
-      pub apart_same : a ≡ b → not (eqb a 65) ≡ apart a b
-      unfolding apart
-      apart_same g = rw (ne_eqb a 0 e, ne_eqb b 0 f, eq-eqb a b g)
-
-pub apart_read : (r : Bool) (a b x y : ℕ) → r ≡ apart a b → a ≡ x → b ≡ y → r ≡ apart x y
-apart_read r a b x y e f g = e ∙ rw (f, g)
-
-pub ruleset aparts = (apart_nobody, apart_no_receiver, apart_others, apart_same)
 
 -- ---- waits_rightly
 

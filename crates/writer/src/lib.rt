@@ -4,64 +4,62 @@
 ghost use Rattle.std.specs.Prelude.{◌≡◌, [], ◌+◌, ◌*◌, ◌≤◌, ◌<◌, length, get_or, take};
 ghost use Rattle.std.proofs.lemmas.List.Edits.{sets};
 ghost use Rattle.text.specs.Text.{line_length, line_text, file_text};
-ghost use Rattle.table.specs.Table.{table_of, max_rows};
-ghost use Rattle.table.specs.Index.{Indexed};
-ghost use Rattle.writer.specs.Write.{Outcome, write_call};
+ghost use Rattle.table.specs.Table.{max_rows};
+ghost use Rattle.writer.specs.Write.{Whole, Outcome, write_call};
 
-// What a write answers: how many bytes the file has, or why there is none.
-#[derive(Clone, Copy)]
-pub enum Written {
-    Done(usize),
+use table::Table;
+
+// Why a write is refused: a buffer's length, the table, or no room for the file.
+#[derive(Clone, Copy, PartialEq, Eq)]
+pub enum WriteRefusal {
     WrongLength,
     WrongTable,
     ShortBuffer,
 }
 
 // A row of the table as a line, laid into the buffer behind the lines of the rows before.
-fn put_line(table: &[u8], index: &[u32], file: &mut [u8], line: usize)
-    requires indexed { Indexed (table_of table.now) index.now }
+fn put_line(table: &Table, file: &mut [u8], line: usize)
+    requires whole { Whole table.now }
     requires line_lt_max_rows { line < max_rows }
     requires line_length_in_bounds { line * line_length + line_length ≤ length file.old }
-    ensures { file.new ≡ sets file.old (line * line_length) (line_text (get_or (table_of table.now) line [])) }
+    ensures { file.new ≡ sets file.old (line * line_length) (line_text (get_or table.now line [])) }
 {
     let at = line * text::LINE;
     for column in 0..table::ROW_NUMBERS {
-        let number = table::cell_of(table, index, line, column);
+        let number = table.cell(line, column);
         text::put_field(file, at + column * text::FIELD, number as u16);
     }
-    file[at + table::ROW_NUMBERS * text::FIELD] = 10;
+    file[at + table::ROW_NUMBERS * text::FIELD] = b'\n';
 }
 
 // The first n rows of the table as lines, laid into the buffer from its front.
-fn put_lines(table: &[u8], index: &[u32], file: &mut [u8], n: usize)
-    requires indexed { Indexed (table_of table.now) index.now }
+fn put_lines(table: &Table, file: &mut [u8], n: usize)
+    requires whole { Whole table.now }
     requires n_le_max_rows { n ≤ max_rows }
     requires line_length_in_bounds { n * line_length ≤ length file.old }
-    ensures { file.new ≡ sets file.old 0 (file_text (take n (table_of table.now))) }
+    ensures { file.new ≡ sets file.old 0 (file_text (take n table.now)) }
 {
     for line in 0..n {
-        put_line(table, index, file, line);
+        put_line(table, file, line);
     }
 }
 
 // Writes the file of a table: into the front of the buffer, if the table has its length, is one that loading yields, and its file has room there.
 // Else nothing changes.
-pub fn write(table: &[u8], file: &mut [u8]) -> Written
+pub fn write(table: &[u8], file: &mut [u8]) -> Result<usize, WriteRefusal>
     ensures { ◌≡◌ {A = Outcome} (record { answer = result; file = file.new }) (write_call table.now file.old) }
 {
     if table.len() != table::BYTES {
-        return Written::WrongLength;
+        return Err(WriteRefusal::WrongLength);
     }
     let mut index = [0u32; table::INDEX];
     let mut gaps = [0u32; loader::GAPS];
-    if !loader::accept(table, &mut index, &mut gaps) {
-        return Written::WrongTable;
-    }
+    let accepted = loader::accept(table, &mut index, &mut gaps).ok_or(WriteRefusal::WrongTable)?;
     let n = table::line_total(table);
     let bytes = n * text::LINE;
     if file.len() < bytes {
-        return Written::ShortBuffer;
+        return Err(WriteRefusal::ShortBuffer);
     }
-    put_lines(table, &index, file, n);
-    Written::Done(bytes)
+    put_lines(&accepted, file, n);
+    Ok(bytes)
 }

@@ -1,7 +1,10 @@
 -- Theorems on the call that writes, for every table, every buffer and every length: each ground exactly when it is due; what is written loads to the table, byte
 -- for byte; the table of a file that loads is written as that file, but for the file of no bytes, which is written as the three lines for which it stands; the
 -- bytes behind the file stay, and a refused call leaves every byte. Assumes nothing.
-use Rattle.std.specs.Prelude.{ℕ, ◌*◌, ◌≤◌, ◌<◌, ◌≡◌, refl, ◌↔◌, ◌≢◌, ◌⊎◌, true, false, leb, eqb, length, take, drop}
+use Rattle.writer.specs.declared.WriteRefusal.TheVariants as WriteRefusal
+use Rattle.writer.specs.Answers.{Written}
+use Rattle.loader.specs.Answers.{Loaded}
+use Rattle.std.specs.Prelude.{ℕ, ◌*◌, ◌≤◌, ◌<◌, ◌≡◌, refl, ◌↔◌, ◌≢◌, ◌⊎◌, true, false, leb, eqb, length, take, drop, Err, Ok}
 use Rattle.std.proofs.Common.{arith, sym, ◌∙◌, ap, length-append, length-drop, take_at, drop_at}
 use mathlib.Core.List.{List, [], ◌++◌}
 use borrow.Author.Tests.{eqb-true, eq-eqb, leb-true, leb-false, le-leb, lt-leb}
@@ -16,28 +19,23 @@ use Rattle.file.specs.EmptyFile.Laws.{ending_long, text_own, text_some, one_text
 use Rattle.loader.specs.Verdict.{verdict}
 use Rattle.loader.specs.Load as Load
 use Rattle.loader.specs.Load.{table_bytes, loaded, accepted}
-use Rattle.loader.specs.declared.Loaded.{Loaded}
-use Rattle.loader.specs.declared.Loaded.TheVariants as Loaded
-use Rattle.loader.specs.declared.Verdict.TheVariants.{Sound}
 use Rattle.loader_laws.specs.PrintedFile.{sound_read, sound_printed, sound_bytes}
 use Rattle.loader_laws.specs.Yields.{judged_total, file_shaped, length_bytes, bytes_hold, text_loads, sound_loads, text_bytes, done_sound, file_accepted, accepted_iff}
 use Rattle.writer.specs.Write.{printed_form, Outcome, outcome, laid_into, write_call, bytes_number}
 use Rattle.writer.specs.Write.Laws.{accepted_long, length_printed, bytes_few}
-use Rattle.writer.specs.declared.Written.{Written}
-use Rattle.writer.specs.declared.Written.TheVariants.{Done, WrongLength, WrongTable, ShortBuffer}
 
 -- ---- the file of a table
 
 -- a file of bytes that loads to the bytes t, into every buffer of a table's length
 abbrev pub FileOf : List ℕ → List ℕ → Type 0
-FileOf t file = Characters file × ((own : List ℕ) → length own ≡ table_length → loaded file own ≡ Load.outcome Loaded.Done t)
+FileOf t file = Characters file × ((own : List ℕ) → length own ≡ table_length → loaded file own ≡ Load.outcome (Ok tt) t)
 
 -- so does a file that loads to them into one buffer
-pub file_of : (t file own : List ℕ) → loaded file own ≡ Load.outcome Loaded.Done t → FileOf t file
+pub file_of : (t file own : List ℕ) → loaded file own ≡ Load.outcome (Ok tt) t → FileOf t file
 file_of t file own e = let (v, q) = done_sound file own t e in (text_bytes file v, λ other l. text_loads file other v l ∙ rw q)
 
 -- the printed form of a file's table is the file
-pub printed_back : (file : List ℕ) → verdict file ≡ Sound → printed_form (file_table file) ≡ file
+pub printed_back : (file : List ℕ) → verdict file ≡ Ok tt → printed_form (file_table file) ≡ file
 unfolding printed_form
 printed_back file e =
     let n : line_count file ≡ line_total (file_table file) = judged_total (file_table file) (line_count file) (sound_read file e).1 in
@@ -47,7 +45,7 @@ module _ (t file : List ℕ) (f : FileOf t file) where
   abbrev text : List ℕ
   text = procedure_text file
 
-  in_order_lem : (verdict text ≡ Sound) × (table_bytes (file_table text) ≡ t)
+  in_order_lem : (verdict text ≡ Ok tt) × (table_bytes (file_table text) ≡ t)
   in_order_lem = let own = table_bytes (file_table text) in done_sound file own t (f.1 own (length_bytes (file_table text) (file_shaped text)))
 
   pub table_accepted : accepted t ≡ true
@@ -71,11 +69,11 @@ module _ (t file : List ℕ) (f : FileOf t file) (n : length file ≢ 0) where
   file_printed = text_printed t file f ∙ text_own file n
 
   module _ (b : List ℕ) where
-    pub file_written : length file ≤ length b → write_call t b ≡ outcome (Done (length file)) (file ++ drop (length file) b)
+    pub file_written : length file ≤ length b → write_call t b ≡ outcome (Ok (length file)) (file ++ drop (length file) b)
     unfolding write_call laid_into
     file_written h = rw (eq-eqb (length t) table_length (table_long t file f), table_accepted t file f, file_printed, le-leb (length file) (length b) h)
 
-    pub file_refused : length b < length file → write_call t b ≡ outcome ShortBuffer b
+    pub file_refused : length b < length file → write_call t b ≡ outcome (Err WriteRefusal.ShortBuffer) b
     unfolding write_call laid_into
     file_refused h = rw (eq-eqb (length t) table_length (table_long t file f), table_accepted t file f, file_printed, lt-leb (length file) (length b) h)
 
@@ -100,10 +98,10 @@ refused_of t fit = (
 -- ---- the ways of a write
 
 data Way (t b : List ℕ) : Type 0 where
-  wrong : length t ≢ table_length → write_call t b ≡ outcome WrongLength b → Way t b
-  no_table : length t ≡ table_length → accepted t ≡ false → write_call t b ≡ outcome WrongTable b → Way t b
-  short : (file : List ℕ) → FileOf t file → length b < length file → write_call t b ≡ outcome ShortBuffer b → Way t b
-  done : (file : List ℕ) → FileOf t file → length file ≢ 0 → length file ≤ length b → write_call t b ≡ outcome (Done (length file)) (file ++ drop (length file) b) → Way t b
+  wrong : length t ≢ table_length → write_call t b ≡ outcome (Err WriteRefusal.WrongLength) b → Way t b
+  no_table : length t ≡ table_length → accepted t ≡ false → write_call t b ≡ outcome (Err WriteRefusal.WrongTable) b → Way t b
+  short : (file : List ℕ) → FileOf t file → length b < length file → write_call t b ≡ outcome (Err WriteRefusal.ShortBuffer) b → Way t b
+  done : (file : List ℕ) → FileOf t file → length file ≢ 0 → length file ≤ length b → write_call t b ≡ outcome (Ok (length file)) (file ++ drop (length file) b) → Way t b
 
 way : (t b : List ℕ) → Characters t → Way t b
 unfolding write_call
@@ -125,32 +123,32 @@ module _ (t b : List ℕ) where
   told : (a x : Written) (c : List ℕ) → write_call t b ≡ outcome a c → (write_call t b).answer ≡ x → a ≡ x
   told a x c e f = sym (ap (λ (o : Outcome). o.answer) e) ∙ f
 
-  length_way : Way t b → ((write_call t b).answer ≡ WrongLength) ↔ (length t ≢ table_length)
+  length_way : Way t b → ((write_call t b).answer ≡ Err WriteRefusal.WrongLength) ↔ (length t ≢ table_length)
   length_way (wrong l e) = (λ f. l, λ f. rw e)
-  length_way (no_table l a e) = (λ f. let q = told WrongTable WrongLength b e f in clash cc, λ f. absurd (f l))
-  length_way (short file g h e) = (λ f. let q = told ShortBuffer WrongLength b e f in clash cc, λ f. absurd (f (table_long t file g)))
-  length_way (done file g n h e) = (λ f. let q = told (Done (length file)) WrongLength _ e f in clash cc, λ f. absurd (f (table_long t file g)))
+  length_way (no_table l a e) = (λ f. let q = told (Err WriteRefusal.WrongTable) (Err WriteRefusal.WrongLength) b e f in clash cc, λ f. absurd (f l))
+  length_way (short file g h e) = (λ f. let q = told (Err WriteRefusal.ShortBuffer) (Err WriteRefusal.WrongLength) b e f in clash cc, λ f. absurd (f (table_long t file g)))
+  length_way (done file g n h e) = (λ f. let q = told (Ok (length file)) (Err WriteRefusal.WrongLength) _ e f in clash cc, λ f. absurd (f (table_long t file g)))
 
-  table_way : Way t b → ((write_call t b).answer ≡ WrongTable) ↔ ((length t ≡ table_length) × (accepted t ≡ false))
-  table_way (wrong l e) = (λ f. let q = told WrongLength WrongTable b e f in clash cc, λ f. absurd (l f.0))
+  table_way : Way t b → ((write_call t b).answer ≡ Err WriteRefusal.WrongTable) ↔ ((length t ≡ table_length) × (accepted t ≡ false))
+  table_way (wrong l e) = (λ f. let q = told (Err WriteRefusal.WrongLength) (Err WriteRefusal.WrongTable) b e f in clash cc, λ f. absurd (l f.0))
   table_way (no_table l a e) = (λ f. (l, a), λ f. rw e)
-  table_way (short file g h e) = (λ f. let q = told ShortBuffer WrongTable b e f in clash cc, λ f. contra (table_accepted t file g) f.1)
-  table_way (done file g n h e) = (λ f. let q = told (Done (length file)) WrongTable _ e f in clash cc, λ f. contra (table_accepted t file g) f.1)
+  table_way (short file g h e) = (λ f. let q = told (Err WriteRefusal.ShortBuffer) (Err WriteRefusal.WrongTable) b e f in clash cc, λ f. contra (table_accepted t file g) f.1)
+  table_way (done file g n h e) = (λ f. let q = told (Ok (length file)) (Err WriteRefusal.WrongTable) _ e f in clash cc, λ f. contra (table_accepted t file g) f.1)
 
   -- the file that is due, and what it has to do with the buffer's length
-  short_way : Way t b → (write_call t b).answer ≡ ShortBuffer → (file : List ℕ) × FileOf t file × (length b < length file)
-  short_way (wrong l e) f = let q = told WrongLength ShortBuffer b e f in clash cc
-  short_way (no_table l a e) f = let q = told WrongTable ShortBuffer b e f in clash cc
+  short_way : Way t b → (write_call t b).answer ≡ Err WriteRefusal.ShortBuffer → (file : List ℕ) × FileOf t file × (length b < length file)
+  short_way (wrong l e) f = let q = told (Err WriteRefusal.WrongLength) (Err WriteRefusal.ShortBuffer) b e f in clash cc
+  short_way (no_table l a e) f = let q = told (Err WriteRefusal.WrongTable) (Err WriteRefusal.ShortBuffer) b e f in clash cc
   short_way (short file g h e) f = (file, g, h)
-  short_way (done file g n h e) f = let q = told (Done (length file)) ShortBuffer _ e f in clash cc
+  short_way (done file g n h e) f = let q = told (Ok (length file)) (Err WriteRefusal.ShortBuffer) _ e f in clash cc
 
-  done_way : (n : ℕ) → Way t b → (write_call t b).answer ≡ Done n → (file : List ℕ) × FileOf t file × (length file ≢ 0) × (length file ≤ length b) × (n ≡ length file)
-  done_way n (wrong l e) f = let q = told WrongLength (Done n) b e f in clash cc
-  done_way n (no_table l a e) f = let q = told WrongTable (Done n) b e f in clash cc
-  done_way n (short file g h e) f = let q = told ShortBuffer (Done n) b e f in clash cc
-  done_way n (done file g s h e) f = let q = told (Done (length file)) (Done n) _ e f in (file, g, s, h, cc)
+  done_way : (n : ℕ) → Way t b → (write_call t b).answer ≡ Ok n → (file : List ℕ) × FileOf t file × (length file ≢ 0) × (length file ≤ length b) × (n ≡ length file)
+  done_way n (wrong l e) f = let q = told (Err WriteRefusal.WrongLength) (Ok n) b e f in clash cc
+  done_way n (no_table l a e) f = let q = told (Err WriteRefusal.WrongTable) (Ok n) b e f in clash cc
+  done_way n (short file g h e) f = let q = told (Err WriteRefusal.ShortBuffer) (Ok n) b e f in clash cc
+  done_way n (done file g s h e) f = let q = told (Ok (length file)) (Ok n) _ e f in (file, g, s, h, cc)
 
-  kept_way : Way t b → ((n : ℕ) → (write_call t b).answer ≢ Done n) → (write_call t b).file ≡ b
+  kept_way : Way t b → ((n : ℕ) → (write_call t b).answer ≢ Ok n) → (write_call t b).file ≡ b
   kept_way (wrong l e) f = rw e
   kept_way (no_table l a e) f = rw e
   kept_way (short file g h e) f = rw e
@@ -159,33 +157,33 @@ module _ (t b : List ℕ) where
 -- of a table t that is bytes, as a slice is, and a buffer b
 module _ (t b : List ℕ) (fit : Characters t) where
   -- 8: the table has another length than a table
-  pub length_iff : ((write_call t b).answer ≡ WrongLength) ↔ (length t ≢ table_length)
+  pub length_iff : ((write_call t b).answer ≡ Err WriteRefusal.WrongLength) ↔ (length t ≢ table_length)
   length_iff = length_way t b (way t b fit)
 
   -- 9: it has a table's length, and is the table of no file
-  pub table_iff : ((write_call t b).answer ≡ WrongTable) ↔ ((length t ≡ table_length) × ((file : List ℕ) → ¬ FileOf t file))
+  pub table_iff : ((write_call t b).answer ≡ Err WriteRefusal.WrongTable) ↔ ((length t ≡ table_length) × ((file : List ℕ) → ¬ FileOf t file))
   table_iff = let w = table_way t b (way t b fit) in let n = refused_of t fit in (
     λ e. let (l, a) = w.0 e in (l, n.0 a),
     λ (l, none). w.1 (l, n.1 none),
   )
 
   -- 15: it is the table of a file, and the buffer is shorter than that file
-  pub short_iff : ((write_call t b).answer ≡ ShortBuffer) ↔ ((file : List ℕ) × FileOf t file × (length b < length file))
+  pub short_iff : ((write_call t b).answer ≡ Err WriteRefusal.ShortBuffer) ↔ ((file : List ℕ) × FileOf t file × (length b < length file))
   short_iff = (short_way t b (way t b fit), λ (file, f, h). ap (λ (o : Outcome). o.answer) (file_refused t file f (λ z. absurd (omega arith)) b h))
 
   -- done: it is the table of a file with bytes for which the buffer has room, be it just enough; and the bytes are as many as the file has
-  pub done_iff : (n : ℕ) → ((write_call t b).answer ≡ Done n) ↔ ((file : List ℕ) × FileOf t file × (length file ≢ 0) × (length file ≤ length b) × (n ≡ length file))
+  pub done_iff : (n : ℕ) → ((write_call t b).answer ≡ Ok n) ↔ ((file : List ℕ) × FileOf t file × (length file ≢ 0) × (length file ≤ length b) × (n ≡ length file))
   done_iff n = (done_way t b n (way t b fit), λ (file, f, s, h, e). rw e (ap (λ (o : Outcome). o.answer) (file_written t file f s b h)))
 
   -- ---- what a write leaves
 
   -- a refused call leaves every byte
-  pub refused_keeps : ((n : ℕ) → (write_call t b).answer ≢ Done n) → (write_call t b).file ≡ b
+  pub refused_keeps : ((n : ℕ) → (write_call t b).answer ≢ Ok n) → (write_call t b).file ≡ b
   refused_keeps = kept_way t b (way t b fit)
 
-  module _ (n : ℕ) (e : (write_call t b).answer ≡ Done n) where
+  module _ (n : ℕ) (e : (write_call t b).answer ≡ Ok n) where
     -- loading the bytes that it left gives the table back
-    pub written_loads : (own : List ℕ) → length own ≡ table_length → loaded (take n (write_call t b).file) own ≡ Load.outcome Loaded.Done t
+    pub written_loads : (own : List ℕ) → length own ≡ table_length → loaded (take n (write_call t b).file) own ≡ Load.outcome (Ok tt) t
     written_loads own l =
         let (file, f, s, h, q) = (done_iff n).0 e in
         rw (q, file_written t file f s b h, take_at file (drop (length file) b) (length file) refl) (f.1 own l)
@@ -209,28 +207,28 @@ module _ (t b : List ℕ) (fit : Characters t) where
 
 -- ---- the table of a file that loads
 
-module _ (file own : List ℕ) (e : (loaded file own).answer ≡ Loaded.Done) where
+module _ (file own : List ℕ) (e : (loaded file own).answer ≡ Ok tt) where
   pub loaded_of : FileOf (loaded file own).table file
   loaded_of = file_of (loaded file own).table file own (ap (λ (a : Loaded). Load.outcome a (loaded file own).table) e)
 
   -- writing it leaves the file's bytes, and answers its length, unless the file has none
   pub loaded_written : length file ≢ 0 → (b : List ℕ) → length file ≤ length b
-      → write_call (loaded file own).table b ≡ outcome (Done (length file)) (file ++ drop (length file) b)
+      → write_call (loaded file own).table b ≡ outcome (Ok (length file)) (file ++ drop (length file) b)
   loaded_written n b h = file_written (loaded file own).table file loaded_of n b h
 
   -- but in a shorter buffer
-  pub loaded_refused : (b : List ℕ) → length b < length file → write_call (loaded file own).table b ≡ outcome ShortBuffer b
+  pub loaded_refused : (b : List ℕ) → length b < length file → write_call (loaded file own).table b ≡ outcome (Err WriteRefusal.ShortBuffer) b
   loaded_refused b h = file_refused (loaded file own).table file loaded_of (λ z. absurd (omega arith)) b h
 
 -- the file of no bytes is written as three lines, of 219 bytes: the one file that printing does not restore
-module _ (own : List ℕ) (e : (loaded [] own).answer ≡ Loaded.Done) where
+module _ (own : List ℕ) (e : (loaded [] own).answer ≡ Ok tt) where
   empty_print : FileOf (loaded [] own).table ending_text
   unfolding procedure_text
   empty_print = text_of (loaded [] own).table [] (loaded_of [] own e)
 
-  pub empty_written : (b : List ℕ) → 219 ≤ length b → write_call (loaded [] own).table b ≡ outcome (Done 219) (ending_text ++ drop 219 b)
+  pub empty_written : (b : List ℕ) → 219 ≤ length b → write_call (loaded [] own).table b ≡ outcome (Ok 219) (ending_text ++ drop 219 b)
   empty_written b h =
       rw ending_long at (file_written (loaded [] own).table ending_text empty_print (λ z. absurd (omega (arith, ending_long))) b (omega (arith, ending_long)))
 
-  pub empty_short : (b : List ℕ) → length b < 219 → write_call (loaded [] own).table b ≡ outcome ShortBuffer b
+  pub empty_short : (b : List ℕ) → length b < 219 → write_call (loaded [] own).table b ≡ outcome (Err WriteRefusal.ShortBuffer) b
   empty_short b h = file_refused (loaded [] own).table ending_text empty_print (λ z. absurd (omega (arith, ending_long))) b (omega (arith, ending_long))

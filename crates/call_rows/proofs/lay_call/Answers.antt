@@ -1,16 +1,20 @@
 use mathlib.Core.Path.{refl}
 use borrow.Author.Rules.{rules}
 use Rattle.thread_rows.specs.WrittenRows.Laws.{slots_none}
-use Rattle.call_rows.specs.CalledRow.Laws.{calls_more, calls_laid, kept_none, kept_more, kept_all}
+use native.Mathlib.Omega.{arith}
+use Rattle.call_rows.specs.CalledRow.Laws.{last_le, calls_more, calls_laid, kept_none, kept_more, kept_all}
 use Rattle.call_rows.proofs.lay_call.Goals as goal
 
 pub loop-k-init : goal.loop-k-init
 loop-k-init c = (search rules, search slots_none, search kept_none)
 
+pub bounds-slots-k : goal.bounds-slots-k
+bounds-slots-k c = omega (arith, last_le c.args.p c.args.n)
+
 pub loop-k-preserved : goal.loop-k-preserved
 loop-k-preserved c = (
   search rules,
-  calls_more _ _ _ _ _ _ c.loop-k.slots _ _ c.last_slot-last.result c.call_slot-v.result c.put_cell.ensures (search) (search) (search rules) (search),
+  search calls_more fits 5000,
   kept_more _ _ _ _ _ _ _ c.call_slot-v.result _ c.loop-k.kept c.slot_keeps-kept.result refl (search) c.slot_keeps-kept.ensures c.call_slot-v.ensures,
 )
 

@@ -3,12 +3,11 @@ use Prim.Native.Nat.{◌≤◌}
 use mathlib.Core.Path.{◌≡◌}
 use Rattle.numbers.specs.Laid.{laid}
 use Rattle.numbers.specs.Search.{every}
-use Rattle.table.specs.Table.{table_of}
 use Rattle.state.specs.State.{state_of, thread, row_slots}
 use Rattle.call_rows.specs.CalledRow.{call_by, kept_by}
 use Rattle.call_rows.proofs.lay_call.Given as goal
 
 abbrev pub invariant-loop-k : goal.invariant-loop-k
 invariant-loop-k l =
-    (l.k ≤ l.last) × (l.slots ≡ laid (call_by (table_of l.table) l.row l.from l.p l.n (thread (state_of l.state) l.t)) l.k row_slots)
-    × (l.kept ≡ every (kept_by (table_of l.table) l.row l.from l.p l.n (thread (state_of l.state) l.t)) l.k)
+    (l.k ≤ l.last) × (l.slots ≡ laid (call_by l.table l.row l.from l.p l.n (thread (state_of l.state) l.t)) l.k row_slots)
+    × (l.kept ≡ every (kept_by l.table l.row l.from l.p l.n (thread (state_of l.state) l.t)) l.k)

@@ -4,8 +4,8 @@ use Rattle.turns.specs.Keeping.Laws.{at_port}
 use borrow.Author.Rules.{rules}
 use Rattle.calls.proofs.take.Goals as goal
 
-pub returns-then-cell_of-p : goal.returns-then-cell_of-p
-returns-then-cell_of-p c = search take_refused
+pub returns-then-cell-p : goal.returns-then-cell-p
+returns-then-cell-p c = search take_refused
 
 pub make_met-requires-clause-u_lt_max_threads : goal.make_met-requires-clause-u_lt_max_threads
 make_met-requires-clause-u_lt_max_threads c = search partner_below
@@ -13,9 +13,9 @@ make_met-requires-clause-u_lt_max_threads c = search partner_below
 pub make_met-requires-clause-at_port : goal.make_met-requires-clause-at_port
 make_met-requires-clause-at_port c = search at_port
 
-pub returns-in-Nobody : goal.returns-in-Nobody
-returns-in-Nobody c = search take_nobody
+pub returns-in-None : goal.returns-in-None
+returns-in-None c = search take_nobody
 
-pub returns-in-At : goal.returns-in-At
-returns-in-At c =
-    take_met _ _ _ c.cell_of.result c.cell_of.ensures.value (search rules) c.find_at_port.result _ _ _ (search) _ c.make_met.ensures c.value_by-v.ensures c.find_at_port.ensures
+pub returns-in-Some : goal.returns-in-Some
+returns-in-Some c =
+    take_met _ _ _ c.cell.result c.cell.ensures.value (search rules) c.find_at_port.result _ _ _ (search) _ c.make_met.ensures c.value_by-v.ensures c.find_at_port.ensures

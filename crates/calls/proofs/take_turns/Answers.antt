@@ -14,8 +14,8 @@ returns-then-next-ge-THREADS c = record { is_course = search course_nobody; one_
 pub turn_of-round-requires-clause-ready : goal.turn_of-round-requires-clause-ready
 turn_of-round-requires-clause-ready c = search (c.loop-i.invariant.3, rules)
 
-pub returns-in-Stopped : goal.returns-in-Stopped
-returns-in-Stopped c = record { is_course = search course_stopped; one_made = search stopped_last; counted = search }
+pub returns-in-Break : goal.returns-in-Break
+returns-in-Break c = record { is_course = search course_stopped; one_made = search stopped_last; counted = search }
 
 pub loop-i-preserved : goal.loop-i-preserved
 loop-i-preserved c = (search rules, search, search, search next_is_ready, search course_goes_on, search followed_more)

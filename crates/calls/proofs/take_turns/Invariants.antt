@@ -14,6 +14,6 @@ use Rattle.calls.proofs.take_turns.Given as goal
 
 abbrev pub invariant-loop-i : goal.invariant-loop-i
 invariant-loop-i l =
-    (l.i ≤ l.n) × Running (table_of l.table) l.index (state_of l.state) × UsedBelow (state_of l.state) l.top × (l.next < 64 → is_ready (thread (state_of l.state) l.next) ≡ true)
-    × (course_by (table_of l.table) l.n (state_of l.initial.state) l.t ≡ after l.i (course_by (table_of l.table) (l.n - l.i) (settled (table_of l.table) (state_of l.state)) l.next))
-    × Followed (table_of l.table) (state_of l.initial.state) l.t l.i (state_of l.state) l.next l.last
+    (l.i ≤ l.n) × Running l.table (state_of l.state) × UsedBelow (state_of l.state) l.top × (l.next < 64 → is_ready (thread (state_of l.state) l.next) ≡ true)
+    × (course_by l.table l.n (state_of l.initial.state) l.t ≡ after l.i (course_by l.table (l.n - l.i) (settled l.table (state_of l.state)) l.next))
+    × Followed l.table (state_of l.initial.state) l.t l.i (state_of l.state) l.next l.last

@@ -10,5 +10,5 @@ use Rattle.collector.proofs.take_unmarked.Given as goal
 
 abbrev pub invariant-loop-t : goal.invariant-loop-t
 invariant-loop-t l =
-    (l.t ≤ max_threads) × (state_of l.state ≡ collected_to (table_of l.table) (state_of l.initial.state) l.t) × (l.count ≡ taken_to (table_of l.table) (state_of l.initial.state) l.t)
-    × (settled (table_of l.table) (state_of l.state) ≡ state_of l.state)
+    (l.t ≤ max_threads) × (state_of l.state ≡ collected_to l.table (state_of l.initial.state) l.t) × (l.count ≡ taken_to l.table (state_of l.initial.state) l.t)
+    × (settled l.table (state_of l.state) ≡ state_of l.state)

@@ -1,7 +1,7 @@
 -- What the exported functions ensure, brought to the claim's calls and to the words of the buffers. Assumes nothing.
 use Prim.Native.Nat.{ℕ, zero, suc, ◌+◌, ◌-◌, ◌*◌, ◌/◌, ◌<◌, ◌≤◌, ◌%◌}
 use native.Mathlib.Omega.{arith}
-use Rattle.std.specs.Prelude.{◌≡◌, cond, List, [], ◌∷◌, ltb, get_or, set, take, drop, ℤ, pos}
+use Rattle.std.specs.Prelude.{◌≡◌, List, [], ◌∷◌, ltb, min, get_or, set, take, drop, ℤ, pos}
 use Rattle.std.proofs.Math.Path.{refl, sym, ap}
 use Rattle.std.proofs.Common.{◌∙◌, drop_of_length-le, take_all, Fits, SFits, to_z, of_z}
 use Rattle.std.proofs.Math.ListN.{length, length-drop}
@@ -179,38 +179,38 @@ answer_put a b b₁ b₂ b₃ b₄ b₅ i e₁ e₂ e₃ e₄ e₅ f₁ f₂ f�
 
 -- ---- a part of the lists
 
--- l: how many bytes there are; at: where the part begins; end: where it ends
-module _ (lists : List ℕ) (from n at end : ℕ) (e : at ≡ cond (ltb from (length lists)) from (length lists)) where
-  begins_low : at ≤ from
-  begins_low = case_b (ltb from (length lists)) (λ y. rw (e, y) (omega arith)) (λ y. rw (e, y) (omega (arith, ltb-false from (length lists) y)))
-
+-- at: where the part begins; end: where it ends
+module _ (lists : List ℕ) (from n at end : ℕ) (e : at ≡ min (length lists) from) where
   pub end_fits : Fits w32 from → Fits w32 n → Fits w64 (at + n)
-  end_fits f g = record { fits = omega (arith, begins_low, f.fits, g.fits) }
+  end_fits f g = record { fits = omega (arith, f.fits, g.fits) }
 
   pub begins_inside : at ≤ length lists
-  begins_inside = case_b (ltb from (length lists)) (λ y. rw (e, y) (omega (arith, ltb-true from (length lists) y))) (λ y. rw (e, y) (omega arith))
+  begins_inside = omega arith
 
-  module _ (f : end ≡ cond (ltb (at + n) (length lists)) (at + n) (length lists)) where
+  module _ (f : end ≡ min (length lists) (at + n)) where
     pub ends_inside : end ≤ length lists
-    ends_inside = case_b (ltb (at + n) (length lists)) (λ y. rw (f, y) (omega (arith, ltb-true (at + n) (length lists) y))) (λ y. rw (f, y) (omega arith))
+    ends_inside = omega arith
 
     pub ends_behind : at ≤ end
-    ends_behind = case_b (ltb (at + n) (length lists)) (λ y. rw (f, y) (omega arith)) (λ y. rw (f, y) begins_inside)
+    ends_behind = omega arith
 
     -- the bytes from there to there
     begun : drop at lists ≡ drop from lists
     begun = case_b (ltb from (length lists))
-        (λ y. rw (e, y))
-        (λ y. rw (e, y) (drop_of_length-le lists {i = length lists} (omega arith) ∙ sym (drop_of_length-le lists {i = from} (ltb-false from (length lists) y))))
+        (λ y. let q : at ≡ from = omega (arith, ltb-true from (length lists) y) in rw q)
+        (λ y. let l = ltb-false from (length lists) y in
+        drop_of_length-le lists {i = at} (omega arith) ∙ sym (drop_of_length-le lists {i = from} l))
 
     pub part_is : take (end - at) (drop at lists) ≡ part_of lists from n
     unfolding part_of
     part_is = case_b (ltb (at + n) (length lists))
-        (λ y. let q : at + n - at ≡ n = omega arith in rw (f, y, q) (ap (take n) begun))
+        (λ y. let l = ltb-true (at + n) (length lists) y in
+        let q : end - at ≡ n = omega arith in
+        rw q (ap (take n) begun))
         (λ y. let l = ltb-false (at + n) (length lists) y in
-        let z : length (drop at lists) ≤ length lists - at = omega (arith, length-drop at lists) in
+        let z : length (drop at lists) ≤ end - at = omega (arith, length-drop at lists) in
         let w : length (drop at lists) ≤ n = omega (arith, length-drop at lists) in
-        rw (f, y) (take_all (length lists - at) (drop at lists) z ∙ sym (take_all n (drop at lists) w) ∙ ap (take n) begun))
+        take_all (end - at) (drop at lists) z ∙ sym (take_all n (drop at lists) w) ∙ ap (take n) begun)
 
 -- ---- the call of record i, by the six words that were read
 module _ (lists ws : List ℕ) (i code a v seat from n : ℕ) (e₁ : code ≡ get_or ws (i * 6) 0) (e₂ : a ≡ get_or ws (i * 6 + 1) 0) (e₃ : v ≡ get_or ws (i * 6 + 2) 0)

@@ -1,24 +1,28 @@
+use Rattle.std.proofs.lemmas.Result.{err_from_is_err_and}
+use Rattle.rules.specs.Calls.{take_on, take_call}
 use Rattle.rules.specs.Seats.{seated_take}
-use Rattle.engine.specs.Admitted.{admitted_judged, admitted_indexed, admitted_gaps, seat_grants}
-use Rattle.engine.proofs.Laws.{seated_take_refused}
+use Rattle.engine.specs.Admitted.{refused_at, written_at}
+use Rattle.engine.proofs.Laws.{call_kept, taken_refused, taken_nobody}
 use Rattle.engine.proofs.take.Goals as goal
 
-pub take_granted-requires-clause-judged : goal.take_granted-requires-clause-judged
-unfolding seated_take
-take_granted-requires-clause-judged c = search admitted_judged
+pub returns-in_err-table : goal.returns-in_err-table
+unfolding seated_take take_call
+returns-in_err-table c =
+    let p = err_from_is_err_and c.from_residual.result c.from_residual.ensures.1 in rw (p.1, p.2) (refused_at _ _ _ _ _ _ _ c.in_err-table.ensures.value)
 
-pub take_granted-requires-clause-indexed : goal.take_granted-requires-clause-indexed
-unfolding seated_take
-take_granted-requires-clause-indexed c = search admitted_indexed
+pub returns-in_err-met : goal.returns-in_err-met
+unfolding seated_take take_call
+returns-in_err-met c =
+    let p = err_from_is_err_and c.from_residual-in_err-met.result c.from_residual-in_err-met.ensures.1 in
+    rw (p.1, p.2) (call_kept _ _ _ _ _ _ _ _ c.in_ok-table.ensures.admitted c.in_ok-table.ensures.value (λ tb s. take_on tb s c.args.p) _ c.in_err-met.ensures (taken_refused _ _ _ _))
 
-pub take_granted-requires-clause-gaps_value : goal.take_granted-requires-clause-gaps_value
-unfolding seated_take
-take_granted-requires-clause-gaps_value c = search admitted_gaps
+pub returns-then-is_some : goal.returns-then-is_some
+unfolding seated_take take_call
+returns-then-is_some c =
+    written_at _ _ _ _ _ _ _ _ c.in_ok-table.ensures.admitted c.in_ok-table.ensures.value (λ tb s. take_on tb s c.args.p) _ c.in_ok-met.ensures _ c.write.ensures
 
-pub returns-in-Refused : goal.returns-in-Refused
-unfolding seated_take
-returns-in-Refused c = search seated_take_refused
-
-pub returns-in-Admitted : goal.returns-in-Admitted
-unfolding seated_take
-returns-in-Admitted c = search seat_grants
+pub returns-else-is_some : goal.returns-else-is_some
+unfolding seated_take take_call
+returns-else-is_some c =
+    call_kept _ _ _ _ _ _ _ _ c.in_ok-table.ensures.admitted c.in_ok-table.ensures.value (λ tb s. take_on tb s c.args.p) _ c.in_ok-met.ensures
+    (taken_nobody _ _ _ _ _ c.is_some.ensures c.if-is_some.false)

@@ -2,7 +2,7 @@
 use Prim.Native.Nat.{ℕ, suc, ◌+◌, ◌*◌, ◌/◌, ◌%◌, ◌≤◌, ◌<◌}
 use native.Mathlib.Omega.{arith}
 use Rattle.std.proofs.Math.Nat.{min-eq_left}
-use Rattle.std.specs.Prelude.{◌≡◌, Bool, not, ltb, eqb, get_or, set, drop}
+use Rattle.std.specs.Prelude.{◌≡◌, Bool, not, ltb, eqb, get_or, set, drop, None, Option, Some}
 use Rattle.std.proofs.Math.Path.{refl, sym}
 use Rattle.std.proofs.Common.{◌∙◌, length-take, length-drop}
 use Rattle.std.proofs.Math.Bool.{true, false}
@@ -19,8 +19,6 @@ use Rattle.numbers.specs.Laid.{laid}
 use Rattle.numbers.specs.Laid.Laws.{laid_put, get_d_laid, length_laid, get_d_unlaid}
 use Rattle.text.specs.Text.{field_of, read_number}
 use Rattle.table.specs.Table.{max_rows, row_numbers, table_numbers}
-use Rattle.text.specs.declared.Reading.{Reading}
-use Rattle.text.specs.declared.Reading.TheVariants.{Value, Wrong}
 use Rattle.file.specs.File.{line_length, is_value, value_of, line_count, not_lines, field_is_number, well_formed, malformed, number_at, row_at, file_table, number_in}
 
 module _ (file : List ℕ) (line : ℕ) where
@@ -32,18 +30,18 @@ module _ (file : List ℕ) (line : ℕ) where
       rw (d, m)
 
   -- what a field was read as
-  module _ (column : ℕ) (f : List ℕ) (q : Reading) (a : f ≡ field_of file line column) (e : q ≡ read_number f) where
-    pub field_wrong : q ≡ Wrong → column < row_numbers → false ≡ well_formed file line
+  module _ (column : ℕ) (f : List ℕ) (q : Option ℕ) (a : f ≡ field_of file line column) (e : q ≡ read_number f) where
+    pub field_wrong : q ≡ None → column < row_numbers → false ≡ well_formed file line
     unfolding well_formed field_is_number is_value
     field_wrong g h =
         let w : false ≡ field_is_number file line column = rw (← a, ← e, g) in
         rw (← every_not (field_is_number file line) column row_numbers false w refl h)
 
-    pub field_more : (v : ℕ) → q ≡ Value v → every (field_is_number file line) column ≡ true → every (field_is_number file line) (column + 1) ≡ true
+    pub field_more : (v : ℕ) → q ≡ Some v → every (field_is_number file line) column ≡ true → every (field_is_number file line) (column + 1) ≡ true
     unfolding field_is_number is_value
     field_more v g h = every_more (field_is_number file line) column true h (rw (← a, ← e, g)) refl
 
-    pub number_more : (v : ℕ) (l l' : List ℕ) → l' ≡ set l (line * row_numbers + column) v → q ≡ Value v
+    pub number_more : (v : ℕ) (l l' : List ℕ) → l' ≡ set l (line * row_numbers + column) v → q ≡ Some v
         → l ≡ laid (number_in file) (line * row_numbers + column) table_numbers
         → line < max_rows → column < row_numbers → l' ≡ laid (number_in file) (line * row_numbers + (column + 1)) table_numbers
     unfolding number_at value_of

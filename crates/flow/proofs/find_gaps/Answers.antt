@@ -9,5 +9,8 @@ loop-n-init c = search (flow_none, rules)
 pub follow_node-requires-clause-n_bound : goal.follow_node-requires-clause-n_bound
 follow_node-requires-clause-n_bound c = omega arith
 
+pub follow_node-requires-clause-n_few : goal.follow_node-requires-clause-n_few
+follow_node-requires-clause-n_few c = omega arith
+
 pub returns : goal.returns
 returns c = search flow_all

@@ -1,16 +1,9 @@
-use borrow.Author.Rules.{rules}
-use Rattle.numbers.specs.Search.Laws.{first_none, first_all}
-use Rattle.form.proofs.KindsDue.{wrong_hit, wrong_more}
+use Rattle.std.proofs.Common.{rules, refl, ◌∙◌}
+use Rattle.numbers.specs.Search.Chains.{first_find}
+use Rattle.table.specs.Table.{table_of}
+use Rattle.table.specs.Form.{kind_wrong}
 use Rattle.form.proofs.first_kind_wrong.Goals as goal
 
-pub loop-row-init : goal.loop-row-init
-loop-row-init c = (search rules, search first_none)
-
-pub returns-then-cell-kind_due : goal.returns-then-cell-kind_due
-returns-then-cell-kind_due c = search wrong_hit
-
-pub loop-row-preserved : goal.loop-row-preserved
-loop-row-preserved c = (search rules, search wrong_more)
-
 pub returns : goal.returns
-returns c = search first_all
+unfolding kind_wrong
+returns c = c.unwrap_or.ensures ∙ first_find (kind_wrong (table_of c.args.table.now)) c.args.n refl _ _ c.find.result c.find.ensures.ran (λ x b q k. search rules)

@@ -1,5 +1,7 @@
 -- The claim in C's numbers holds, of every file that C sees loaded and every buffer in which C sees it started. Assumes nothing.
-use Rattle.std.specs.Prelude.{ℕ, zero, suc, ◌≤◌, ◌<◌, ◌≡◌, Bool, true, false, ◌⊎◌, ◌↔◌, length, get_or}
+use Rattle.collector.specs.Answers.{Collected}
+use Rattle.rules.specs.Answers.{Admission, Given, Ran, Started, Taken}
+use Rattle.std.specs.Prelude.{ℕ, zero, suc, ◌≤◌, ◌<◌, ◌≡◌, Bool, true, false, ◌⊎◌, ◌↔◌, length, get_or, Err, None, Ok, Some}
 use Rattle.std.proofs.Common.{arith, ◌∙◌, to_z, ne_eqb}
 use Rattle.std.proofs.Math.Path.{refl, ap}
 use mathlib.Core.List.{List, [], ◌∷◌, map}
@@ -22,22 +24,10 @@ use Rattle.rules.specs.Calls.Laws.{start_admits, step_answered, by_refused, by_a
 use Rattle.rules.specs.Seats.{seat_admission, seated_step, seated_give, seated_take, seated_run}
 use Rattle.rules.specs.Seats.Laws.{seat_refused, seat_granted}
 use Rattle.rules.specs.declared.Right.TheVariants as Right
-use Rattle.rules.specs.declared.Admission.{Admission}
-use Rattle.rules.specs.declared.Admission.TheVariants as Admission
 use Rattle.rules.specs.declared.Refusal.{Refusal}
 use Rattle.rules.specs.declared.Refusal.TheVariants as Ground
 use Rattle.rules.specs.declared.Move.{Move}
 use Rattle.rules.specs.declared.Move.TheVariants.{Ends, Calls, Waits, Goes, Creates, Spawns, Meets, LacksThread, LacksChannel}
-use Rattle.rules.specs.declared.Started.{Started}
-use Rattle.rules.specs.declared.Started.TheVariants as Started
-use Rattle.rules.specs.declared.Stepped.{Stepped}
-use Rattle.rules.specs.declared.Stepped.TheVariants as Stepped
-use Rattle.rules.specs.declared.Given.{Given}
-use Rattle.rules.specs.declared.Given.TheVariants as Given
-use Rattle.rules.specs.declared.Taken.{Taken}
-use Rattle.rules.specs.declared.Taken.TheVariants as Taken
-use Rattle.rules.specs.declared.Ran.{Ran}
-use Rattle.rules.specs.declared.Ran.TheVariants as Ran
 use Rattle.engine.specs.Numbers.{refusal_number, partner_number}
 use Rattle.engine.specs.Numbers.Laws.{ground_range}
 use Rattle.rules_laws.specs.Reading.Laws.{waiting_used}
@@ -51,8 +41,6 @@ use Rattle.engine_laws.specs.SoundCalls.{start_done, call_made}
 use Rattle.engine_laws.specs.Lists.{Call, step, give, take, run}
 use Rattle.collector.specs.Collect.{taken, taken_count, collect_call, seated_collect}
 use Rattle.collector.specs.Collect.Laws.{count_says}
-use Rattle.collector.specs.declared.Collected.{Collected}
-use Rattle.collector.specs.declared.Collected.TheVariants as Collected
 use Rattle.interface.specs.Interface.{load_result, in_numbers, start_fields, start_numbers, start_result, step_fields, step_numbers, step_result, give_fields, give_numbers, give_result, take_fields, take_numbers, take_result, run_fields, run_numbers, run_result, collect_fields, collect_numbers, collect_result}
 use Rattle.guarantee.specs.Claim.{Any, unless_refused, met_by_give, met_by_take, in_turns, Linked}
 use Rattle.guarantee.specs.ClaimKept.{collect_done, collect_view}
@@ -114,26 +102,26 @@ step_moves tb s t n (Meets i u j) k = ap (λ (us : List ℕ). t ∷ us) (partner
 step_moves tb s t n LacksThread k = refl
 step_moves tb s t n LacksChannel k = refl
 
-step_none : (r : Refusal) (who : List ℕ) → if_done (step_numbers (Stepped.Refused r)).refusal who ≡ []
+step_none : (r : Refusal) (who : List ℕ) → if_done (step_numbers (Err r)).refusal who ≡ []
 unfolding if_done step_numbers step_fields
 step_none r who = rw (not_zero r)
 
-give_moves : (a : Given) → ((u : ℕ) → a ≡ Given.Met u → u < max_threads) → if_done (give_numbers a).refusal (named (give_numbers a).thread) ≡ met_by_give a
+give_moves : (a : Given) → ((u : ℕ) → a ≡ Ok (Some u) → u < max_threads) → if_done (give_numbers a).refusal (named (give_numbers a).thread) ≡ met_by_give a
 unfolding if_done is_zero named give_numbers give_fields met_by_give
-give_moves (Given.Met u) l = named_row u (l u refl)
-give_moves Given.Nobody l = refl
-give_moves (Given.Refused r) l = rw (not_zero r)
+give_moves (Ok (Some u)) l = named_row u (l u refl)
+give_moves (Ok None) l = refl
+give_moves (Err r) l = rw (not_zero r)
 
-take_moves : (a : Taken) → ((u v : ℕ) → a ≡ Taken.Met u v → u < max_threads) → if_done (take_numbers a).refusal (named (take_numbers a).thread) ≡ met_by_take a
+take_moves : (a : Taken) → ((u v : ℕ) → a ≡ Ok (Some (u, v)) → u < max_threads) → if_done (take_numbers a).refusal (named (take_numbers a).thread) ≡ met_by_take a
 unfolding if_done is_zero named take_numbers take_fields met_by_take
-take_moves (Taken.Met u v) l = named_row u (l u v refl)
-take_moves Taken.Nobody l = refl
-take_moves (Taken.Refused r) l = rw (not_zero r)
+take_moves (Ok (Some (u, v))) l = named_row u (l u v refl)
+take_moves (Ok None) l = refl
+take_moves (Err r) l = rw (not_zero r)
 
 run_moves : (a : Ran) (who : List ℕ) → if_done (run_numbers a).refusal who ≡ in_turns a who
 unfolding if_done is_zero run_numbers run_fields in_turns
-run_moves (Ran.Done n r) who = refl
-run_moves (Ran.Refused r) who = rw (not_zero r)
+run_moves (Ok (n, r)) who = refl
+run_moves (Err r) who = rw (not_zero r)
 
 module _ (table : List ℕ) (ok : accepted table ≡ true) where
   module _ (state : List ℕ) (b : SoundBuffer table state) where
@@ -145,16 +133,16 @@ module _ (table : List ℕ) (ok : accepted table ≡ true) where
     plain_step t =
         let s = view state in
         let tb = table_of table in
-        rw (call_made table ok Stepped.Refused state b (step_on tb s t), step_answered tb s t)
+        rw (call_made table ok Err state b (step_on tb s t), step_answered tb s t)
         (case_b (can_step s t) (λ y. rw y (step_moves tb s t _ (move tb s t) (chosen tb s t))) (λ y. rw y (step_none Ground.Thread _)))
 
     module _ (rights : List ℕ) (seat : ℕ) where
       step_so : (t : ℕ) (a : Admission) → seat_admission table state rights seat Right.StepAndRun ≡ a
           → moved table state rights seat (step t) ≡ moving_by table state rights seat (step t)
       unfolding moved moving_by step_result in_numbers seated_step unless_refused
-      step_so t (Admission.Refused r) e =
-          rw (seat_refused table state rights seat Right.StepAndRun Stepped.Refused (step_call table state t) r e) (step_none r _)
-      step_so t Admission.Admitted e = rw (seat_granted table state rights seat Right.StepAndRun Stepped.Refused (step_call table state t) e) (plain_step t)
+      step_so t (Err r) e =
+          rw (seat_refused table state rights seat Right.StepAndRun Err (step_call table state t) r e) (step_none r _)
+      step_so t (Ok tt) e = rw (seat_granted table state rights seat Right.StepAndRun Err (step_call table state t) e) (plain_step t)
 
       -- by the numbers as by the definitions
       pub moved_so : (k : Call) → moved table state rights seat k ≡ moving_by table state rights seat k
@@ -192,14 +180,14 @@ unfolding taken_count
 few_taken tb s = omega (arith, bits_few (taken tb s) max_threads)
 
 -- a collection that C sees done is one that the claim has done
-collect_zero : (a : Collected) → (collect_numbers a).refusal ≡ pos 0 → (n : ℕ) × (a ≡ Collected.Done n)
+collect_zero : (a : Collected) → (collect_numbers a).refusal ≡ pos 0 → (n : ℕ) × (a ≡ Ok n)
 unfolding collect_numbers collect_fields is_zero
-collect_zero (Collected.Done n) e = (n, refl)
-collect_zero (Collected.Refused r) e = contra (ap is_zero e) (not_zero r)
+collect_zero (Ok n) e = (n, refl)
+collect_zero (Err r) e = contra (ap is_zero e) (not_zero r)
 
 module _ (table : List ℕ) (ok : accepted table ≡ true) (fit : (i : ℕ) → get_or table i 0 < 256) (state : List ℕ) (b : SoundBuffer table state)
     (rights : List ℕ) (seat : ℕ) (e : (collect_result table state rights seat).answer.refusal ≡ pos 0) where
-  done_so : (n : ℕ) × ((seated_collect table state rights seat).answer ≡ Collected.Done n)
+  done_so : (n : ℕ) × ((seated_collect table state rights seat).answer ≡ Ok n)
   unfolding collect_result in_numbers
   done_so = collect_zero (seated_collect table state rights seat).answer e
 
@@ -223,10 +211,10 @@ linked_so table state rights seat h = h
 
 -- ---- a start that C sees done
 
-start_zero : (a : Started) → (start_numbers a).refusal ≡ pos 0 → a ≡ Started.Done
+start_zero : (a : Started) → (start_numbers a).refusal ≡ pos 0 → a ≡ Ok tt
 unfolding start_numbers start_fields is_zero
-start_zero Started.Done e = refl
-start_zero (Started.Refused r) e = contra (ap is_zero e) (not_zero r)
+start_zero (Ok tt) e = refl
+start_zero (Err r) e = contra (ap is_zero e) (not_zero r)
 
 module _ (table : List ℕ) (ok : accepted table ≡ true) (state : List ℕ) where
   -- a start with an accepted table is done exactly if its buffer has the state's length
@@ -234,7 +222,7 @@ module _ (table : List ℕ) (ok : accepted table ≡ true) (state : List ℕ) wh
   unfolding start_result in_numbers start_call start_numbers start_fields
   started_iff = (
     λ e. let f = start_zero (start_call table state).answer e in
-        (start_admits table state ((by_answer Started.Refused state (start_on (table_of table)) (start_admission table state) Started.Done (λ r g h. clash cc)).0 f).0).1,
+        (start_admits table state ((by_answer Err state (start_on (table_of table)) (start_admission table state) (Ok tt) (λ r g h. clash cc)).0 f).0).1,
     λ l. rw (start_done table ok state l),
   )
 
@@ -252,8 +240,8 @@ module _ (table : List ℕ) (ok : accepted table ≡ true) (fit : (i : ℕ) → 
   answers_by : (rights : List ℕ) (seat : ℕ) (a : Collected) → (seated_collect table (reached_at table state ks) rights seat).answer ≡ a
       → ((collect_numbers a).refusal ≡ pos 0) ⊎ (((collect_numbers a).refusal ≡ pos 8) ⊎ (((collect_numbers a).refusal ≡ pos 18) ⊎ ((collect_numbers a).refusal ≡ pos 19)))
   unfolding collect_numbers collect_fields refusal_number
-  answers_by rights seat (Collected.Done n) e = inl refl
-  answers_by rights seat (Collected.Refused r) e =
+  answers_by rights seat (Ok n) e = inl refl
+  answers_by rights seat (Err r) e =
       inr (⊎_elim (λ q. inl (rw q)) (λ o. ⊎_elim (λ q. inr (inl (rw q))) (λ q. inr (inr (rw q))) o) (collection_refused table ok fit state long ks rights seat r e))
 
   pub collection_answers : (rights : List ℕ) (seat : ℕ)
@@ -295,7 +283,7 @@ module _ (table state : List ℕ) (wrong : ¬ RightLengths table state) where
   pub wrong_start : ((start_result table state).answer.refusal ≡ pos 8) × ((start_result table state).state ≡ state)
   unfolding start_result in_numbers start_numbers start_fields start_call refusal_number
   wrong_start =
-      let e = by_refused Started.Refused state (start_on (table_of table)) (start_admission table state) Ground.Length ((start_length_iff table state).1 wrong) in
+      let e = by_refused Err state (start_on (table_of table)) (start_admission table state) Ground.Length ((start_length_iff table state).1 wrong) in
       (rw e, rw e)
 
   pub wrong_call : (k : AtSeat Any) → (refusal table state k ≡ pos 8) × (left table state k ≡ state)

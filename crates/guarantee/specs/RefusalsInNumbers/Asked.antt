@@ -1,6 +1,8 @@
 -- What is asked of every call at a seat, by the tests of the definitions, and what follows for the number that C sees: for grounds 8, 9, 18, 19 and 10, for those of
 -- the call's own, and for 0. `Proof.antt` has it call by call. Of tables, states and lists of rights in buffers of bytes, of any length. Assumes nothing.
-use Rattle.std.specs.Prelude.{ℕ, ◌≡◌, true, List, [], ◌∷◌, ◌⊎◌, ◌≢◌, ◌↔◌, ℤ, pos, negsuc}
+use Rattle.collector.specs.Answers.{Collected}
+use Rattle.rules.specs.Answers.{Admission, Given, Ran, Stepped, Taken}
+use Rattle.std.specs.Prelude.{ℕ, ◌≡◌, true, List, [], ◌∷◌, ◌⊎◌, ◌≢◌, ◌↔◌, ℤ, pos, negsuc, Err, None, Ok, Some}
 use Rattle.std.proofs.Math.Path.{refl}
 use Rattle.std.proofs.Common.{sym, ap, ◌∙◌}
 use Rattle.std.proofs.Math.Bool.{false}
@@ -8,7 +10,6 @@ use Rattle.std.proofs.Math.Logic.{inl, inr, ⊎_elim}
 use Rattle.numbers.specs.Search.Laws.{contra}
 use Rattle.numbers.specs.Tests.{clash}
 use Rattle.text.specs.Text.Characters.{Characters}
-use Rattle.state.specs.State.{thread}
 use Rattle.rules.specs.Calls.{Outcome, outcome, admission}
 use Rattle.rules.specs.Seats.{seat_admission, at_seat, seated_step, seated_give, seated_take, seated_run}
 use Rattle.rules.specs.Seats.Laws.{seat_refused, seat_granted}
@@ -16,16 +17,6 @@ use Rattle.rules.proofs.Seats.Entitled.{has_right_iff}
 use Rattle.rules.specs.declared.Right.{Right}
 use Rattle.rules.specs.declared.Refusal.{Refusal}
 use Rattle.rules.specs.declared.Refusal.TheVariants as Ground
-use Rattle.rules.specs.declared.Admission.{Admission}
-use Rattle.rules.specs.declared.Admission.TheVariants as Admission
-use Rattle.rules.specs.declared.Stepped.{Stepped}
-use Rattle.rules.specs.declared.Stepped.TheVariants as Stepped
-use Rattle.rules.specs.declared.Given.{Given}
-use Rattle.rules.specs.declared.Given.TheVariants as Given
-use Rattle.rules.specs.declared.Taken.{Taken}
-use Rattle.rules.specs.declared.Taken.TheVariants as Taken
-use Rattle.rules.specs.declared.Ran.{Ran}
-use Rattle.rules.specs.declared.Ran.TheVariants as Ran
 use Rattle.rules_laws.specs.Frames.{elem, elem_later}
 use Rattle.engine.specs.Numbers.{refusal_number}
 use Rattle.engine_laws.specs.Entry.{Admitted, at_entry, length_iff, table_iff, state_iff, admitted_iff, refused_entry}
@@ -33,8 +24,6 @@ use Rattle.engine_laws.specs.Seats.{at_seat_entry, seat_length_iff, seat_table_i
 use Rattle.engine_laws.specs.Refusals.{step_entry_iff, give_entry_iff, take_entry_iff, run_refused_iff, step_refused_keeps, give_refused_keeps, take_refused_keeps, run_refused_keeps}
 use Rattle.engine_laws.specs.Lists.{step, give, take, run, RefusedWith, after}
 use Rattle.collector.specs.Collect.{seated_collect}
-use Rattle.collector.specs.declared.Collected.{Collected}
-use Rattle.collector.specs.declared.Collected.TheVariants as Collected
 use Rattle.collector_laws.specs.CollectionRefusals.{collect_refused_iff, collect_refused_keeps}
 use Rattle.interface.specs.Interface.{in_numbers, step_fields, step_numbers, step_result, give_fields, give_numbers, give_result, take_fields, take_numbers, take_result, run_fields, run_numbers, run_result, collect_fields, collect_numbers, collect_result}
 use Rattle.guarantee.specs.Claim.{Any, on, collect, after_any, RefusedBy}
@@ -47,38 +36,38 @@ use Rattle.guarantee.specs.RefusalsInNumbers.{Past19, Past10, Entered}
 
 -- ---- an answer is done or a refusal
 
-step_either : (a : Stepped) → ((step_numbers a).refusal ≡ pos 0) ⊎ ((r : Refusal) × (a ≡ Stepped.Refused r))
+step_either : (a : Stepped) → ((step_numbers a).refusal ≡ pos 0) ⊎ ((r : Refusal) × (a ≡ Err r))
 unfolding step_numbers step_fields
-step_either (Stepped.Done n d) = inl refl
-step_either (Stepped.Refused r) = inr (r, refl)
+step_either (Ok (n, d)) = inl refl
+step_either (Err r) = inr (r, refl)
 
-give_either : (a : Given) → ((give_numbers a).refusal ≡ pos 0) ⊎ ((r : Refusal) × (a ≡ Given.Refused r))
+give_either : (a : Given) → ((give_numbers a).refusal ≡ pos 0) ⊎ ((r : Refusal) × (a ≡ Err r))
 unfolding give_numbers give_fields
-give_either (Given.Met u) = inl refl
-give_either Given.Nobody = inl refl
-give_either (Given.Refused r) = inr (r, refl)
+give_either (Ok (Some u)) = inl refl
+give_either (Ok None) = inl refl
+give_either (Err r) = inr (r, refl)
 
-take_either : (a : Taken) → ((take_numbers a).refusal ≡ pos 0) ⊎ ((r : Refusal) × (a ≡ Taken.Refused r))
+take_either : (a : Taken) → ((take_numbers a).refusal ≡ pos 0) ⊎ ((r : Refusal) × (a ≡ Err r))
 unfolding take_numbers take_fields
-take_either (Taken.Met u v) = inl refl
-take_either Taken.Nobody = inl refl
-take_either (Taken.Refused r) = inr (r, refl)
+take_either (Ok (Some (u, v))) = inl refl
+take_either (Ok None) = inl refl
+take_either (Err r) = inr (r, refl)
 
-run_either : (a : Ran) → ((run_numbers a).refusal ≡ pos 0) ⊎ ((r : Refusal) × (a ≡ Ran.Refused r))
+run_either : (a : Ran) → ((run_numbers a).refusal ≡ pos 0) ⊎ ((r : Refusal) × (a ≡ Err r))
 unfolding run_numbers run_fields
-run_either (Ran.Done n x) = inl refl
-run_either (Ran.Refused r) = inr (r, refl)
+run_either (Ok (n, x)) = inl refl
+run_either (Err r) = inr (r, refl)
 
-collect_either : (a : Collected) → ((collect_numbers a).refusal ≡ pos 0) ⊎ ((r : Refusal) × (a ≡ Collected.Refused r))
+collect_either : (a : Collected) → ((collect_numbers a).refusal ≡ pos 0) ⊎ ((r : Refusal) × (a ≡ Err r))
 unfolding collect_numbers collect_fields
-collect_either (Collected.Done n) = inl refl
-collect_either (Collected.Refused r) = inr (r, refl)
+collect_either (Ok n) = inl refl
+collect_either (Err r) = inr (r, refl)
 
 -- ---- a call without seats
 
 module _ (table state : List ℕ) where
   -- it is refused on ground 8, 9 or 10 exactly when the buffers are
-  entry_by : (k : Any) (r : Refusal) → at_entry r ≡ true → RefusedBy table state k r ↔ (admission table state ≡ Admission.Refused r)
+  entry_by : (k : Any) (r : Refusal) → at_entry r ≡ true → RefusedBy table state k r ↔ (admission table state ≡ Err r)
   unfolding RefusedBy RefusedWith
   entry_by (on (step t)) r y = step_entry_iff table state t r y
   entry_by (on (give p v h)) r y = give_entry_iff table state p v r y
@@ -97,8 +86,8 @@ module _ (table state : List ℕ) where
 
   -- where no ground refuses it, its buffers are admitted
   pub admitted_by : (k : Any) → ((r : Refusal) → ¬ RefusedBy table state k r) → (a : Admission) → admission table state ≡ a → Admitted table state
-  admitted_by k none (Admission.Refused r) e = absurd (none r ((entry_by k r (refused_entry table state r e)).1 e))
-  admitted_by k none Admission.Admitted e = e
+  admitted_by k none (Err r) e = absurd (none r ((entry_by k r (refused_entry table state r e)).1 e))
+  admitted_by k none (Ok tt) e = e
 
 -- ---- the number that C sees, by the seat and by the call without seats
 
@@ -121,18 +110,18 @@ module _ (table state rights : List ℕ) (seat : ℕ) (k : Any) where
   refusal = refusal_by table state rights seat k
 
   abbrev Passed : Type 0
-  Passed = (told ≡ Admission.Admitted) × Admitted table state
+  Passed = (told ≡ Ok tt) × Admitted table state
 
   -- on a ground of the seat, where the call without seats is not refused so
-  by_seat_lem : (r : Refusal) → (told ≡ Admission.Admitted → ¬ RefusedBy table state k r)
-      → (refusal ≡ pos (refusal_number r)) ↔ (told ≡ Admission.Refused r)
+  by_seat_lem : (r : Refusal) → (told ≡ Ok tt → ¬ RefusedBy table state k r)
+      → (refusal ≡ pos (refusal_number r)) ↔ (told ≡ Err r)
   by_seat_lem r never = (
     λ e. ⊎_elim (λ f. f) (λ f. absurd (never f.0 f.1)) ((refused_iff table state rights seat k r).0 (refused_by table state rights seat k r e)),
     λ e. refused_shows table state rights seat k r ((refused_iff table state rights seat k r).1 (inl e)),
   )
 
   -- on any other
-  by_call : (r : Refusal) → at_seat_entry r ≡ false → (refusal ≡ pos (refusal_number r)) ↔ ((told ≡ Admission.Admitted) × RefusedBy table state k r)
+  by_call : (r : Refusal) → at_seat_entry r ≡ false → (refusal ≡ pos (refusal_number r)) ↔ ((told ≡ Ok tt) × RefusedBy table state k r)
   by_call r own = (
     λ e. ⊎_elim (λ f. contra (seat_refused_entry table state rights seat (asked k) r f) own) (λ f. f)
         ((refused_iff table state rights seat k r).0 (refused_by table state rights seat k r e)),
@@ -140,29 +129,29 @@ module _ (table state rights : List ℕ) (seat : ℕ) (k : Any) where
   )
 
   -- a seat that may make the call has buffers of the right lengths, and an accepted table
-  not_length : told ≡ Admission.Admitted → ¬ RefusedBy table state k Ground.Length
+  not_length : told ≡ Ok tt → ¬ RefusedBy table state k Ground.Length
   unfolding at_entry refusal_number
   not_length a f =
       let (l, t, i, h) = (seat_admitted_iff table state rights seat (asked k)).0 a in
       (length_iff table state).0 ((entry_by table state k Ground.Length refl).0 f) l.0
 
-  not_table : told ≡ Admission.Admitted → ¬ RefusedBy table state k Ground.Table
+  not_table : told ≡ Ok tt → ¬ RefusedBy table state k Ground.Table
   unfolding at_entry refusal_number
   not_table a f =
       let (l, t, i, h) = (seat_admitted_iff table state rights seat (asked k)).0 a in
       contra t ((table_iff table state).0 ((entry_by table state k Ground.Table refl).0 f)).1
 
   -- 0 exactly when the seat may make the call, and it is refused on no ground
-  done_by : (a : Admission) → told ≡ a → refusal ≡ pos 0 → (told ≡ Admission.Admitted) × ((r : Refusal) → ¬ RefusedBy table state k r)
-  done_by (Admission.Refused r) e z =
+  done_by : (a : Admission) → told ≡ a → refusal ≡ pos 0 → (told ≡ Ok tt) × ((r : Refusal) → ¬ RefusedBy table state k r)
+  done_by (Err r) e z =
       absurd (not_zero r (sym z ∙ refused_shows table state rights seat k r ((refused_iff table state rights seat k r).1 (inl e))))
-  done_by Admission.Admitted e z =
+  done_by (Ok tt) e z =
       (e, λ r f. not_zero r (sym z ∙ refused_shows table state rights seat k r ((refused_iff table state rights seat k r).1 (inr (e, f)))))
 
-  none_refused : told ≡ Admission.Admitted → ((r : Refusal) → ¬ RefusedBy table state k r) → (r : Refusal) → ¬ RefusedAt table state rights seat k r
+  none_refused : told ≡ Ok tt → ((r : Refusal) → ¬ RefusedBy table state k r) → (r : Refusal) → ¬ RefusedAt table state rights seat k r
   none_refused a none r f = ⊎_elim (λ e. clash cc) (λ e. none r e.1) ((refused_iff table state rights seat k r).0 f)
 
-  zero_iff : (refusal ≡ pos 0) ↔ ((told ≡ Admission.Admitted) × ((r : Refusal) → ¬ RefusedBy table state k r))
+  zero_iff : (refusal ≡ pos 0) ↔ ((told ≡ Ok tt) × ((r : Refusal) → ¬ RefusedBy table state k r))
   zero_iff = (
     done_by told refl,
     λ (a, none). ⊎_elim (λ z. z) (λ (r, f). absurd (none_refused a none r f)) (either table state rights seat k),
@@ -184,7 +173,7 @@ module _ (table state rights : List ℕ) (seat : ℕ) (fit : Characters table) (
   abbrev told_right : Admission
   told_right = seat_admission table state rights seat right
 
-  past_nineteen : Past19 table state rights seat right ↔ (told_right ≡ Admission.Admitted)
+  past_nineteen : Past19 table state rights seat right ↔ (told_right ≡ Ok tt)
   past_nineteen =
       let a = seat_admitted_iff table state rights seat right in
       let o = in_order_iff rights few in
@@ -194,7 +183,7 @@ module _ (table state rights : List ℕ) (seat : ℕ) (fit : Characters table) (
         λ e. let (l, t, i, h) = a.0 e in (((l, loads.0 t), o.0 i), r.0 h),
       )
 
-  past_ten : Past10 table state rights seat right ↔ ((told_right ≡ Admission.Admitted) × Admitted table state)
+  past_ten : Past10 table state rights seat right ↔ ((told_right ≡ Ok tt) × Admitted table state)
   past_ten =
       let p = past_nineteen in
       let a = admitted_iff table state in (
@@ -306,7 +295,7 @@ module _ (table state rights : List ℕ) (seat : ℕ) (fit : Characters table) (
       )
 
   -- a run and a collection have no ground but those of the admission
-  pub none_own : ((r : Refusal) → RefusedBy table state k r → admission table state ≡ Admission.Refused r) → (refusal_by table state rights seat k ≡ pos 0) ↔ past
+  pub none_own : ((r : Refusal) → RefusedBy table state k r → admission table state ≡ Err r) → (refusal_by table state rights seat k ≡ pos 0) ↔ past
   none_own w =
       let z = zero_iff table state rights seat k in (
         λ e. let (a, n) = z.0 e in passed.1 (a, admitted_by table state k n (admission table state) refl),
@@ -324,7 +313,7 @@ module _ (table state rights : List ℕ) (seat : ℕ) (fit : Characters table) (
       (λ (r, f). (refusal_number r, refused_shows table state rights seat k r f, elem_later (refusal_number r) 0 ns (w r f))) (either table state rights seat k)
 
   -- a run and a collection have no ground of their own
-  pub entry_only : ((q : Refusal) → RefusedBy table state k q → admission table state ≡ Admission.Refused q)
+  pub entry_only : ((q : Refusal) → RefusedBy table state k q → admission table state ≡ Err q)
       → (n : ℕ) × (refusal_by table state rights seat k ≡ pos n) × (elem n (0 ∷ 8 ∷ 9 ∷ 18 ∷ 19 ∷ 10 ∷ []) ≡ true)
   unfolding at_seat_entry at_entry refusal_number
   entry_only w = one_of (8 ∷ 9 ∷ 18 ∷ 19 ∷ 10 ∷ []) (λ r f.
@@ -354,11 +343,11 @@ module _ (table state rights : List ℕ) (seat : ℕ) (fit : Characters table) (
 
   -- where C sees nobody, the seat may make the call, and the call without seats meets nobody
   nobody_so : (a : Admission) → seat_admission table state rights seat right ≡ a → thread made.answer ≡ negsuc 0
-      → (seat_admission table state rights seat right ≡ Admission.Admitted) × (call.answer ≡ nobody)
-  nobody_so (Admission.Refused r) e f =
+      → (seat_admission table state rights seat right ≡ Ok tt) × (call.answer ≡ nobody)
+  nobody_so (Err r) e f =
       let q = ap (λ (o : Outcome A). thread o.answer) (seat_refused table state rights seat right refused call r e) in
       let z : pos 0 ≡ negsuc 0 = sym (zero r) ∙ sym q ∙ f in clash cc
-  nobody_so Admission.Admitted e f =
+  nobody_so (Ok tt) e f =
       (e, only (sym (ap (λ (o : Outcome A). thread o.answer) (seat_granted table state rights seat right refused call e)) ∙ f))
 
   pub nobody_iff : thread nobody ≡ negsuc 0 → {P Q : Type 0} → ((call.answer ≡ nobody) ↔ (Admitted table state × P × Q))

@@ -1,6 +1,7 @@
 -- That each refusal which C sees is due, and each that is due is seen: `RefusalsInNumbers.antt` of every table, state and list of rights in buffers of bytes, of any
 -- length, and of all numbers; call by call, from `Asked.antt`. Assumes nothing.
-use Rattle.std.specs.Prelude.{ℕ, ◌<◌, ◌≤◌, ◌≡◌, true, false, List, [], ◌∷◌, ◌⊎◌, ◌≢◌, ◌↔◌, ltb, ℤ}
+use Rattle.rules.specs.Answers.{Admission, Given, Started, Taken}
+use Rattle.std.specs.Prelude.{ℕ, ◌<◌, ◌≤◌, ◌≡◌, true, false, List, [], ◌∷◌, ◌⊎◌, ◌≢◌, ◌↔◌, ltb, ℤ, Err, None, Ok, Some}
 use Rattle.std.proofs.Common.{arith, ◌∙◌, inl, inr, SFits, to_z}
 use Rattle.std.proofs.Math.Path.{refl, sym, ap}
 use Rattle.std.proofs.Math.Logic.{⊎_elim}
@@ -13,27 +14,14 @@ use Rattle.numbers.specs.Tests.{and_left, and_right, clash}
 use Rattle.text.specs.Text.Characters.{Characters}
 use Rattle.table.specs.Table.{table_of, ports}
 use Rattle.loader.specs.Load.{accepted}
-use Rattle.state.specs.State.{max_threads, view, thread}
+use Rattle.state.specs.State.{max_threads, view}
 use Rattle.rules.specs.Calls.{lengths_right, admission, start_admission, can_step, start_call, bench, give_on, give_call, take_on, take_call}
 use Rattle.rules.specs.Calls.Laws.{call_answer}
 use Rattle.rules.specs.Seats.{seated_step, seated_give, seated_take, seated_run}
 use Rattle.rules.specs.declared.Direction.TheVariants.{Out, In}
 use Rattle.rules.specs.declared.Right.{Right}
-use Rattle.rules.specs.declared.Right.TheVariants as Right
 use Rattle.rules.specs.declared.Refusal.{Refusal}
 use Rattle.rules.specs.declared.Refusal.TheVariants as Ground
-use Rattle.rules.specs.declared.Admission.{Admission}
-use Rattle.rules.specs.declared.Admission.TheVariants as Admission
-use Rattle.rules.specs.declared.Started.{Started}
-use Rattle.rules.specs.declared.Started.TheVariants as Started
-use Rattle.rules.specs.declared.Stepped.{Stepped}
-use Rattle.rules.specs.declared.Stepped.TheVariants as Stepped
-use Rattle.rules.specs.declared.Given.{Given}
-use Rattle.rules.specs.declared.Given.TheVariants as Given
-use Rattle.rules.specs.declared.Taken.{Taken}
-use Rattle.rules.specs.declared.Taken.TheVariants as Taken
-use Rattle.rules.specs.declared.Ran.{Ran}
-use Rattle.rules.specs.declared.Ran.TheVariants as Ran
 use Rattle.rules_laws.specs.Chosen.{partner_answers}
 use Rattle.rules_laws.specs.Frames.{elem}
 use Rattle.engine.specs.Numbers.{refusal_number}
@@ -43,8 +31,6 @@ use Rattle.engine_laws.specs.Refusals.{step_entry_iff, give_entry_iff, take_entr
 use Rattle.engine_laws.specs.Bench.{NobodyOffers, give_met, take_met}
 use Rattle.engine_laws.specs.Lists.{step, give, take, run, RefusedWith}
 use Rattle.collector.specs.Collect.{seated_collect}
-use Rattle.collector.specs.declared.Collected.{Collected}
-use Rattle.collector.specs.declared.Collected.TheVariants as Collected
 use Rattle.collector_laws.specs.CollectionRefusals.{collect_refused_iff}
 use Rattle.interface.specs.Interface.{result, in_numbers, start_fields, start_numbers, start_result, step_fields, step_numbers, step_result, give_fields, give_numbers, give_result, take_fields, take_numbers, take_result, run_fields, run_numbers, run_result, collect_fields, collect_numbers, collect_result}
 use Rattle.guarantee.specs.Claim.{on, collect, RefusedBy}
@@ -58,30 +44,30 @@ use Rattle.guarantee.specs.RefusalsInNumbers.Asked.{admitted_by, refused_so, ent
 
 -- ---- start
 
-start_either : (a : Started) → ((start_numbers a).refusal ≡ pos 0) ⊎ ((r : Refusal) × (a ≡ Started.Refused r))
+start_either : (a : Started) → ((start_numbers a).refusal ≡ pos 0) ⊎ ((r : Refusal) × (a ≡ Err r))
 unfolding start_numbers start_fields
-start_either Started.Done = inl refl
-start_either (Started.Refused r) = inr (r, refl)
+start_either (Ok tt) = inl refl
+start_either (Err r) = inr (r, refl)
 
 module _ (table state : List ℕ) (fit : Characters table) where
   abbrev answer : Started
   answer = (start_call table state).answer
 
-  start_by : (r : Refusal) → ((start_numbers answer).refusal ≡ pos (refusal_number r)) ↔ (start_admission table state ≡ Admission.Refused r)
+  start_by : (r : Refusal) → ((start_numbers answer).refusal ≡ pos (refusal_number r)) ↔ (start_admission table state ≡ Err r)
   unfolding start_numbers start_fields
   start_by r =
       let w = start_refused_iff table state r in
       (λ e. w.0 (start_number r answer e), λ e. rw (w.1 e) (ground_signed r))
 
-  start_zero : ((start_numbers answer).refusal ≡ pos 0) ↔ (start_admission table state ≡ Admission.Admitted)
+  start_zero : ((start_numbers answer).refusal ≡ pos 0) ↔ (start_admission table state ≡ Ok tt)
   start_zero = (
     λ e. zero_by (start_admission table state) refl e,
     λ a. ⊎_elim (λ z. z) (λ (r, f). let q = (start_refused_iff table state r).0 f in clash cc) (start_either answer),
   )
     where
-      zero_by : (a : Admission) → start_admission table state ≡ a → (start_numbers answer).refusal ≡ pos 0 → start_admission table state ≡ Admission.Admitted
-      zero_by (Admission.Refused r) e z = absurd (not_zero r (sym z ∙ (start_by r).1 e))
-      zero_by Admission.Admitted e z = e
+      zero_by : (a : Admission) → start_admission table state ≡ a → (start_numbers answer).refusal ≡ pos 0 → start_admission table state ≡ Ok tt
+      zero_by (Err r) e z = absurd (not_zero r (sym z ∙ (start_by r).1 e))
+      zero_by (Ok tt) e z = e
 
   -- one of three numbers
   start_only : (n : ℕ) × ((start_numbers answer).refusal ≡ pos n) × (elem n (0 ∷ 8 ∷ 9 ∷ []) ≡ true)
@@ -145,10 +131,10 @@ module _ (table state : List ℕ) (t : ℕ) where
         ),
     λ (a, (h, b, c)) r f. ⊎_elim
         (λ y. let q = (step_entry_iff table state t r y).0 f in clash cc)
-        (λ x. ⊎_elim (λ q. contra (ready_iff.1 h) ((step_thread_iff table state t).0 (f ∙ ap (λ x. Stepped.Refused x) q)).1)
+        (λ x. ⊎_elim (λ q. contra (ready_iff.1 h) ((step_thread_iff table state t).0 (f ∙ ap (λ x. Err x) q)).1)
         (λ x. ⊎_elim
-        (λ q. let (d, e, p, z) = (step_thread_row_iff table state t).0 (f ∙ ap (λ x. Stepped.Refused x) q) in b (p, z))
-        (λ q. let (d, e, p, z) = (step_channel_row_iff table state t).0 (f ∙ ap (λ x. Stepped.Refused x) q) in c (p, z)) x) x)
+        (λ q. let (d, e, p, z) = (step_thread_row_iff table state t).0 (f ∙ ap (λ x. Err x) q) in b (p, z))
+        (λ q. let (d, e, p, z) = (step_channel_row_iff table state t).0 (f ∙ ap (λ x. Err x) q) in c (p, z)) x) x)
         (step_all_grounds table state t r f),
   )
 
@@ -161,7 +147,7 @@ module _ (table state : List ℕ) (p : ℕ) where
         (a, case_b (ltb p (ports (table_of table))) (λ y. ltb-true p _ y) (λ y. absurd (n Ground.Port ((give_port_iff table state p v).1 (a, ltb-false p _ y))))),
     λ (a, l) r f. ⊎_elim
         (λ y. let q = (give_entry_iff table state p v r y).0 f in clash cc)
-        (λ q. let (d, m) = (give_port_iff table state p v).0 (f ∙ ap (λ x. Given.Refused x) q) in omega arith)
+        (λ q. let (d, m) = (give_port_iff table state p v).0 (f ∙ ap (λ x. Err x) q) in omega arith)
         (give_grounds table state p v r f),
   )
 
@@ -172,7 +158,7 @@ module _ (table state : List ℕ) (p : ℕ) where
         (a, case_b (ltb p (ports (table_of table))) (λ y. ltb-true p _ y) (λ y. absurd (n Ground.Port ((take_port_iff table state p).1 (a, ltb-false p _ y))))),
     λ (a, l) r f. ⊎_elim
         (λ y. let q = (take_entry_iff table state p r y).0 f in clash cc)
-        (λ q. let (d, m) = (take_port_iff table state p).0 (f ∙ ap (λ x. Taken.Refused x) q) in omega arith)
+        (λ q. let (d, m) = (take_port_iff table state p).0 (f ∙ ap (λ x. Err x) q) in omega arith)
         (take_grounds table state p r f),
   )
 
@@ -184,7 +170,7 @@ module _ (table state rights : List ℕ) (seat : ℕ) (fit : Characters table) (
     unfolding refusal_by RefusedAt after_by step_result in_numbers step_numbers step_fields
     step_kept n =
         let (r, f, e) = refused_so table state rights seat (on (step t)) small n in
-        rw (whole (seated_step table state rights seat t) (Stepped.Refused r) state f e)
+        rw (whole (seated_step table state rights seat t) (Err r) state f e)
 
     pub step_in_numbers : StepInNumbers table state rights seat t
     unfolding asked refusal_by RefusedBy RefusedWith refusal_number at_seat_entry
@@ -225,30 +211,30 @@ module _ (table state rights : List ℕ) (seat : ℕ) (fit : Characters table) (
       unfolding refusal_by RefusedAt after_by give_result in_numbers give_numbers give_fields
       give_kept n =
           let (r, f, e) = refused_so table state rights seat (on (give p v h)) small n in
-          rw (given_so v h, whole (seated_give table state rights seat p v) (Given.Refused r) state f e)
+          rw (given_so v h, whole (seated_give table state rights seat p v) (Err r) state f e)
 
-      give_nobody : (a : Given) → (give_call table state p v).answer ≡ a → (give_numbers a).thread ≡ negsuc 0 → (give_call table state p v).answer ≡ Given.Nobody
+      give_nobody : (a : Given) → (give_call table state p v).answer ≡ a → (give_numbers a).thread ≡ negsuc 0 → (give_call table state p v).answer ≡ Ok None
       unfolding give_numbers give_fields give_call
-      give_nobody (Given.Met u) q e =
-          let f = ((call_answer Given.Refused table state (give_on (table_of table) (view state) p v) (Given.Met u) (λ r h i. clash cc)).0 q).1 in
+      give_nobody (Ok (Some u)) q e =
+          let f = ((call_answer Err table state (give_on (table_of table) (view state) p v) (Ok (Some u)) (λ r h i. clash cc)).0 q).1 in
           let (l, j, h, i) = give_met (table_of table) (view state) p v u f in
           let low = (partner_answers (table_of table) (view state) bench In p u j h).thread_in in
           let z : pos u ≡ negsuc 0 = sym (to_z_pos w32 {n = u} (omega arith)) ∙ e in clash cc
-      give_nobody Given.Nobody q e = q
-      give_nobody (Given.Refused r) q e = clash cc
+      give_nobody (Ok None) q e = q
+      give_nobody (Err r) q e = clash cc
 
       give_nobody_numbers : ((give_result table state rights seat p (to_z w32 v)).answer.thread ≡ negsuc 0)
           ↔ (Past10 table state rights seat (Right.Give p) × (p < ports (table_of table)) × NobodyOffers (table_of table) (view state) In p)
       unfolding give_result in_numbers seated_give give_numbers give_fields
       give_nobody_numbers =
-          rw (given_so v h) (nobody_iff table state rights seat fit few (Right.Give p) Given.Refused (give_call table state p v) (λ a. (give_numbers a).thread) Given.Nobody
+          rw (given_so v h) (nobody_iff table state rights seat fit few (Right.Give p) Err (give_call table state p v) (λ a. (give_numbers a).thread) (Ok None)
           (λ r. refl) (give_nobody (give_call table state p v).answer refl) refl (give_nobody_iff table state p v))
 
       give_nobody_kept : (give_result table state rights seat p (to_z w32 v)).answer.thread ≡ negsuc 0
           → give_result table state rights seat p (to_z w32 v) ≡ result (record { refusal = pos 0; thread = negsuc 0 }) state
       unfolding give_result in_numbers seated_give give_numbers give_fields
       give_nobody_kept =
-          rw (given_so v h) (λ e. rw (nobody_whole table state rights seat fit few (Right.Give p) Given.Refused (give_call table state p v) (λ a. (give_numbers a).thread) Given.Nobody
+          rw (given_so v h) (λ e. rw (nobody_whole table state rights seat fit few (Right.Give p) Err (give_call table state p v) (λ a. (give_numbers a).thread) (Ok None)
           (λ r. refl) (give_nobody (give_call table state p v).answer refl) (give_nobody_keeps table state small p v) e))
 
       give_pattern : GiveInNumbers table state rights seat p (to_z w32 v)
@@ -276,30 +262,30 @@ module _ (table state rights : List ℕ) (seat : ℕ) (fit : Characters table) (
     unfolding refusal_by RefusedAt after_by take_result in_numbers take_numbers take_fields
     take_kept n =
         let (r, f, e) = refused_so table state rights seat (on (take p)) small n in
-        rw (whole (seated_take table state rights seat p) (Taken.Refused r) state f e)
+        rw (whole (seated_take table state rights seat p) (Err r) state f e)
 
-    take_nobody : (a : Taken) → (take_call table state p).answer ≡ a → (take_numbers a).thread ≡ negsuc 0 → (take_call table state p).answer ≡ Taken.Nobody
+    take_nobody : (a : Taken) → (take_call table state p).answer ≡ a → (take_numbers a).thread ≡ negsuc 0 → (take_call table state p).answer ≡ Ok None
     unfolding take_numbers take_fields take_call
-    take_nobody (Taken.Met u w) q e =
-        let f = ((call_answer Taken.Refused table state (take_on (table_of table) (view state) p) (Taken.Met u w) (λ r h i. clash cc)).0 q).1 in
+    take_nobody (Ok (Some (u, w))) q e =
+        let f = ((call_answer Err table state (take_on (table_of table) (view state) p) (Ok (Some (u, w))) (λ r h i. clash cc)).0 q).1 in
         let (l, j, h, i, k) = take_met (table_of table) (view state) p u w f in
         let low = (partner_answers (table_of table) (view state) bench Out p u j h).thread_in in
         let z : pos u ≡ negsuc 0 = sym (to_z_pos w32 {n = u} (omega arith)) ∙ e in clash cc
-    take_nobody Taken.Nobody q e = q
-    take_nobody (Taken.Refused r) q e = clash cc
+    take_nobody (Ok None) q e = q
+    take_nobody (Err r) q e = clash cc
 
     take_nobody_numbers : ((take_result table state rights seat p).answer.thread ≡ negsuc 0)
         ↔ (Past10 table state rights seat (Right.Take p) × (p < ports (table_of table)) × NobodyOffers (table_of table) (view state) Out p)
     unfolding take_result in_numbers seated_take take_numbers take_fields
     take_nobody_numbers =
-        nobody_iff table state rights seat fit few (Right.Take p) Taken.Refused (take_call table state p) (λ a. (take_numbers a).thread) Taken.Nobody
+        nobody_iff table state rights seat fit few (Right.Take p) Err (take_call table state p) (λ a. (take_numbers a).thread) (Ok None)
         (λ r. refl) (take_nobody (take_call table state p).answer refl) refl (take_nobody_iff table state p)
 
     take_nobody_kept : (take_result table state rights seat p).answer.thread ≡ negsuc 0
         → take_result table state rights seat p ≡ result (record { refusal = pos 0; thread = negsuc 0; number = pos 0 }) state
     unfolding take_result in_numbers seated_take take_numbers take_fields
     take_nobody_kept e =
-        rw (nobody_whole table state rights seat fit few (Right.Take p) Taken.Refused (take_call table state p) (λ a. (take_numbers a).thread) Taken.Nobody
+        rw (nobody_whole table state rights seat fit few (Right.Take p) Err (take_call table state p) (λ a. (take_numbers a).thread) (Ok None)
         (λ r. refl) (take_nobody (take_call table state p).answer refl) (take_nobody_keeps table state small p) e)
 
     pub take_in_numbers : TakeInNumbers table state rights seat p
@@ -324,13 +310,13 @@ module _ (table state rights : List ℕ) (seat : ℕ) (fit : Characters table) (
     unfolding refusal_by RefusedAt after_by run_result in_numbers run_numbers run_fields
     run_kept m =
         let (r, f, e) = refused_so table state rights seat (on (run n)) small m in
-        rw (whole (seated_run table state rights seat n) (Ran.Refused r) state f e)
+        rw (whole (seated_run table state rights seat n) (Err r) state f e)
 
     pub run_in_numbers : RunInNumbers table state rights seat n
     unfolding asked refusal_by RefusedBy RefusedWith
     run_in_numbers =
         let k = on (run n) in
-        let w : (r : Refusal) → RefusedBy table state k r → admission table state ≡ Admission.Refused r = λ r. (run_refused_iff table state n r).0 in
+        let w : (r : Refusal) → RefusedBy table state k r → admission table state ≡ Err r = λ r. (run_refused_iff table state n r).0 in
         record {
           entered = entered_by table state rights seat fit few k;
           zero = none_own table state rights seat fit few k w;
@@ -344,12 +330,12 @@ module _ (table state rights : List ℕ) (seat : ℕ) (fit : Characters table) (
   unfolding refusal_by RefusedAt after_by collect_result in_numbers collect_numbers collect_fields
   collect_kept n =
       let (r, f, e) = refused_so table state rights seat collect small n in
-      rw (whole (seated_collect table state rights seat) (Collected.Refused r) state f e)
+      rw (whole (seated_collect table state rights seat) (Err r) state f e)
 
   pub collect_in_numbers : CollectInNumbers table state rights seat
   unfolding asked refusal_by RefusedBy
   collect_in_numbers =
-      let w : (r : Refusal) → RefusedBy table state collect r → admission table state ≡ Admission.Refused r = λ r. (collect_refused_iff table state r).0 in
+      let w : (r : Refusal) → RefusedBy table state collect r → admission table state ≡ Err r = λ r. (collect_refused_iff table state r).0 in
       record {
         entered = entered_by table state rights seat fit few collect;
         zero = none_own table state rights seat fit few collect w;

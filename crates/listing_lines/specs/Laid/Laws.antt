@@ -1,8 +1,9 @@
 -- Bytes and lines that are laid into a buffer, one way out of a function after the other, and channels that are counted. Assumes nothing.
+use Rattle.rules.specs.Answers.{Stepped}
 use Prim.Native.Nat.{ℕ, zero, suc, ◌+◌, ◌*◌, ◌%◌, ◌<◌, ◌≤◌}
 use native.Mathlib.Omega.{arith}
 use Rattle.std.proofs.Common.{add-one, ◌∙◌, ap, Fits, length-append, take-suc, take_all, length-take-le}
-use Rattle.std.specs.Prelude.{◌≡◌, ◌&&◌, List, [], ◌∷◌, ◌++◌, map, length, get_or, set, take}
+use Rattle.std.specs.Prelude.{◌≡◌, ◌&&◌, List, [], ◌∷◌, ◌++◌, map, length, get_or, set, take, Err, Ok}
 use Rattle.std.proofs.Math.Path.{refl, sym}
 use Rattle.std.proofs.Math.Bool.{false, not}
 use Rattle.std.specs.Int.{w32}
@@ -24,8 +25,6 @@ use Rattle.state.specs.State.{State, max_threads, max_channels, type_in, thread,
 use Rattle.rules.specs.Moves.{is_free_channel}
 use Rattle.rules.specs.declared.Deed.{Deed}
 use Rattle.rules.specs.declared.Refusal.{Refusal}
-use Rattle.rules.specs.declared.Stepped.{Stepped}
-use Rattle.rules.specs.declared.Stepped.TheVariants.{Done, Refused}
 use Rattle.engine.specs.Numbers.{act_number, branch_number, partner_number}
 use Rattle.listing_lines.specs.Lines.{column, line, step_line, channels_in_use}
 use Rattle.listing_lines.specs.Laid.{columns_to, in_use_to, gone_line, gone_lines}
@@ -112,12 +111,12 @@ module _ (s : State) where
 -- ---- a step
 
 module _ (l : List ℕ) (at k t : ℕ) (x : Stepped) where
-  pub step_laid : (l₁ : List ℕ) (n a b p : ℕ) (d : Deed) → l₁ ≡ sets l at (line (k ∷ t ∷ n ∷ a ∷ b ∷ p ∷ [])) → a ≡ act_number d → b ≡ branch_number d → p ≡ partner_number d → x ≡ Done n d
+  pub step_laid : (l₁ : List ℕ) (n a b p : ℕ) (d : Deed) → l₁ ≡ sets l at (line (k ∷ t ∷ n ∷ a ∷ b ∷ p ∷ [])) → a ≡ act_number d → b ≡ branch_number d → p ≡ partner_number d → x ≡ Ok (n, d)
       → l₁ ≡ sets l at (step_line k t x)
   unfolding step_line
   step_laid l₁ n a b p d e f g h i = e ∙ rw (f, g, h, i)
 
-  pub step_left : (r : Refusal) → x ≡ Refused r → l ≡ sets l at (step_line k t x)
+  pub step_left : (r : Refusal) → x ≡ Err r → l ≡ sets l at (step_line k t x)
   unfolding step_line
   step_left r i = rw i
 

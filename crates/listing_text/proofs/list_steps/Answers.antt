@@ -5,14 +5,14 @@ use Rattle.listing_text.proofs.list_steps.Goals as goal
 pub loop-i-init : goal.loop-i-init
 loop-i-init c = (search rules, search rules, search rules, search come_none, search none_long, search lines_none)
 
-pub returns-in-Stopped-clause-state_after : goal.returns-in-Stopped-clause-state_after
-returns-in-Stopped-clause-state_after c = search come_stopped
+pub returns-in-Break-clause-state_after : goal.returns-in-Break-clause-state_after
+returns-in-Break-clause-state_after c = search come_stopped
 
-pub returns-in-Stopped-clause-steps_value : goal.returns-in-Stopped-clause-steps_value
-returns-in-Stopped-clause-steps_value c = search stopped_long
+pub returns-in-Break-clause-steps_value : goal.returns-in-Break-clause-steps_value
+returns-in-Break-clause-steps_value c = search stopped_long
 
-pub returns-in-Stopped-clause-out_after : goal.returns-in-Stopped-clause-out_after
-returns-in-Stopped-clause-out_after c = search stopped_laid
+pub returns-in-Break-clause-out_after : goal.returns-in-Break-clause-out_after
+returns-in-Break-clause-out_after c = search stopped_laid
 
 pub loop-i-preserved : goal.loop-i-preserved
 loop-i-preserved c = (search rules, search rules, search rules, search come_more, search more_long, search lines_more)

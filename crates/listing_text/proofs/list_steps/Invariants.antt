@@ -3,7 +3,6 @@ use Prim.Native.Nat.{◌*◌, ◌≤◌}
 use mathlib.Core.Path.{◌≡◌}
 use lib.ListN.{length}
 use lib.Seq.{sets}
-use Rattle.table.specs.Table.{table_of}
 use Rattle.state.specs.State.{state_of}
 use Rattle.rules_laws.specs.Soundness.{Sound}
 use Rattle.listing_text.specs.Listing.{max_steps}
@@ -12,5 +11,5 @@ use Rattle.listing_text.proofs.list_steps.Given as goal
 
 abbrev pub invariant-loop-i : goal.invariant-loop-i
 invariant-loop-i l =
-    (l.i ≤ max_steps) × Sound (table_of l.table) (state_of l.state) × (length l.out ≡ longest) × Come (table_of l.table) (state_of l.initial.state) l.i (state_of l.state)
-    × (length (lines_to (table_of l.table) (state_of l.initial.state) l.i) ≡ l.i * 37) × (l.out ≡ sets l.initial.out 37 (lines_to (table_of l.table) (state_of l.initial.state) l.i))
+    (l.i ≤ max_steps) × Sound l.table (state_of l.state) × (length l.out ≡ longest) × Come l.table (state_of l.initial.state) l.i (state_of l.state)
+    × (length (lines_to l.table (state_of l.initial.state) l.i) ≡ l.i * 37) × (l.out ≡ sets l.initial.out 37 (lines_to l.table (state_of l.initial.state) l.i))

@@ -1,4 +1,6 @@
 -- The lines of a run's steps, laid turn by turn. Assumes nothing.
+use Rattle.std.specs.declared.ops.ControlFlow.TheVariants.{Break, Continue}
+use Rattle.rules.specs.Answers.{Stepped, Turn}
 use Rattle.std.specs.Prelude.{ℕ, suc, ◌+◌, ◌*◌, ◌<◌, ◌≤◌, List, ◌++◌, ltb, length}
 use Rattle.std.proofs.Common.{arith, ◌∙◌, length-append}
 use Rattle.std.proofs.Math.Numerals.{add-one}
@@ -17,11 +19,8 @@ use Rattle.rules.specs.Moves.{move}
 use Rattle.rules.specs.Calls.{step_answer, next_ready, turn_for, turn_by, Course, course, Turned, turned, turn_end, take_turn, course_of}
 use Rattle.rules.specs.declared.Move.{Move}
 use Rattle.rules.specs.declared.Move.TheVariants.{Ends, Calls, Waits, Goes, Creates, Spawns, Meets, LacksThread, LacksChannel}
-use Rattle.rules.specs.declared.Stepped.{Stepped}
 use Rattle.rules.specs.declared.Reason.{Reason}
 use Rattle.rules.specs.declared.Reason.TheVariants.{AllDone, NoneReady}
-use Rattle.rules.specs.declared.Turn.{Turn}
-use Rattle.rules.specs.declared.Turn.TheVariants.{Went, Stopped}
 use Rattle.rules_laws.specs.Soundness.{Sound}
 use Rattle.rules_laws.specs.Soundness.Laws.{sound_settled}
 use Rattle.turns.specs.Made.Laws.{next_turn}
@@ -52,8 +51,8 @@ turn_keeps tb x s₂ f ok = rw f ok
 module _ (tb : Table) (s : State) where
   pub end_turn : (t : ℕ) (w : Turn) → (turn_end tb s t w).turn ≡ w
   unfolding turn_end
-  end_turn t Went = refl
-  end_turn t (Stopped r) = refl
+  end_turn t (Continue tt) = refl
+  end_turn t (Break r) = refl
 
   -- a sound state is settled
   module _ (ok : Sound tb s) where
@@ -81,11 +80,11 @@ module _ (tb : Table) (s : State) where
           let v : w ≡ turn_by t m = says ∙ rw k in
           f ∙ rw (g, add-one i, ← shown_is (suc i) t n m, v, q, z, ← o)
 
-  pub turn_left : (l : List ℕ) (p k : ℕ) (r : Reason) → l ≡ sets l p (shown (Stopped r) (turn_line tb k s))
+  pub turn_left : (l : List ℕ) (p k : ℕ) (r : Reason) → l ≡ sets l p (shown (Break r) (turn_line tb k s))
   unfolding shown
   turn_left l p k r = refl
 
-  step_long : (k t n : ℕ) (m : Move) → turn_by t m ≡ Went → length (step_line k t (step_answer n m)) ≡ 37
+  step_long : (k t n : ℕ) (m : Move) → turn_by t m ≡ Continue tt → length (step_line k t (step_answer n m)) ≡ 37
   unfolding turn_for turn_by step_answer step_line
   step_long k t n Ends e = length_line _
   step_long k t n Calls e = length_line _
@@ -98,13 +97,13 @@ module _ (tb : Table) (s : State) where
   step_long k t n LacksChannel e = clash cc
 
   -- the line of a turn that was a step
-  went_long : (k : ℕ) (w : Turn) (s₂ : State) → turned w s₂ ≡ take_turn tb s → w ≡ Went → length (turn_line tb k s) ≡ 37
+  went_long : (k : ℕ) (w : Turn) (s₂ : State) → turned w s₂ ≡ take_turn tb s → w ≡ Continue tt → length (turn_line tb k s) ≡ 37
   unfolding turn_line take_turn
   went_long k w s₂ e g =
-      let h : (take_turn tb s).turn ≡ Went = sym (ap (λ (x : Turned). x.turn) e) ∙ g in
+      let h : (take_turn tb s).turn ≡ Continue tt = sym (ap (λ (x : Turned). x.turn) e) ∙ g in
       case_b (ltb (next_ready s) max_threads)
       (λ y. step_long k (next_ready s) _ (move tb s (next_ready s)) (sym (end_turn (next_ready s) (turn_by (next_ready s) (move tb s (next_ready s)))) ∙ rw y at h))
-      (λ y. clash (let z : ◌≡◌ {A = Turn} (Stopped NoneReady) Went = rw y at h in cc))
+      (λ y. clash (let z : ◌≡◌ {A = Turn} (Break NoneReady) (Continue tt) = rw y at h in cc))
 
 -- ---- the turns of a run
 
@@ -144,23 +143,23 @@ module _ (tb : Table) (s : State) where
       (joined_snoc (tabulate i (λ j. turn_line tb (suc j) (course_of tb j s).state)) (turn_line tb (suc i) (course_of tb i s).state))
 
   module _ (i : ℕ) (s₁ s₂ : State) (w : Turn) (f : Come tb s i s₁) (e : turned w s₂ ≡ take_turn tb s₁) where
-    pub come_more : w ≡ Went → Come tb s (i + 1) s₂
+    pub come_more : w ≡ Continue tt → Come tb s (i + 1) s₂
     unfolding Come
     come_more g n h = course_more tb n s i s₁ (f n (omega arith)) (omega arith) w s₂ e g
 
     module _ (long : length (lines_to tb s i) ≡ i * 37) where
-      pub more_long : w ≡ Went → length (lines_to tb s (i + 1)) ≡ (i + 1) * 37
+      pub more_long : w ≡ Continue tt → length (lines_to tb s (i + 1)) ≡ (i + 1) * 37
       more_long g =
           rw (add-one i, lines_suc i s₁ f)
           (length-append (lines_to tb s i) (turn_line tb (suc i) s₁) ∙ omega (arith, went_long tb s₁ (suc i) w s₂ e g))
 
-      pub lines_more : (l l₁ l₂ : List ℕ) → l₁ ≡ sets l 37 (lines_to tb s i) → l₂ ≡ sets l₁ (37 + i * 37) (shown w (turn_line tb (suc i) s₁)) → w ≡ Went
+      pub lines_more : (l l₁ l₂ : List ℕ) → l₁ ≡ sets l 37 (lines_to tb s i) → l₂ ≡ sets l₁ (37 + i * 37) (shown w (turn_line tb (suc i) s₁)) → w ≡ Continue tt
           → l₂ ≡ sets l 37 (lines_to tb s (i + 1))
       unfolding shown
       lines_more l l₁ l₂ h j g =
           j ∙ rw (g, h, add-one i, lines_suc i s₁ f, sets_append l 37 (lines_to tb s i) (turn_line tb (suc i) s₁), long)
 
-    module _ (r : Reason) (g : w ≡ Stopped r) (h : i < max_steps) where
+    module _ (r : Reason) (g : w ≡ Break r) (h : i < max_steps) where
       pub come_stopped : course i r s₂ ≡ course_of tb max_steps s
       unfolding Come
       come_stopped = sym (course_stopped tb max_steps s i s₁ (f max_steps (omega arith)) h w s₂ e r g)

@@ -1,4 +1,6 @@
 -- A run seen from a turn in its midst, whoever's it is. Assumes nothing.
+use Rattle.std.specs.declared.ops.ControlFlow.TheVariants.{Break, Continue}
+use Rattle.rules.specs.Answers.{Turn}
 use Prim.Native.Nat.{ℕ, suc, ◌+◌, ◌-◌, ◌<◌}
 use native.Mathlib.Omega.{arith}
 use Rattle.std.specs.Prelude.{◌≡◌}
@@ -9,8 +11,6 @@ use Rattle.state.specs.State.{State}
 use Rattle.rules.specs.Calls.{course, one_more, onward, Turned, turned, take_turn, course_of}
 use Rattle.rules.specs.declared.Reason.{Reason}
 use Rattle.rules.specs.declared.Reason.TheVariants.{AllDone}
-use Rattle.rules.specs.declared.Turn.{Turn}
-use Rattle.rules.specs.declared.Turn.TheVariants.{Went, Stopped}
 use Rattle.calls.specs.Course.{after}
 
 module _ (tb : Table) (n : ℕ) (s : State) where
@@ -31,7 +31,7 @@ module _ (tb : Table) (n : ℕ) (s : State) where
         rw (q, a, b)
 
     -- a turn that went
-    pub course_more : w ≡ Went → course_of tb n s ≡ after (i + 1) (course_of tb (n - (i + 1)) s₂)
+    pub course_more : w ≡ Continue tt → course_of tb n s ≡ after (i + 1) (course_of tb (n - (i + 1)) s₂)
     unfolding after onward one_more
     course_more g =
         let k : course_of tb (n - i) s₁ ≡ one_more (course_of tb (n - (i + 1)) s₂) = step_on_lem ∙ rw g in
@@ -39,7 +39,7 @@ module _ (tb : Table) (n : ℕ) (s : State) where
         f ∙ rw (k, x)
 
     -- a turn that stopped
-    pub course_stopped : (r : Reason) → w ≡ Stopped r → course_of tb n s ≡ course i r s₂
+    pub course_stopped : (r : Reason) → w ≡ Break r → course_of tb n s ≡ course i r s₂
     unfolding after onward
     course_stopped r g =
         let k : course_of tb (n - i) s₁ ≡ course 0 r s₂ = step_on_lem ∙ rw g in

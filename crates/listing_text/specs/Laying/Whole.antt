@@ -1,5 +1,9 @@
 -- The listing of an accepted table and of a file, laid as a whole. Assumes nothing.
-use Rattle.std.specs.Prelude.{ℕ, zero, suc, ◌+◌, ◌*◌, ◌≤◌, Bool, true, List, [], ◌∷◌, ◌++◌, eqb, length, get_or, take, drop}
+use Rattle.loader.specs.declared.LoadRefusal.TheVariants as LoadRefusal
+use Rattle.std.specs.declared.ops.ControlFlow.TheVariants.{Break, Continue}
+use Rattle.rules.specs.Answers.{Stepped, Turn}
+use Rattle.loader.specs.Answers.{Loaded, Verdict}
+use Rattle.std.specs.Prelude.{ℕ, zero, suc, ◌+◌, ◌*◌, ◌≤◌, Bool, true, cond, List, [], ◌∷◌, ◌++◌, eqb, length, get_or, take, drop, Option, None, Some, Err, Ok}
 use native.Mathlib.Omega.{arith}
 use Rattle.std.proofs.Math.Path.{◌≡◌, sym}
 use Rattle.std.proofs.Common.{◌∙◌, ap, Fits, eq-eqb}
@@ -18,20 +22,12 @@ use Rattle.file.specs.EmptyFile.{procedure_text}
 use Rattle.loader.specs.Verdict.{ground_number, verdict}
 use Rattle.loader.specs.Load.{table_length, Outcome, outcome, after_verdict, loaded, accepted}
 use Rattle.loader.specs.declared.Ground.{Ground}
-use Rattle.loader.specs.declared.Verdict.{Verdict}
-use Rattle.loader.specs.declared.Verdict.TheVariants.{Sound, Fault}
-use Rattle.loader.specs.declared.Loaded.{Loaded}
-use Rattle.loader.specs.declared.Loaded.TheVariants.{Done, FileRefused, WrongLength}
 use Rattle.loader_laws.specs.Yields.{file_shaped, bytes_hold, done_sound, file_accepted}
 use Rattle.state.specs.State.{State, max_threads, thread, stands_at}
 use Rattle.rules.specs.Holding.{settled}
 use Rattle.rules.specs.Start.{started}
 use Rattle.rules.specs.Calls.{Course, course, one_more, onward, take_turn, course_of}
 use Rattle.rules.specs.declared.Reason.{Reason}
-use Rattle.rules.specs.declared.Turn.{Turn}
-use Rattle.rules.specs.declared.Turn.TheVariants.{Went, Stopped}
-use Rattle.rules.specs.declared.Stepped.{Stepped}
-use Rattle.rules.specs.declared.Stepped.TheVariants as Stepped
 use Rattle.engine.specs.Numbers.{act_number, branch_number, partner_number}
 use Rattle.rules_laws.specs.Granted.{Granted}
 use Rattle.rules_laws.specs.Accepted.{granted}
@@ -45,8 +41,11 @@ use Rattle.listing_text.specs.Laying.{longest, end_lines}
 
 -- ---- an accepted table
 
--- an accepted table is indexed, grants what the rules ask of a table, and starts with a sound state
+-- an accepted table is taken as one, is indexed, grants what the rules ask of a table, and starts with a sound state
 module _ (table : List ℕ) (ok : accepted table ≡ true) where
+  pub accepted_taken : (q : Option Table) (tb : Table) → q ≡ cond (accepted table) (Some (table_of table)) None → q ≡ Some tb → tb ≡ table_of table
+  accepted_taken q tb e f = let g = rw ok at e in cc
+
   pub accepted_indexed : (x : List ℕ) (r : Bool) → r ≡ accepted table → (r ≡ true → Indexed (table_of table) x) → Indexed (table_of table) x
   accepted_indexed x r e f = f (e ∙ ok)
 
@@ -63,8 +62,8 @@ sound_settled tb s ok = ok.counts
 -- a run has at most the steps asked for
 onward_few : (n : ℕ) (f : State → Course) → ((s : State) → (f s).steps ≤ n) → (w : Turn) (s : State) → (onward w s f).steps ≤ suc n
 unfolding onward one_more
-onward_few n f h Went s = omega (arith, h s)
-onward_few n f h (Stopped r) s = omega arith
+onward_few n f h (Continue tt) s = omega (arith, h s)
+onward_few n f h (Break r) s = omega arith
 
 pub course_few : (tb : Table) (n : ℕ) (s : State) → (course_of tb n s).steps ≤ n
 unfolding course_of
@@ -98,8 +97,8 @@ module _ (tb : Table) (n : ℕ) (r : Reason) (s₁ s₂ : State) (e : s₁ ≡ s
 
 step_short : (k t : ℕ) (x : Stepped) → length (step_line k t x) ≤ 37
 unfolding step_line
-step_short k t (Stepped.Done n d) = omega (arith, length_line (k ∷ t ∷ n ∷ act_number d ∷ branch_number d ∷ partner_number d ∷ []))
-step_short k t (Stepped.Refused r) = omega arith
+step_short k t (Ok (n, d)) = omega (arith, length_line (k ∷ t ∷ n ∷ act_number d ∷ branch_number d ∷ partner_number d ∷ []))
+step_short k t (Err r) = omega arith
 
 -- as many lines as there are numbers, none longer than w
 short_lines : (w : ℕ) (f : ℕ → List ℕ) → ((i : ℕ) → length (f i) ≤ w) → (n : ℕ) → length (joined (tabulate n f)) ≤ n * w
@@ -145,8 +144,8 @@ unfolding listing listing_by
 listing_short file = go (verdict (procedure_text file))
   where
     go : (v : Verdict) → length (listing_by v (procedure_text file)) ≤ longest
-    go (Fault g l) = omega (arith, length_line (ground_number g ∷ l ∷ []))
-    go Sound = run_short (file_table (procedure_text file))
+    go (Err (g, l)) = omega (arith, length_line (ground_number g ∷ l ∷ []))
+    go (Ok tt) = run_short (file_table (procedure_text file))
 
 -- ---- the buffer o before, and o₁ with the listing laid at its front, r characters
 
@@ -170,21 +169,21 @@ module _ (file b : List ℕ) where
   text = procedure_text file
 
   -- what a verdict is answered with, seen from the answer
-  refused_by : (v : Verdict) (g : Ground) (l : ℕ) → (after_verdict v text b).answer ≡ FileRefused g l → listing_by v text ≡ line (ground_number g ∷ l ∷ [])
+  refused_by : (v : Verdict) (g : Ground) (l : ℕ) → (after_verdict v text b).answer ≡ Err (LoadRefusal.FileRefused g l) → listing_by v text ≡ line (ground_number g ∷ l ∷ [])
   unfolding after_verdict listing_by
-  refused_by (Fault h k) g l e =
+  refused_by (Err (h, k)) g l e =
       let p : h ≡ g = cc in
       let q : k ≡ l = cc in
       rw (p, q)
-  refused_by Sound g l e =
+  refused_by (Ok tt) g l e =
       case_b (eqb (length b) table_length)
-      (λ y. clash (let z : ◌≡◌ {A = Loaded} Done (FileRefused g l) = rw y at e in cc))
-      (λ y. clash (let z : ◌≡◌ {A = Loaded} WrongLength (FileRefused g l) = rw y at e in cc))
+      (λ y. clash (let z : ◌≡◌ {A = Loaded} (Ok tt) (Err (LoadRefusal.FileRefused g l)) = rw y at e in cc))
+      (λ y. clash (let z : ◌≡◌ {A = Loaded} (Err LoadRefusal.WrongLength) (Err (LoadRefusal.FileRefused g l)) = rw y at e in cc))
 
-  long_enough : length b ≡ table_length → (v : Verdict) → (after_verdict v text b).answer ≡ WrongLength → ⊥
+  long_enough : length b ≡ table_length → (v : Verdict) → (after_verdict v text b).answer ≡ Err LoadRefusal.WrongLength → ⊥
   unfolding after_verdict
-  long_enough h (Fault g l) e = clash cc
-  long_enough h Sound e = clash (let z : ◌≡◌ {A = Loaded} Done WrongLength = rw (eq-eqb (length b) table_length h) at e in cc)
+  long_enough h (Err (g, l)) e = clash cc
+  long_enough h (Ok tt) e = clash (let z : ◌≡◌ {A = Loaded} (Ok tt) (Err LoadRefusal.WrongLength) = rw (eq-eqb (length b) table_length h) at e in cc)
 
   -- a: what loading answers, b₁: what it leaves in the table's buffer, b before
   module _ (b₁ : List ℕ) (a : Loaded) (e : outcome a b₁ ≡ loaded file b) where
@@ -192,25 +191,25 @@ module _ (file b : List ℕ) where
     unfolding loaded
     answer x h = sym (ap (λ (o : Outcome). o.answer) e) ∙ h
 
-    pub length_never : length b ≡ table_length → a ≡ WrongLength → ⊥
-    length_never h k = long_enough h (verdict text) (answer WrongLength k)
+    pub length_never : length b ≡ table_length → a ≡ Err LoadRefusal.WrongLength → ⊥
+    length_never h k = long_enough h (verdict text) (answer (Err LoadRefusal.WrongLength) k)
 
-    pub done_accepted : a ≡ Done → accepted b₁ ≡ true
+    pub done_accepted : a ≡ Ok tt → accepted b₁ ≡ true
     done_accepted h = let (v, q) = done_sound file b b₁ (rw h at (sym e)) in rw (← q) (file_accepted text v)
 
-    done_lists : a ≡ Done → run_lines (table_of b₁) ≡ listing file
+    done_lists : a ≡ Ok tt → run_lines (table_of b₁) ≡ listing file
     unfolding listing listing_by
     done_lists h =
         let d = done_sound file b b₁ (rw h at (sym e)) in
         rw (d.0, ← bytes_hold (file_table text) (file_shaped text), d.1)
 
-    refused_lists : (g : Ground) (l : ℕ) → a ≡ FileRefused g l → line (ground_number g ∷ l ∷ []) ≡ listing file
+    refused_lists : (g : Ground) (l : ℕ) → a ≡ Err (LoadRefusal.FileRefused g l) → line (ground_number g ∷ l ∷ []) ≡ listing file
     unfolding listing
-    refused_lists g l h = sym (refused_by (verdict text) g l (answer (FileRefused g l) h))
+    refused_lists g l h = sym (refused_by (verdict text) g l (answer (Err (LoadRefusal.FileRefused g l)) h))
 
     -- o: the buffer before, o₁: with the listing laid at its front, r: the length of the listing
     module _ (o o₁ : List ℕ) (r : ℕ) (long : length o ≡ longest) where
-      module _ (h : a ≡ Done) (f : r ≡ length (run_lines (table_of b₁))) (g : o₁ ≡ sets o 0 (run_lines (table_of b₁))) where
+      module _ (h : a ≡ Ok tt) (f : r ≡ length (run_lines (table_of b₁))) (g : o₁ ≡ sets o 0 (run_lines (table_of b₁))) where
         pub run_counts : r ≡ length (listing file)
         run_counts = counts file o o₁ r long _ (done_lists h) f g
 
@@ -220,7 +219,7 @@ module _ (file b : List ℕ) where
         pub run_rest : drop r o₁ ≡ drop r o
         run_rest = rest file o o₁ r long _ (done_lists h) f g
 
-      module _ (x : Ground) (l : ℕ) (h : a ≡ FileRefused x l) (f : r ≡ length (line (ground_number x ∷ l ∷ []))) (g : o₁ ≡ sets o 0 (line (ground_number x ∷ l ∷ []))) where
+      module _ (x : Ground) (l : ℕ) (h : a ≡ Err (LoadRefusal.FileRefused x l)) (f : r ≡ length (line (ground_number x ∷ l ∷ []))) (g : o₁ ≡ sets o 0 (line (ground_number x ∷ l ∷ []))) where
         pub refusal_counts : r ≡ length (listing file)
         refusal_counts = counts file o o₁ r long _ (refused_lists x l h) f g
 

@@ -1,5 +1,8 @@
 -- The table's buffer: zeros before reading, the bytes of the table that it holds, and its copy. Assumes nothing.
-use Rattle.std.specs.Prelude.{ℕ, ◌+◌, ◌*◌, ◌≤◌, ◌<◌, ◌≡◌, refl, ◌≢◌, List, length, get_or, set, take, replicate}
+use Rattle.loader.specs.declared.LoadRefusal.TheVariants as LoadRefusal
+use Rattle.loader.specs.Answers.{Verdict}
+use Rattle.std.specs.Prelude.{ℕ, ◌+◌, ◌*◌, ◌≤◌, ◌<◌, ◌≡◌, refl, ◌≢◌, Bool, true, false, cond, List, length, get_or, set, take, replicate, Option, Some, None, Result, Err, Ok}
+use Rattle.std.specs.Option.{ok_or}
 use Rattle.std.proofs.Common.{arith, add-one, sym, ◌∙◌, ext_get_or, take-suc, take-suc-set, take_all, Fits}
 use Rattle.std.proofs.lemmas.List.{length-replicate}
 use Rattle.std.specs.Int.{w8}
@@ -17,9 +20,6 @@ use Rattle.loader.specs.Verdict.{verdict}
 use Rattle.loader.specs.Verdict.Computing.{judging}
 use Rattle.loader.specs.Load.{table_bytes, outcome, after_verdict, loaded}
 use Rattle.loader.specs.declared.Ground.{Ground}
-use Rattle.loader.specs.declared.Verdict.{Verdict}
-use Rattle.loader.specs.declared.Verdict.TheVariants.{Sound, Fault}
-use Rattle.loader.specs.declared.Loaded.TheVariants.{Done, FileRefused, WrongLength}
 
 shorts_zero : (n : ℕ) → shorts (replicate (n * 2) 0) ≡ replicate n 0
 unfolding little
@@ -59,13 +59,13 @@ module _ (from to : List ℕ) (i : ℕ) (long : length to ≡ length from) (e : 
 -- ---- the text for which a file stands: the verdict v on it, and the buffer b to which its numbers were read
 
 -- the lines of the procedure that ends are in order
-pub ending_sound : verdict ending_text ≡ Sound
+pub ending_sound : verdict ending_text ≡ Ok tt
 unfolding judging reading ending_rows verdict
 ending_sound = refl
 
 module _ (file : List ℕ) where
   module _ (h : length file ≡ 0) where
-    pub none_sound : Sound ≡ verdict (procedure_text file)
+    pub none_sound : Ok tt ≡ verdict (procedure_text file)
     none_sound = rw (text_none file h, ending_sound)
 
     pub none_table : (b : List ℕ) → table_of b ≡ file_table ending_text → table_of b ≡ file_table (procedure_text file)
@@ -75,22 +75,35 @@ module _ (file : List ℕ) where
     pub own_verdict : v ≡ verdict file → v ≡ verdict (procedure_text file)
     own_verdict e = rw (text_own file h) e
 
-    pub own_table : (b : List ℕ) → (v ≡ Sound → table_of b ≡ file_table file) → v ≡ Sound → table_of b ≡ file_table (procedure_text file)
+    pub own_table : (b : List ℕ) → (v ≡ Ok tt → table_of b ≡ file_table file) → v ≡ Ok tt → table_of b ≡ file_table (procedure_text file)
     own_table b f e = rw (text_own file h) (f e)
 
 -- ---- the answers, and the buffer t' that t has become, which is t itself where the load is refused
 
 module _ (file t t' : List ℕ) (v : Verdict) (e : v ≡ verdict (procedure_text file)) where
-  pub load_refused : (g : Ground) (l : ℕ) → t' ≡ t → v ≡ Fault g l → outcome (FileRefused g l) t' ≡ loaded file t
+  pub load_refused : (g : Ground) (l : ℕ) → t' ≡ t → v ≡ Err (g, l) → outcome (Err (LoadRefusal.FileRefused g l)) t' ≡ loaded file t
   unfolding loaded after_verdict
   load_refused g l a h = rw (← e, h, a)
 
-  module _ (h : v ≡ Sound) where
-    pub load_length : t' ≡ t → (length t ≡ table_length → ⊥) → outcome WrongLength t' ≡ loaded file t
+  module _ (h : v ≡ Ok tt) where
+    pub load_length : t' ≡ t → (length t ≡ table_length → ⊥) → outcome (Err LoadRefusal.WrongLength) t' ≡ loaded file t
     unfolding loaded after_verdict
     load_length a k = rw (← e, h, ne_eqb (length t) table_length k, a)
 
-    pub load_done : (b : List ℕ) → t' ≡ b → (v ≡ Sound → table_of b ≡ file_table (procedure_text file)) → length t ≡ table_length → length t' ≡ length t
-        → ((i : ℕ) → Fits w8 (get_or t' i 0)) → outcome Done t' ≡ loaded file t
+    pub load_done : (b : List ℕ) → t' ≡ b → (v ≡ Ok tt → table_of b ≡ file_table (procedure_text file)) → length t ≡ table_length → length t' ≡ length t
+        → ((i : ℕ) → Fits w8 (get_or t' i 0)) → outcome (Ok tt) t' ≡ loaded file t
     unfolding loaded after_verdict
     load_done b a k m n f = rw (← e, h, eq-eqb (length t) table_length m, ← k h, ← a, table_bytes_lem t' (n ∙ m) f)
+
+-- ---- what an accepted table is told by: the answer of `accept`, with a refusal in the place of none
+
+pub told_refused : {A : Type 0} (b : Bool) (x : A) (q : Option A) → q ≡ cond b (Some x) None → q ≡ None → b ≡ false
+told_refused true x q e f = cc
+told_refused false x q e f = refl
+
+pub told_refusal : {A E : Type 0} (d x : E) (q : Option A) → ◌≡◌ {A = Result A E} (Err d) (ok_or q x) → q ≡ None → d ≡ x
+told_refusal d x q e f = let h = rw f at e in cc
+
+pub told_accepted : {A : Type 0} (b : Bool) (x y : A) (q : Option A) → q ≡ cond b (Some x) None → q ≡ Some y → (b ≡ true) × (y ≡ x)
+told_accepted true x y q e f = (refl, cc)
+told_accepted false x y q e f = cc

@@ -1,6 +1,9 @@
+use Rattle.std.proofs.Common.{ap}
 -- For every file, accepted or refused: the verdict is ground g at line l exactly when g is the lowest ground on which the file is refused and l its first line,
 -- and the file is in order exactly when it is refused on none. Assumes nothing.
-use Rattle.std.specs.Prelude.{ℕ, zero, suc, ◌+◌, ◌<◌, refl, ◌⊎◌, ◌↔◌, Bool, true, false, List, ltb, eqb, length}
+use Rattle.loader.specs.declared.LoadRefusal.TheVariants as LoadRefusal
+use Rattle.loader.specs.Answers.{Loaded, Verdict}
+use Rattle.std.specs.Prelude.{ℕ, zero, suc, ◌+◌, ◌<◌, refl, ◌⊎◌, ◌↔◌, Bool, true, false, List, ltb, eqb, length, Err, Ok}
 use Rattle.std.proofs.Common.{arith, sym, ◌∙◌, inl, inr}
 use Rattle.std.proofs.Math.Path.{◌≡◌}
 use Rattle.std.proofs.Math.Logic.{⊎_elim}
@@ -18,12 +21,8 @@ use Rattle.file.specs.EmptyFile.{procedure_text}
 use Rattle.loader.specs.Verdict.{ground_number, verdict}
 use Rattle.loader.specs.Verdict.Laws.{no_sound}
 use Rattle.loader.specs.Load.{table_length, after_verdict, loaded}
-use Rattle.loader.specs.declared.Loaded.{Loaded}
-use Rattle.loader.specs.declared.Loaded.TheVariants.{Done, FileRefused, WrongLength}
 use Rattle.loader.specs.declared.Ground.{Ground}
 use Rattle.loader.specs.declared.Ground.TheVariants.{Lines, Field, Header, Total, Kind, Sums, Range, Types, Unwritten, Unreachable}
-use Rattle.loader.specs.declared.Verdict.{Verdict}
-use Rattle.loader.specs.declared.Verdict.TheVariants.{Sound, Fault}
 use Rattle.loader_laws.specs.FormedRows.{FormedTo}
 use Rattle.loader_laws.specs.Paths.{row_of, IsRead, Reachable, SurelyWritten}
 use Rattle.loader_laws.specs.Grounds.{Formed, branch_below}
@@ -131,7 +130,7 @@ module _ (file : List ℕ) where
 
   -- ---- the verdict
 
-  refused_by : (g : Ground) (l : ℕ) → verdict file ≡ Fault g l → LowestOf (Refused file) g l
+  refused_by : (g : Ground) (l : ℕ) → verdict file ≡ Err (g, l) → LowestOf (Refused file) g l
   refused_by g l e =
       let (a, b, c) = (lowest_iff file g l).0 e in
       let low : (h : Ground) → rank h < rank g → Clear h = λ h y m. fine (fault_at file h m) (c h m y) in
@@ -141,29 +140,29 @@ module _ (file : List ℕ) where
         λ h m y w. contra ((exact h m (λ o z. low o (omega arith)) (λ i z. low h y i)).1 w) (low h y m),
       )
 
-  none_refused : verdict file ≡ Sound → (g : Ground) (l : ℕ) → ¬ Refused file g l
+  none_refused : verdict file ≡ Ok tt → (g : Ground) (l : ℕ) → ¬ Refused file g l
   none_refused e g l w = let c = (sound_iff file).0 e in contra ((exact g l (λ h z. c h) (λ i z. c g i)).1 w) (c g l)
 
-  either : (v : Verdict) → (v ≡ Sound) ⊎ ((g : Ground) × (l : ℕ) × (v ≡ Fault g l))
-  either Sound = inl refl
-  either (Fault g l) = inr (g, l, refl)
+  either : (v : Verdict) → (v ≡ Ok tt) ⊎ ((g : Ground) × (l : ℕ) × (v ≡ Err (g, l)))
+  either (Ok tt) = inl refl
+  either (Err (g, l)) = inr (g, l, refl)
 
-  refused_answer_lem : (v : Verdict) (t : List ℕ) (g : Ground) (l : ℕ) → ((after_verdict v file t).answer ≡ FileRefused g l) ↔ (v ≡ Fault g l)
+  refused_answer_lem : (v : Verdict) (t : List ℕ) (g : Ground) (l : ℕ) → ((after_verdict v file t).answer ≡ Err (LoadRefusal.FileRefused g l)) ↔ (v ≡ Err (g, l))
   unfolding after_verdict
-  refused_answer_lem Sound t g l = (
+  refused_answer_lem (Ok tt) t g l = (
     λ e. absurd (case_b (eqb (length t) table_length) (λ y. done_refused (rw y at e)) (λ y. length_refused (rw y at e))),
     λ e. no_sound g l (sym e),
   )
     where
-      done_refused : ◌≡◌ {A = Loaded} Done (FileRefused g l) → ⊥
+      done_refused : ◌≡◌ {A = Loaded} (Ok tt) (Err (LoadRefusal.FileRefused g l)) → ⊥
       done_refused q = clash cc
 
-      length_refused : ◌≡◌ {A = Loaded} WrongLength (FileRefused g l) → ⊥
+      length_refused : ◌≡◌ {A = Loaded} (Err LoadRefusal.WrongLength) (Err (LoadRefusal.FileRefused g l)) → ⊥
       length_refused q = clash cc
-  refused_answer_lem (Fault h m) t g l = (λ e. let p : h ≡ g = cc in let q : m ≡ l = cc in rw (p, q), λ e. let p : h ≡ g = cc in let q : m ≡ l = cc in rw (p, q))
+  refused_answer_lem (Err (h, m)) t g l = (λ e. let w : (h, m) ≡ (g, l) = cc in let p : h ≡ g = ap (λ (x : Ground × ℕ). x.0) w in let q : m ≡ l = ap (λ (x : Ground × ℕ). x.1) w in rw (p, q), λ e. let w : (h, m) ≡ (g, l) = cc in let p : h ≡ g = ap (λ (x : Ground × ℕ). x.0) w in let q : m ≡ l = ap (λ (x : Ground × ℕ). x.1) w in rw (p, q))
 
   -- a file is refused on ground g with line l exactly when g is the lowest ground on which it is refused, and l its first line
-  pub refused_iff : (g : Ground) (l : ℕ) → (verdict file ≡ Fault g l) ↔ LowestOf (Refused file) g l
+  pub refused_iff : (g : Ground) (l : ℕ) → (verdict file ≡ Err (g, l)) ↔ LowestOf (Refused file) g l
   refused_iff g l = (
     refused_by g l,
     λ w. ⊎_elim (λ e. absurd (none_refused e g l w.0))
@@ -171,19 +170,19 @@ module _ (file : List ℕ) where
   )
 
   -- a file is in order exactly when it is refused on no ground
-  pub in_order_iff : (verdict file ≡ Sound) ↔ ((g : Ground) (l : ℕ) → ¬ Refused file g l)
+  pub in_order_iff : (verdict file ≡ Ok tt) ↔ ((g : Ground) (l : ℕ) → ¬ Refused file g l)
   in_order_iff = (
     none_refused,
     λ f. ⊎_elim (λ e. e) (λ s. let (h, m, e) = s in absurd (f h m (refused_by h m e).0)) (either (verdict file)),
   )
 
   -- no ground with a lower number refuses the file
-  pub lowest_number : (g : Ground) (l : ℕ) → verdict file ≡ Fault g l → (h : Ground) (m : ℕ) → ground_number h < ground_number g → ¬ Refused file h m
+  pub lowest_number : (g : Ground) (l : ℕ) → verdict file ≡ Err (g, l) → (h : Ground) (m : ℕ) → ground_number h < ground_number g → ¬ Refused file h m
   lowest_number g l e h m y = (refused_by g l e).2 h m (number_rank_below h g y)
 
   -- ---- what a file in order has, over paths
 
-  module _ (e : verdict file ≡ Sound) where
+  module _ (e : verdict file ≡ Ok tt) where
     clear : (h : Ground) → Clear h
     clear = (sound_iff file).0 e
 
@@ -209,7 +208,7 @@ module _ (file : List ℕ) where
         (row_fine (reads_unwritten (file_table file)) (line_count file) r (omega (arith, total_fine (clear Total), branch_below (file_table file) sound_formed n i h l)) (clear Unwritten (suc r))) k z) s
 
 -- load answers with the lowest ground on which the text that a file stands for is refused, and its first line, whatever the table's buffer holds
-pub answer_iff : (file t : List ℕ) (g : Ground) (l : ℕ) → ((loaded file t).answer ≡ FileRefused g l) ↔ LowestOf (Refused (procedure_text file)) g l
+pub answer_iff : (file t : List ℕ) (g : Ground) (l : ℕ) → ((loaded file t).answer ≡ Err (LoadRefusal.FileRefused g l)) ↔ LowestOf (Refused (procedure_text file)) g l
 unfolding loaded
 answer_iff file t g l =
     let text = procedure_text file in

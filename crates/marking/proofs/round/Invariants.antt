@@ -11,5 +11,5 @@ use Rattle.marking.proofs.round.Given as goal
 
 abbrev pub invariant-loop-t : goal.invariant-loop-t
 invariant-loop-t l =
-    (l.t ≤ max_threads) × Marking (table_of l.table) (state_of l.state) l.marks l.known × (unmarked l.marks + bit l.changed ≤ unmarked l.initial.marks)
-    × (l.changed ≡ false → Still (table_of l.table) (state_of l.state) l.marks l.known l.t)
+    (l.t ≤ max_threads) × Marking l.table (state_of l.state) l.marks l.known × (unmarked l.marks + bit l.changed ≤ unmarked l.initial.marks)
+    × (l.changed ≡ false → Still l.table (state_of l.state) l.marks l.known l.t)

@@ -1,5 +1,6 @@
 use Rattle.meetings.proofs.Laws.{both_go}
+use borrow.Author.Rules.{rules}
 use Rattle.meetings.proofs.write_meeting.Goals as goal
 
 pub returns : goal.returns
-returns c = both_go _ _ _ _ _ _ _ _ _ _ c.write_met-2.ensures c.write_met.ensures (search) (search) (search)
+returns c = search (both_go, rules)

@@ -3,8 +3,5 @@ use Rattle.state.specs.State.{state_of}
 use Rattle.next_rows.specs.UsedBelow.{UsedBelow}
 use Rattle.next_rows.proofs.rows_used.Given as goal
 
-abbrev pub invariant-loop-top : goal.invariant-loop-top
-invariant-loop-top l = UsedBelow (state_of l.state) l.top
-
-abbrev pub decreases-loop-top : goal.decreases-loop-top
-decreases-loop-top l = l.top
+abbrev pub invariant-loop-u : goal.invariant-loop-u
+invariant-loop-u l = UsedBelow (state_of l.state) l.u

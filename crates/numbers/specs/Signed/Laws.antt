@@ -1,13 +1,11 @@
 -- The laws of numbers and their patterns. Assumes nothing.
-use Rattle.std.specs.Prelude.{◌≡◌, ℕ, ◌+◌, ◌-◌, ◌%◌, ◌<◌, ◌≤◌, true, ℤ, pos, negsuc, FitsSigned, nat_le, refl}
+use Rattle.std.specs.Prelude.{◌≡◌, ℕ, ◌+◌, ◌-◌, ◌%◌, ◌<◌, ◌≤◌, true, ℤ, pos, negsuc, FitsSigned, nat_le, refl, None, Option, Some}
 use Rattle.std.proofs.Common.{arith, sym, ◌∙◌, ap, Fits, to_z, le-ltb, lt-ltb, le-leb, leb-true}
 use Rattle.std.proofs.Math.Decide.{dec_lt}
 use Rattle.std.specs.Int.{w16, w32}
 use Rattle.numbers.specs.Search.Laws.{case_b}
 use Rattle.numbers.specs.Signed.{in_range, narrowed, is_exact, sum, difference, widened}
 use Rattle.numbers.specs.Tests.{clash, and_left}
-use Rattle.numbers.specs.declared.Checked.{Checked}
-use Rattle.numbers.specs.declared.Checked.TheVariants.{Exact, Overflow}
 
 -- a pattern whose highest bit is set is that of a negative number
 pub to_z_high : (x : ℕ) → 2147483648 ≤ x → x < 4294967296 → to_z w32 x ≡ negsuc (4294967295 - x)
@@ -26,28 +24,28 @@ fits_range (pos n) f = le-leb n 2147483647 (omega arith)
 fits_range (negsuc n) f = rw (le-leb n 2147483647 (omega arith))
 
 -- what fits is exact
-pub narrowed_fits : (z : ℤ) → FitsSigned w32 z → narrowed z ≡ Exact z
+pub narrowed_fits : (z : ℤ) → FitsSigned w32 z → narrowed z ≡ Some z
 unfolding narrowed
 narrowed_fits z f = rw (fits_range z f)
 
 -- what is exact is the number itself, and fits
-pub narrowed_exact : (z w : ℤ) → narrowed z ≡ Exact w → (w ≡ z) × FitsSigned w32 z
+pub narrowed_exact : (z w : ℤ) → narrowed z ≡ Some w → (w ≡ z) × FitsSigned w32 z
 unfolding narrowed
 narrowed_exact z w e =
     case_b (in_range z)
-    (λ y. (let q : Exact z ≡ Exact w = rw y at e in cc, range_fits z y))
-    (λ n. clash (let q : Overflow ≡ Exact w = rw n at e in cc))
+    (λ y. (let q : Some z ≡ Some w = rw y at e in cc, range_fits z y))
+    (λ n. clash (let q : None ≡ Some w = rw n at e in cc))
 
 -- what overflows does not fit
-pub narrowed_overflow : (z : ℤ) → narrowed z ≡ Overflow → FitsSigned w32 z → ⊥
-narrowed_overflow z e f = clash (let q : Overflow ≡ Exact z = sym e ∙ narrowed_fits z f in cc)
+pub narrowed_overflow : (z : ℤ) → narrowed z ≡ None → FitsSigned w32 z → ⊥
+narrowed_overflow z e f = clash (let q : None ≡ Some z = sym e ∙ narrowed_fits z f in cc)
 
 -- ---- what a sum or difference comes to
 
-pub exact_is : (v : Checked) → is_exact v ≡ true → (z : ℤ) × (v ≡ Exact z)
+pub exact_is : (v : Option ℤ) → is_exact v ≡ true → (z : ℤ) × (v ≡ Some z)
 unfolding is_exact
-exact_is (Exact z) e = (z, refl)
-exact_is Overflow e = clash cc
+exact_is (Some z) e = (z, refl)
+exact_is None e = clash cc
 
 -- ---- patterns
 

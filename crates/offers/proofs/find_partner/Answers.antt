@@ -1,5 +1,4 @@
 use mathlib.Core.Path.{refl, sym, ◌∙◌}
-use mathlib.Core.Bool.{true}
 use borrow.Author.Rules.{rules}
 use Rattle.numbers.specs.Search.Laws.{contra, first_none}
 use Rattle.offers.proofs.Search.{threads_skipped, nobody_is, neither_passed, competing_passed, other_offered, found_is, competing_ends, waits_here, waits_now, waiting_less}

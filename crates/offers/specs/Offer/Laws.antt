@@ -1,5 +1,5 @@
 -- A branch offers d on a channel, as the rules say it, where its offer on that channel is one of direction d. Assumes nothing.
-use Rattle.std.specs.Prelude.{ℕ, ◌≡◌, refl, Bool, true, false, ◌&&◌, List, eqb}
+use Rattle.std.specs.Prelude.{ℕ, ◌≡◌, refl, Bool, true, false, ◌&&◌, List, eqb, None, Option, Some}
 use Rattle.std.proofs.Common.{sym, ◌∙◌}
 use Rattle.numbers.specs.Search.Laws.{case_b, contra}
 use Rattle.numbers.specs.Tests.{and_true}
@@ -12,8 +12,6 @@ use Rattle.rules.specs.declared.Direction.TheVariants.{Out, In}
 use Rattle.rules.specs.declared.Act.{Act}
 use Rattle.rules.specs.declared.Act.TheVariants.{Tau, Meeting, New, Spawn, Assignment}
 use Rattle.offers.specs.Offer.{offer_of, offer_on, is_of}
-use Rattle.offers.specs.declared.Offer.{Offer}
-use Rattle.offers.specs.declared.Offer.TheVariants.{Nothing, Of}
 
 -- ---- directions
 
@@ -53,11 +51,11 @@ module _ (tb : Table) (row : List ℕ) (c r : ℕ) where
       (λ n. rw n (and_false (meets? (act_of tb r) d)))
 
   -- what was read as the offer is v
-  module _ (v : Offer) (e : v ≡ offer_on tb row c r) where
-    pub offer_nothing : v ≡ Nothing → (d : Direction) → offers_in tb row d c r ≡ false
+  module _ (v : Option Direction) (e : v ≡ offer_on tb row c r) where
+    pub offer_nothing : v ≡ None → (d : Direction) → offers_in tb row d c r ≡ false
     unfolding is_of
     offer_nothing f d = offers_in_lem d ∙ rw (← e, f)
 
-    pub offer_of_lem : (o d : Direction) → v ≡ Of o → offers_in tb row d c r ≡ same o d
+    pub offer_of_lem : (o d : Direction) → v ≡ Some o → offers_in tb row d c r ≡ same o d
     unfolding is_of
     offer_of_lem o d f = offers_in_lem d ∙ rw (← e, f)

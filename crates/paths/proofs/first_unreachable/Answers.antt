@@ -1,15 +1,8 @@
-use borrow.Author.Rules.{rules}
-use Rattle.numbers.specs.Search.Laws.{first_none, first_hit, first_more, first_all}
+use Rattle.std.proofs.Common.{rules, refl, ◌∙◌}
+use Rattle.numbers.specs.Search.Chains.{first_find}
+use Rattle.table.specs.Table.{table_of}
+use Rattle.flow.specs.Flow.{unreachable}
 use Rattle.paths.proofs.first_unreachable.Goals as goal
 
-pub loop-row-init : goal.loop-row-init
-loop-row-init c = (search rules, search first_none)
-
-pub returns-then-is_unreachable : goal.returns-then-is_unreachable
-returns-then-is_unreachable c = search first_hit
-
-pub loop-row-preserved : goal.loop-row-preserved
-loop-row-preserved c = (search rules, search first_more)
-
 pub returns : goal.returns
-returns c = search first_all
+returns c = c.unwrap_or.ensures ∙ first_find (unreachable (table_of c.args.table.now)) c.args.n refl _ _ c.find.result c.find.ensures.ran (λ x b q k. search rules)

@@ -2,24 +2,23 @@
 -- in one definition, the nodes that are left: that is `rank`, and a node comes before its choice and that before its branches. In the loop over the branches:
 -- those passed have this for the largest bound. Assumes nothing.
 use Rattle.std.proofs.Common.{◌≡◌, ◌+◌, ◌≤◌, length}
-use Rattle.table.specs.Table.{table_of}
 use Rattle.profile.specs.Profile.{largest, branch_bound}
 use Rattle.profile.specs.Finding.{capped, Kept, rank, definition_rank}
 use Rattle.profile.proofs.+bounds.Given as goal
 
 abbrev pub decreases-branch_bound : goal.decreases-branch_bound
-decreases-branch_bound l = rank (table_of l.table.now) l.n
+decreases-branch_bound l = rank l.table.now l.n
 
 abbrev pub decreases-choice_bound : goal.decreases-choice_bound
-decreases-choice_bound l = rank (table_of l.table.now) l.n + 1
+decreases-choice_bound l = rank l.table.now l.n + 1
 
 abbrev pub decreases-definition_bound : goal.decreases-definition_bound
-decreases-definition_bound l = definition_rank (table_of l.table.now) l.d
+decreases-definition_bound l = definition_rank l.table.now l.d
 
 abbrev pub decreases-node_bound : goal.decreases-node_bound
-decreases-node_bound l = rank (table_of l.table.now) l.n + 2
+decreases-node_bound l = rank l.table.now l.n + 2
 
 abbrev pub invariant-choice_bound-loop-i : goal.invariant-choice_bound-loop-i
 invariant-choice_bound-loop-i l =
-    (l.i ≤ l.count) × (length l.kept ≡ length l.initial.kept) × Kept (table_of l.table) l.kept
-    × (l.most ≡ capped (largest (branch_bound (table_of l.table) l.n) l.i))
+    (l.i ≤ l.count) × (length l.kept ≡ length l.initial.kept) × Kept l.table l.kept
+    × (l.most ≡ capped (largest (branch_bound l.table l.n) l.i))

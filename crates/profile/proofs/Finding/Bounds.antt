@@ -1,21 +1,18 @@
 -- The ways of the code that finds bounds, and what falls from one call to the next. Assumes nothing.
-use Rattle.std.specs.Prelude.{ℕ, ◌+◌, ◌≤◌, ◌<◌, max, ◌≡◌, Bool, true, false, not, List, ◌⊎◌, ltb, eqb, length, get_or, set, replicate}
+use Rattle.std.specs.Prelude.{ℕ, ◌+◌, ◌≤◌, ◌<◌, max, ◌≡◌, Bool, true, false, List, ◌⊎◌, ltb, eqb, length, get_or, set, replicate}
 use Rattle.std.proofs.Common.{arith, sym, ap, ◌∙◌, inl, inr, ⊎_elim, get_or-set_same, get_or-set_other}
 use Rattle.std.proofs.Math.Numerals.{add-one}
 use Rattle.std.proofs.Math.Path.{refl}
 use Rattle.std.proofs.Math.Seq.{set_out}
-use borrow.Author.Tests.{ltb-true, ltb-false, eq-eqb, ne_eqb, eqb-true, eqb-false, not-true, not-false}
-use Rattle.numbers.specs.Rows.{at}
+use borrow.Author.Tests.{ltb-true, ltb-false, eqb-true, eqb-false}
 use Rattle.numbers.specs.Search.Laws.{case_b}
 use Rattle.numbers.specs.Laid.Laws.{zeros_at}
-use Rattle.table.specs.Fields as Field
-use Rattle.table.specs.Table.{Table, max_nodes, definitions, nodes, node_row}
+use Rattle.table.specs.Table.{Table, max_nodes, definitions, nodes}
 use Rattle.table.specs.Layout.{start, branch_count, definition_of}
 use Rattle.table.specs.declared.Part.TheVariants.{Nodes}
 use Rattle.rules.specs.Program.{kind_of, callee, branch_at, next_of, child_of}
 use Rattle.profile.specs.Profile.{largest, is_spawn, node_bound, branch_bound, definition_bound}
 use Rattle.profile.specs.Equations.{Later, Rising, end_bound, own_call_bound, call_bound, choice_bound, spawn_bound, plain_bound}
-use Rattle.profile.specs.Finding.Calls.{node_cell}
 use Rattle.profile.specs.Finding.{above, capped, Kept, onward, rank, definition_rank}
 use Rattle.profile.specs.declared.Onward.{Onward}
 use Rattle.profile.specs.declared.Onward.TheVariants.{Nowhere, Definition, Branches}
@@ -31,40 +28,7 @@ pub capped_few : (x r : ℕ) → r ≡ capped x → r ≤ above
 unfolding capped
 capped_few x r e = omega arith
 
-pub capped_low : (s : ℕ) → s < above → s ≡ capped s
-unfolding capped
-capped_low s h = omega arith
-
-pub capped_high : (s : ℕ) → above ≤ s → above ≡ capped s
-unfolding capped
-capped_high s h = omega arith
-
 -- ---- what a bound rests on
-
-module _ (tb : Table) (n r v : ℕ) (a : r ≡ node_row tb) (e : v ≡ at tb (r + n) Field.node_kind) where
-  kind_is : v ≡ kind_of tb n
-  kind_is = node_cell tb n r Field.node_kind v a e
-
-  pub onward_choice : v ≡ 1 → Branches ≡ onward tb n
-  unfolding onward
-  onward_choice f = rw (← kind_is, f)
-
-  module _ (f : v ≡ 1 → ⊥) where
-    pub onward_end : (v ≡ 2 → ⊥) → Nowhere ≡ onward tb n
-    unfolding onward
-    onward_end g = rw (ne_eqb (kind_of tb n) 1 (λ q. f (kind_is ∙ q)), ne_eqb (kind_of tb n) 2 (λ q. g (kind_is ∙ q)))
-
-    module _ (g : v ≡ 2) (x d : ℕ) (k : x ≡ at tb (r + n) Field.callee) (b : d ≡ definition_of tb n) where
-      callee_is : x ≡ callee tb n
-      callee_is = node_cell tb n r Field.callee x a k
-
-      pub onward_own : x ≡ d → Nowhere ≡ onward tb n
-      unfolding onward
-      onward_own q = rw (← kind_is, g, ← callee_is, ← b, q, eq-eqb d d refl)
-
-      pub onward_call : (x ≡ d → ⊥) → Definition x ≡ onward tb n
-      unfolding onward
-      onward_call q = rw (← kind_is, g, ← callee_is, ← b, ne_eqb x d q)
 
 -- what it says of the bound of node n that it rests on this
 unfoldable Rests : Table → ℕ → Onward → Type 0
@@ -137,9 +101,9 @@ module _ (tb : Table) (g : Rising tb) (n : ℕ) (h : n < nodes tb) where
       pub next_inside : m < nodes tb
       next_inside = to_next.inside
 
-      module _ (k : ℕ) (c : k ≡ child_of tb n r) (s : Bool) (y : s ≡ is_spawn tb n i) (z : not s ≡ false) where
+      module _ (k : ℕ) (c : k ≡ child_of tb n r) (s : Bool) (y : s ≡ is_spawn tb n i) (z : s ≡ true) where
         is_spawn_lem : is_spawn tb n i ≡ true
-        is_spawn_lem = sym y ∙ not-false s z
+        is_spawn_lem = sym y ∙ z
 
         to_child : Later tb n k
         to_child = rw (c, b) (g.child n i h l is_spawn_lem)
@@ -166,16 +130,16 @@ module _ (tb : Table) (g : Rising tb) (n : ℕ) (h : n < nodes tb) where
   choice_end i c m e f a b = let q : i ≡ branch_count tb n = omega (arith, e) in rw q at f
 
 module _ (tb : Table) (n i r m : ℕ) (s : Bool) where
-  pub plain_found : (x : ℕ) → x ≡ capped (node_bound tb m) → m ≡ next_of tb n r → r ≡ branch_at tb n i → s ≡ is_spawn tb n i → not s ≡ true
+  pub plain_found : (x : ℕ) → x ≡ capped (node_bound tb m) → m ≡ next_of tb n r → r ≡ branch_at tb n i → s ≡ is_spawn tb n i → s ≡ false
       → x ≡ capped (branch_bound tb n i)
   plain_found x f e b y z =
-      let j : node_bound tb m ≡ branch_bound tb n i = rw (e, b) (sym (plain_bound tb n i (sym y ∙ not-true s z))) in
+      let j : node_bound tb m ≡ branch_bound tb n i = rw (e, b) (sym (plain_bound tb n i (sym y ∙ z))) in
       f ∙ ap capped j
 
   pub spawn_found : (k u v x : ℕ) → x ≡ capped (u + v) → u ≡ capped (node_bound tb m) → v ≡ capped (node_bound tb k)
-      → m ≡ next_of tb n r → k ≡ child_of tb n r → r ≡ branch_at tb n i → s ≡ is_spawn tb n i → not s ≡ false → x ≡ capped (branch_bound tb n i)
+      → m ≡ next_of tb n r → k ≡ child_of tb n r → r ≡ branch_at tb n i → s ≡ is_spawn tb n i → s ≡ true → x ≡ capped (branch_bound tb n i)
   spawn_found k u v x w p q e c b y z =
-      let j : node_bound tb m + node_bound tb k ≡ branch_bound tb n i = rw (e, c, b) (sym (spawn_bound tb n i (sym y ∙ not-false s z))) in
+      let j : node_bound tb m + node_bound tb k ≡ branch_bound tb n i = rw (e, c, b) (sym (spawn_bound tb n i (sym y ∙ z))) in
       w ∙ rw (p, q) (capped_through (node_bound tb m) (node_bound tb k)).0 ∙ ap capped j
 
 -- ---- a definition

@@ -2,9 +2,8 @@
 use Prim.Native.Nat.{◌≤◌}
 use mathlib.Core.Path.{◌≡◌}
 use lib.ListN.{length}
-use Rattle.table.specs.Table.{table_of}
 use Rattle.profile.specs.Finding.{Spawning}
 use Rattle.profile.proofs.mark_spawns.Given as goal
 
 abbrev pub invariant-loop-n : goal.invariant-loop-n
-invariant-loop-n l = (l.n ≤ l.count) × (length l.spawning ≡ length l.initial.spawning) × Spawning (table_of l.table) l.n l.spawning
+invariant-loop-n l = (l.n ≤ l.count) × (length l.spawning ≡ length l.initial.spawning) × Spawning l.table l.n l.spawning

@@ -1,15 +1,10 @@
-use Rattle.profile.specs.Finding.Calls.{spawns_none, spawns_more, spawns_found, spawns_end}
-use borrow.Author.Rules.{rules}
+use Rattle.std.proofs.Common.{rules, refl}
+use Rattle.numbers.specs.Search.Chains.{some_any}
+use Rattle.profile.specs.Profile.{is_spawn, node_spawns}
 use Rattle.profile.proofs.node_spawns.Goals as goal
 
-pub loop-i-init : goal.loop-i-init
-loop-i-init c = (search rules, search spawns_none)
-
-pub returns-then-is_spawn : goal.returns-then-is_spawn
-returns-then-is_spawn c = search spawns_found
-
-pub loop-i-preserved : goal.loop-i-preserved
-loop-i-preserved c = (search rules, search spawns_more)
-
 pub returns : goal.returns
-returns c = search spawns_end
+unfolding node_spawns
+returns c =
+    rw (← c.branch_count-count.ensures.value)
+    (some_any (is_spawn c.args.table.now c.args.n) c.branch_count-count.result refl _ _ c.any.result c.any.ensures.ran (λ x b q k. search rules))

@@ -16,8 +16,7 @@ use Rattle.numbers.specs.Laid.Laws.{zeros_at}
 use Rattle.table.specs.Fields as Field
 use Rattle.table.specs.Table.{Table, max_definitions, nodes, node_row}
 use Rattle.table.specs.Layout.{branch_count, definition_of}
-use Rattle.table.specs.Form.Laws.{header_counts}
-use Rattle.table.specs.Index.{Indexed}
+use Rattle.table.specs.Form.Laws.{Counts}
 use Rattle.rules.specs.Program.{kind_of, callee, branch_at}
 use Rattle.rules_laws.specs.Granted.{Granted}
 use Rattle.profile.specs.Profile.{is_spawn, node_spawns, spawns_in, has_spawn, call_allowed, node_allowed, calls_allowed}
@@ -127,11 +126,10 @@ module _ (tb : Table) (n r v : ℕ) (a : r ≡ node_row tb) (e : v ≡ at tb (r 
     allowed_later l = rw (to_call, lt-ltb d x l)
 
     module _ (low : x ≤ d) where
-      pub allowed_own : (l : List ℕ) (m : ℕ) → m ≡ get_or l d 0 → x ≡ d → (i : List ℕ) → Indexed tb i → Granted tb → Spawning tb (nodes tb) l → n < nodes tb
-          → eqb m 0 ≡ node_allowed tb n
+      pub allowed_own : (l : List ℕ) (m : ℕ) → m ≡ get_or l d 0 → x ≡ d → Counts tb → Granted tb → Spawning tb (nodes tb) l → n < nodes tb → eqb m 0 ≡ node_allowed tb n
       unfolding call_allowed has_spawn
-      allowed_own l m q w i o g s h =
-          let few : d < max_definitions = omega (arith, b, g.definition_in n h, (header_counts tb o.counts).few_definitions) in
+      allowed_own l m q w o g s h =
+          let few : d < max_definitions = omega (arith, b, g.definition_in n h, o.few_definitions) in
           rw (to_call, le-ltb d x low, w, eq-eqb d d refl, q, s.marks d few) (no_bit _)
 
       pub allowed_lower : (x ≡ d → ⊥) → false ≡ node_allowed tb n

@@ -1,16 +1,8 @@
-use borrow.Author.Rules.{rules}
-use Rattle.numbers.specs.Search.Laws.{first_none, first_all}
-use Rattle.ranges.proofs.Answers.{out_hit, out_more}
+use Rattle.std.proofs.Common.{rules, refl, ◌∙◌}
+use Rattle.numbers.specs.Search.Chains.{first_find}
+use Rattle.ranges.specs.Ranges.{out_of_range}
 use Rattle.ranges.proofs.first_out_of_range.Goals as goal
 
-pub loop-row-init : goal.loop-row-init
-loop-row-init c = (search rules, search first_none)
-
-pub returns-then-not-row_in_range : goal.returns-then-not-row_in_range
-returns-then-not-row_in_range c = search out_hit
-
-pub loop-row-preserved : goal.loop-row-preserved
-loop-row-preserved c = (search rules, search out_more)
-
 pub returns : goal.returns
-returns c = search first_all
+unfolding out_of_range
+returns c = c.unwrap_or.ensures ∙ first_find (out_of_range c.args.table.now) c.args.n refl _ _ c.find.result c.find.ensures.ran (λ x b q k. search rules)

@@ -2,7 +2,6 @@
 use Prim.Native.Nat.{◌≤◌}
 use mathlib.Core.Path.{◌≡◌}
 use lib.ListN.{length}
-use Rattle.table.specs.Table.{table_of}
 use Rattle.state.specs.State.{state_of, thread, max_channels}
 use Rattle.holding.specs.Own.{own_of}
 use Rattle.recount.specs.Tally.{added_to, Passed}
@@ -11,6 +10,6 @@ use Rattle.recount.proofs.tally_row.Given as goal
 abbrev pub invariant-loop-k : goal.invariant-loop-k
 invariant-loop-k l =
     (l.k ≤ l.n) × (length l.held ≡ max_channels) × (length l.waiting ≡ max_channels)
-    × (l.held ≡ added_to (own_of (table_of l.table) (thread (state_of l.state) l.t)) 1 l.initial.held l.k)
-    × (l.waiting ≡ added_to (own_of (table_of l.table) (thread (state_of l.state) l.t)) l.w l.initial.waiting l.k)
-    × Passed (table_of l.table) (thread (state_of l.state) l.t) l.t l.k l.stamps
+    × (l.held ≡ added_to (own_of l.table (thread (state_of l.state) l.t)) 1 l.initial.held l.k)
+    × (l.waiting ≡ added_to (own_of l.table (thread (state_of l.state) l.t)) l.w l.initial.waiting l.k)
+    × Passed l.table (thread (state_of l.state) l.t) l.t l.k l.stamps

@@ -1,6 +1,6 @@
 -- A thread waits rightly exactly where its move would be to wait: each of its branches with a true guard is then a meeting that no other thread
 -- answers. Assumes nothing.
-use Rattle.std.specs.Prelude.{ℕ, ◌<◌, ◌≡◌, refl, false, ◌&&◌, ◌≢◌, eqb}
+use Rattle.std.specs.Prelude.{ℕ, ◌<◌, ◌≡◌, refl, false, ◌&&◌, ◌≢◌, eqb, None}
 use Rattle.std.proofs.Common.{arith, sym}
 use Rattle.std.proofs.Math.Bool.{true, not}
 use borrow.Author.Tests.{le-ltb, eqb-true, eqb-false, eq-eqb, not-true}
@@ -16,7 +16,6 @@ use Rattle.rules.specs.Moves.{meeting, goes_ahead, act_move, branch_move, ahead,
 use Rattle.rules.specs.Sound.{waits_rightly}
 use Rattle.rules.specs.declared.Direction.{Direction}
 use Rattle.rules.specs.declared.Act.TheVariants.{Meeting}
-use Rattle.rules.specs.declared.Partner.TheVariants.{Nobody}
 use Rattle.rules.specs.declared.Move.TheVariants.{Waits}
 use Rattle.rules_laws.specs.Reading.Laws.{offers_elim, offers_intro}
 use Rattle.rules_laws.specs.Chosen.{channel_by, Open, Blocked, Chosen, chosen}
@@ -31,7 +30,7 @@ module _ (tb : Table) (s : State) (t : ℕ) (d : Direction) (c : ℕ) where
   none_answers h u l =
       case_b (eqb u t) (λ e. rw e) (λ f. rw (f, h u l (eqb-false u t f)))
 
-  no_partner : ((u : ℕ) → u < max_threads → u ≢ t → offers tb (thread s u) d c ≡ false) → partner_of tb s t d c ≡ Nobody
+  no_partner : ((u : ℕ) → u < max_threads → u ≢ t → offers tb (thread s u) d c ≡ false) → partner_of tb s t d c ≡ None
   unfolding partner_of answering
   no_partner h = rw (first_void (answers tb s t d c) max_threads (none_answers h))
 
@@ -62,7 +61,7 @@ module _ (tb : Table) (s : State) (t : ℕ) where
 
   meeting_stays : (i : ℕ) (d : Direction) → guard_holds tb (branch_at tb (stands_at (thread s t)) i) (thread s t) ≡ true
       → act_of tb (branch_at tb (stands_at (thread s t)) i) ≡ Meeting d
-      → partner_of tb s t (opposite d) (channel_by tb s t i) ≡ Nobody → ahead tb s t i ≡ false
+      → partner_of tb s t (opposite d) (channel_by tb s t i) ≡ None → ahead tb s t i ≡ false
   unfolding ahead branch_move act_move meeting goes_ahead
   meeting_stays i d g e n = rw (g, e, n)
 

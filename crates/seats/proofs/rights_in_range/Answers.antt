@@ -1,16 +1,8 @@
-use borrow.Author.Rules.{rules}
-use Rattle.numbers.specs.Search.Laws.{every_none}
-use Rattle.seats.proofs.Ways.{number_outside, number_inside, all_inside}
+use Rattle.std.proofs.Common.{rules, refl}
+use Rattle.numbers.specs.Search.Chains.{every_all}
+use Rattle.rules.specs.Seats.{rights_numbers, right_in_range, rights_in_range}
 use Rattle.seats.proofs.rights_in_range.Goals as goal
 
-pub loop-i-init : goal.loop-i-init
-loop-i-init c = (search rules, search every_none)
-
-pub returns-then-word_at-gt3 : goal.returns-then-word_at-gt3
-returns-then-word_at-gt3 c = search number_outside
-
-pub loop-i-preserved : goal.loop-i-preserved
-loop-i-preserved c = (search rules, search number_inside)
-
 pub returns : goal.returns
-returns c = search all_inside
+unfolding rights_in_range right_in_range
+returns c = every_all (right_in_range c.args.rights.now) rights_numbers refl _ _ c.all.result c.all.ensures.ran (λ x b q k. search rules)

@@ -1,15 +1,10 @@
-use borrow.Author.Rules.{rules}
-use Rattle.numbers.specs.Search.Laws.{every_none, every_passed, every_failed, every_all}
+use Rattle.std.proofs.Common.{rules, refl}
+use Rattle.numbers.specs.Search.Chains.{every_all}
+use Rattle.table.specs.Table.{table_of}
+use Rattle.state.specs.State.{state_of, max_channels}
+use Rattle.rules.specs.Sound.{count_true}
 use Rattle.sound.proofs.counts_sound.Goals as goal
 
-pub loop-c-init : goal.loop-c-init
-loop-c-init c = (search rules, search every_none)
-
-pub returns-then-not-channel_sound : goal.returns-then-not-channel_sound
-returns-then-not-channel_sound c = search every_failed
-
-pub loop-c-preserved : goal.loop-c-preserved
-loop-c-preserved c = (search rules, search every_passed)
-
 pub returns : goal.returns
-returns c = search every_all
+returns c =
+    every_all (count_true c.args.table.now (state_of c.args.state.now)) max_channels refl _ _ c.all.result c.all.ensures.ran (λ x b q k. search rules)

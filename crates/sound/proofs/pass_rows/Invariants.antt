@@ -12,7 +12,7 @@ use Rattle.sound.proofs.pass_rows.Given as goal
 
 abbrev pub invariant-loop-t : goal.invariant-loop-t
 invariant-loop-t l =
-    (l.t ≤ max_threads) × (l.passed ≡ every (λ t. row_sound (table_of l.table) (state_of l.state) (thread (state_of l.state) t)) l.t)
+    (l.t ≤ max_threads) × (l.passed ≡ every (λ t. row_sound l.table (state_of l.state) (thread (state_of l.state) t)) l.t)
     × (length l.held ≡ max_channels) × (length l.waiting ≡ max_channels) × Fresh l.t l.stamps
-    × (l.held ≡ added_below (table_of l.table) (λ row. true) (state_of l.state).threads l.initial.held l.t)
-    × (l.waiting ≡ added_below (table_of l.table) (λ row. is_waiting row) (state_of l.state).threads l.initial.waiting l.t)
+    × (l.held ≡ added_below l.table (λ row. true) (state_of l.state).threads l.initial.held l.t)
+    × (l.waiting ≡ added_below l.table (λ row. is_waiting row) (state_of l.state).threads l.initial.waiting l.t)

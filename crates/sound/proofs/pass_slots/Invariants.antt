@@ -13,8 +13,8 @@ use Rattle.sound.proofs.pass_slots.Given as goal
 
 abbrev pub invariant-loop-k : goal.invariant-loop-k
 invariant-loop-k l =
-    (l.k ≤ l.count) × (l.passed ≡ every (slot_sound (table_of l.table) (state_of l.state) (thread (state_of l.state) l.t)) l.k)
+    (l.k ≤ l.count) × (l.passed ≡ every (slot_sound l.table (state_of l.state) (thread (state_of l.state) l.t)) l.k)
     × (length l.held ≡ max_channels) × (length l.waiting ≡ max_channels)
-    × (l.held ≡ added_to (own_of (table_of l.table) (thread (state_of l.state) l.t)) 1 l.initial.held l.k)
-    × (l.waiting ≡ added_to (own_of (table_of l.table) (thread (state_of l.state) l.t)) l.w l.initial.waiting l.k)
-    × Passed (table_of l.table) (thread (state_of l.state) l.t) l.t l.k l.stamps
+    × (l.held ≡ added_to (own_of l.table (thread (state_of l.state) l.t)) 1 l.initial.held l.k)
+    × (l.waiting ≡ added_to (own_of l.table (thread (state_of l.state) l.t)) l.w l.initial.waiting l.k)
+    × Passed l.table (thread (state_of l.state) l.t) l.t l.k l.stamps

@@ -1,16 +1,13 @@
-use borrow.Author.Rules.{rules}
-use Rattle.numbers.specs.Search.Laws.{every_none}
-use Rattle.sound.proofs.Ways.{port_typed_lem, port_untyped, ports_typed_lem}
+use Rattle.std.proofs.Common.{rules, refl, ◌∙◌, ap}
+use Rattle.numbers.specs.Search.{every}
+use Rattle.numbers.specs.Search.Chains.{every_all}
+use Rattle.table.specs.Table.{table_of}
+use Rattle.state.specs.State.{state_of}
+use Rattle.rules.specs.Sound.{port_typed}
 use Rattle.sound.proofs.ports_sound.Goals as goal
 
-pub loop-c-init : goal.loop-c-init
-loop-c-init c = (search rules, search every_none)
-
-pub returns-then-channel_word-ne-PORT_TYPE : goal.returns-then-channel_word-ne-PORT_TYPE
-returns-then-channel_word-ne-PORT_TYPE c = search port_untyped
-
-pub loop-c-preserved : goal.loop-c-preserved
-loop-c-preserved c = (search rules, search port_typed_lem)
-
 pub returns : goal.returns
-returns c = search ports_typed_lem
+unfolding port_typed
+returns c =
+    every_all (port_typed c.args.table.now (state_of c.args.state.now)) c.cell-n.result refl _ _ c.all.result c.all.ensures.ran (λ x b q k. search rules)
+    ∙ ap (every (port_typed c.args.table.now (state_of c.args.state.now))) (search rules)

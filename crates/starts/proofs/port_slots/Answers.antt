@@ -6,7 +6,7 @@ pub loop-k-init : goal.loop-k-init
 loop-k-init c = (search rules, search slots_none)
 
 pub loop-k-preserved : goal.loop-k-preserved
-loop-k-preserved c = (search rules, slots_more _ c.loop-k.slots _ _ c.port_slot.result c.put_cell.ensures (search) (search) (search rules))
+loop-k-preserved c = (search rules, search slots_more fits 5000)
 
 pub returns : goal.returns
 returns c = search slots_done

@@ -1,4 +1,4 @@
--- `state::write` meets its contract. No buffer has another length, and the branch of one is absurd. The loop: the words below i have been written. Assumes nothing.
+-- `state::write` meets its contract. The loop: the words below i have been written. Assumes nothing.
 use Prim.Native.Nat.{ℕ, ◌≤◌}
 use mathlib.Core.Path.{◌≡◌}
 use lib.ListN.{length, get_or}

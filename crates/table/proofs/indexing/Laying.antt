@@ -2,13 +2,24 @@
 use Prim.Native.Nat.{ℕ, suc, ◌+◌, ◌-◌, ◌≤◌, ◌<◌}
 use native.Mathlib.Omega.{arith}
 use native.Mathlib.Numerals.{add-one}
-use mathlib.Core.Path.{◌≡◌, refl, sym, ◌∙◌}
+use mathlib.Core.Path.{◌≡◌, sym, ◌∙◌}
 use mathlib.Core.Bool.{true, false}
 use mathlib.Core.List.{List}
 use lib.ListN.{get_or, set, replicate}
-use borrow.Author.Tests.{lt-ltb, le-ltb, ltb-false}
+use borrow.Author.Tests.{lt-ltb, le-ltb, ltb-true, ltb-false}
 use Rattle.numbers.specs.Search.{first, sum_to}
-use Rattle.numbers.specs.Search.Laws.{first_none, first_more, first_hit, first_void, first_below, first_le, sum_none, sum_more}
+use Rattle.numbers.specs.Search.Laws.{case_b, first_none, first_void, first_is, first_below, first_le, sum_none, sum_more}
+use Rattle.std.specs.Prelude.{Bool, ltb, Option, Some, None}
+use Rattle.std.specs.Bool.{⊤}
+use Rattle.std.specs.Fn.{CalledAt}
+use Rattle.std.specs.Iterator.{YieldsThen}
+use Rattle.std.specs.List.{FoldsTo}
+use Rattle.std.specs.Option.{MatchOption, unwrap_or}
+use Rattle.std.specs.declared.ops.Range.{Range}
+use Rattle.std.proofs.iter.Yields.{nat_range_steps}
+use Rattle.std.proofs.lemmas.Iterator.{first_from_Range}
+use denote.Param.Members.{Mut}
+use denote.Ref.{Bor}
 use Rattle.table.specs.Table.{Table, definition_row, slot_row, node_row, branch_row}
 use Rattle.table.specs.Layout.{blocks, lines, size, start, owner, ends_past}
 use Rattle.table.specs.Form.{header_in_range}
@@ -76,20 +87,34 @@ module _ (tb : Table) (p : Part) where
 
     -- ---- a block that ends past x
 
-    module _ (l : List ℕ) (g : Starts tb p l) (n i s x : ℕ) (b : n ≡ blocks tb p) (k : i < n) (e : s ≡ get_or l (starts_from p + (i + 1)) 0) where
-      ends : s ≡ start tb p (suc i)
-      ends = e ∙ g (i + 1) (omega (arith, starts_fit tb (header_counts tb h) p)) ∙ rw (add-one i)
+    module _ (l : List ℕ) (g : Starts tb p l) (from n x : ℕ) (b : n ≡ blocks tb p) (k : first (ends_past tb p x) from ≡ from) where
+      -- the test by the index
+      abbrev ends_in : ℕ → Bool
+      ends_in i = ltb x (get_or l (starts_from p + (i + 1)) 0)
 
-      pub seek_hit : first (ends_past tb p x) i ≡ i → x < s → i ≡ first (ends_past tb p x) (blocks tb p)
+      test_is : (i : ℕ) → i < n → ends_past tb p x i ≡ ends_in i
       unfolding ends_past
-      seek_hit f m = first_hit (ends_past tb p x) i (blocks tb p) true f (sym (rw (← ends) (lt-ltb x s m))) refl (omega arith)
+      test_is i m = sym (rw (g (i + 1) (omega (arith, starts_fit tb (header_counts tb h) p)), add-one i))
 
-      pub seek_more : first (ends_past tb p x) i ≡ i → s ≤ x → first (ends_past tb p x) (i + 1) ≡ i + 1
-      unfolding ends_past
-      seek_more f m = first_more (ends_past tb p x) i false f (sym (rw (← ends) (le-ltb x s m))) refl
+      -- no block below i ends past x
+      none_below : (i : ℕ) → i ≤ n → ((j : ℕ) → from ≤ j → j < i → ends_in j ≡ false) → (j : ℕ) → j < i → ends_past tb p x j ≡ false
+      none_below i m f j e =
+          case_b (ltb j from)
+          (λ t. first_below (ends_past tb p x) from j (rw k (ltb-true j from t)))
+          (λ w. test_is j (omega arith) ∙ f j (ltb-false j from w) e)
 
-    pub seek_all : (n i x : ℕ) → n ≡ blocks tb p → i ≤ n → n ≤ i → first (ends_past tb p x) i ≡ i → i ≡ first (ends_past tb p x) (blocks tb p)
-    seek_all n i x b j k f = let q : blocks tb p ≡ i = omega arith in rw q (sym f)
+      found : (r : Option ℕ)
+          → MatchOption r ((j : ℕ) → from ≤ j → j < n → ends_in j ≡ false) (λ i. (from ≤ i) × (i < n) × (ends_in i ≡ true) × ((j : ℕ) → from ≤ j → j < i → ends_in j ≡ false))
+          → unwrap_or r n ≡ first (ends_past tb p x) (blocks tb p)
+      found None f = rw (← b) (sym (first_void (ends_past tb p x) n (none_below n (omega arith) f)))
+      found (Some i) (z, m, t, f) = rw (← b) (sym (first_is (ends_past tb p x) n i m (test_is i m ∙ t) (none_below i (omega arith) f)))
+
+      pub seek_found : {F : Type 0} {g : Mut F (Bor ℕ × Unit {0}) Bool} {s : Range ℕ} (e : s ≡ record { start = from; end = n }) (u : Range ℕ) (f : F) (r : Option ℕ)
+          → (xs : List ℕ) × (j : F) × YieldsThen nat_range_steps s xs r u × FoldsTo (λ p x q. CalledAt g p x false q) f xs j × MatchOption r ⊤ (λ x. (h : F) × CalledAt g j x true h)
+          → ((x : ℕ) (b : Bool) (q : F) → CalledAt g f x b q → (q ≡ f) × (b ≡ ends_in x)) → unwrap_or r n ≡ first (ends_past tb p x) (blocks tb p)
+      seek_found {s = s} e u f r ran h =
+          found r
+          (rw e at (first_from_Range s u f r (λ x. ends_in x ≡ true) (λ x. ends_in x ≡ false) ran (λ x q k. sym (h x true q k).1) (λ x q k. ((h x false q k).0, sym (h x false q k).1))))
 
     -- ---- the owners of a part
 
@@ -149,3 +174,7 @@ index_none tb l e = e ∙ sym (laid_none (entry tb) index_length)
 pub index_whole : (tb : Table) (l : List ℕ) → l ≡ laid (entry tb) index_length index_length → l ≡ index_of tb
 unfolding index_of
 index_whole tb l e = e ∙ laid_all (entry tb) index_length
+
+pub ruleset starts_laid = (sizes_none, sizes_more, starts_none, starts_all)
+
+pub ruleset owners_laid = (starts_there, owners_start, owners_none, owners_below, owners_next, owners_all)

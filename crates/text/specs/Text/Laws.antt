@@ -5,7 +5,7 @@ use Prim.Native.Nat.{ℕ, zero, suc, ◌+◌, ◌-◌, ◌*◌, ◌/◌, ◌%◌
 use native.Mathlib.Omega.{arith}
 use Rattle.std.proofs.Common.{zero-mul, add-one, ◌∙◌, drop_of_length-le, length-take, take-append-drop, length-take-le, take-suc, take_all, take_at, drop-drop, take-take, get_or-drop, get_or-take}
 use Rattle.std.proofs.Math.Path.{◌≡◌, refl, sym, ap}
-use Rattle.std.specs.Prelude.{Bool, ltb, eqb, get_or, set, replicate}
+use Rattle.std.specs.Prelude.{Bool, ltb, eqb, get_or, set, replicate, None, Option, Some}
 use Rattle.std.proofs.Math.Bool.{true, false}
 use mathlib.Core.List.{List, [], ◌∷◌, ◌++◌, map, map-append}
 use Rattle.std.proofs.Math.ListN.{length, take, drop, length-append, length-replicate, length-drop}
@@ -17,8 +17,6 @@ use Rattle.numbers.specs.Tests.{clash}
 use Rattle.numbers.specs.Bytes.{joined}
 use Rattle.numbers.specs.Bytes.Laws.{sets_append, joined_snoc}
 use Rattle.numbers.specs.Rows.{at}
-use Rattle.text.specs.declared.Reading.{Reading}
-use Rattle.text.specs.declared.Reading.TheVariants.{Value, Wrong}
 use Rattle.text.specs.Text.{figures_by, figures, negative, size, signed, numeral, right_justified, text, line_text, file_text, line_length, field_of, figure_of, size_from, has_minus, pattern_in, same, read_number}
 
 -- ---- figures
@@ -188,31 +186,31 @@ unfolding pattern_in
 pattern_fits f = omega arith
 
 -- the text of a number is read as it
-pub reads_text : (v : ℕ) → v < 65536 → read_number (text v) ≡ Value v
+pub reads_text : (v : ℕ) → v < 65536 → read_number (text v) ≡ Some v
 unfolding read_number
 reads_text v h = rw (pattern_text v h, same_self (text v))
 
 module _ (f : List ℕ) (v : ℕ) where
   -- what is read as a number is its text
-  pub reads_value : read_number f ≡ Value v → (v < 65536) × (f ≡ text v)
+  pub reads_value : read_number f ≡ Some v → (v < 65536) × (f ≡ text v)
   unfolding read_number
   reads_value h =
       case_b (same f (text (pattern_in f)))
-      (λ t. let e : ◌≡◌ {A = Reading} (Value (pattern_in f)) (Value v) = rw t at h in
+      (λ t. let e : ◌≡◌ {A = Option ℕ} (Some (pattern_in f)) (Some v) = rw t at h in
       let p : pattern_in f ≡ v = cc in
       (rw p at (pattern_fits f), rw p at (same_true f (text (pattern_in f)) t)))
-      (λ n. let e : ◌≡◌ {A = Reading} Wrong (Value v) = rw n at h in clash cc)
+      (λ n. let e : ◌≡◌ {A = Option ℕ} None (Some v) = rw n at h in clash cc)
 
-  pub text_reads : v < 65536 → f ≡ text v → read_number f ≡ Value v
+  pub text_reads : v < 65536 → f ≡ text v → read_number f ≡ Some v
   text_reads h e = rw e (reads_text v h)
 
 module _ (f : List ℕ) where
   -- what is wrong is the text of no number
-  pub reads_wrong : read_number f ≡ Wrong → (v : ℕ) → v < 65536 → f ≡ text v → ⊥
+  pub reads_wrong : read_number f ≡ None → (v : ℕ) → v < 65536 → f ≡ text v → ⊥
   reads_wrong h v l e = let k = text_reads f v l e in clash cc
 
   -- a field that is the text of no number is read as wrong
-  pub wrong_reads : ((v : ℕ) → v < 65536 → f ≡ text v → ⊥) → read_number f ≡ Wrong
+  pub wrong_reads : ((v : ℕ) → v < 65536 → f ≡ text v → ⊥) → read_number f ≡ None
   unfolding read_number
   wrong_reads h =
       case_b (same f (text (pattern_in f)))
@@ -323,7 +321,7 @@ module _ (row : List ℕ) (twelve : length row ≡ 12) where
       front j k = rw (part_of_front (j * 6) 6 72 b (omega arith)) (h j (omega arith))
 
   -- a line whose fields are read as the numbers of a row is the text of the row
-  pub line_reads : (b : List ℕ) → length b ≡ line_length → ((j : ℕ) → j < 12 → read_number (take 6 (drop (j * 6) b)) ≡ Value (get_or row j 0)) → get_or b 72 0 ≡ 10
+  pub line_reads : (b : List ℕ) → length b ≡ line_length → ((j : ℕ) → j < 12 → read_number (take 6 (drop (j * 6) b)) ≡ Some (get_or row j 0)) → get_or b 72 0 ≡ 10
       → b ≡ line_text row
   line_reads b e h n = line_is b e (λ j k. (reads_value (take 6 (drop (j * 6) b)) (get_or row j 0) (h j k)).1) n
 
@@ -364,14 +362,14 @@ module _ (rs : List (List ℕ)) (twelve : (i : ℕ) → i < length rs → length
   file_field i j h k = sym (field_in_line (file_text rs) i j k) ∙ rw (file_line i h) (line_field (get_or rs i []) (twelve i h) j k)
 
   -- the fields of a file are read as its numbers
-  pub prints_read : (i j : ℕ) → i < length rs → j < 12 → at rs i j < 65536 → read_number (field_of (file_text rs) i j) ≡ Value (at rs i j)
+  pub prints_read : (i j : ℕ) → i < length rs → j < 12 → at rs i j < 65536 → read_number (field_of (file_text rs) i j) ≡ Some (at rs i j)
   prints_read i j h k l = rw (file_field i j h k) (reads_text (at rs i j) l)
 
   pub prints_end : (i : ℕ) → i < length rs → get_or (file_text rs) (i * line_length + 72) 0 ≡ 10
   prints_end i h = sym (end_in_line (file_text rs) i) ∙ rw (file_line i h) (line_end (get_or rs i []) (twelve i h))
 
   -- a file whose fields are read as the rows' numbers is the rows' print
-  pub read_prints : (b : List ℕ) → length b ≡ length rs * line_length → ((i j : ℕ) → i < length rs → j < 12 → read_number (field_of b i j) ≡ Value (at rs i j))
+  pub read_prints : (b : List ℕ) → length b ≡ length rs * line_length → ((i j : ℕ) → i < length rs → j < 12 → read_number (field_of b i j) ≡ Some (at rs i j))
       → ((i : ℕ) → i < length rs → get_or b (i * line_length + 72) 0 ≡ 10) → b ≡ file_text rs
   read_prints b e h n = file_is rs b e line
     where

@@ -5,5 +5,5 @@ use Rattle.state.specs.State.{row_slots}
 use Rattle.threads.specs.Looking.{raised_to}
 use Rattle.threads.proofs.mark_held.Given as goal
 
-abbrev pub invariant-loop-i : goal.invariant-loop-i
-invariant-loop-i l = (l.i ≤ row_slots) × (l.marks ≡ raised_to l.initial.marks l.list l.i)
+abbrev pub invariant-loop-c : goal.invariant-loop-c
+invariant-loop-c l = (l.c-index ≤ row_slots) × (l.marks ≡ raised_to l.initial.marks l.c-items l.c-index)

@@ -1,18 +1,19 @@
 use borrow.Author.Rules.{rules}
-use Rattle.threads.proofs.Ways.{not_waiting, none_reaches, offers_here, none_more, offers_none}
+use mathlib.Core.Path.{◌≡◌, refl}
+use Rattle.numbers.specs.Search.{some}
+use Rattle.numbers.specs.Search.Chains.{some_any}
+use Rattle.table.specs.Table.{table_of}
+use Rattle.state.specs.State.{state_of, thread}
+use Rattle.threads.specs.Looking.{reaches_at}
+use Rattle.threads.proofs.Ways.{not_waiting, offers_here}
 use Rattle.threads.proofs.offers_marked.Goals as goal
 
 pub returns-then-status_of-ne-WAITING : goal.returns-then-status_of-ne-WAITING
 returns-then-status_of-ne-WAITING c = search not_waiting
 
-pub loop-i-init : goal.loop-i-init
-loop-i-init c = search (none_reaches, rules)
-
-pub returns-then-reaches_by : goal.returns-then-reaches_by
-returns-then-reaches_by c = search offers_here
-
-pub loop-i-preserved : goal.loop-i-preserved
-loop-i-preserved c = search (none_more, rules)
-
 pub returns : goal.returns
-returns c = search offers_none
+unfolding reaches_at
+returns c =
+    let p = reaches_at c.args.table.now (thread (state_of c.args.words.now) c.args.t) c.args.marks.now in
+    let h : c.any.result ≡ some p c.branch_count-n.result = some_any p _ refl _ _ c.any.result c.any.ensures.ran (λ x b q k. search rules) in
+    search (offers_here, rules)

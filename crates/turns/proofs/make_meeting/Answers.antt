@@ -14,7 +14,7 @@ returns-then-gives_number c = search number_keeps
 pub write_meeting-requires-clause-distinct : goal.write_meeting-requires-clause-distinct
 write_meeting-requires-clause-distinct c = search meet_other
 
-pub returns : goal.returns
-returns c =
+pub returns-else-gives_number : goal.returns-else-gives_number
+returns-else-gives_number c =
     meeting_made _ _ _ _ _ _ _ _ _ _ c.settle_two.ensures _ _ (search) (search) (search) (search) (search) _ _ c.gives_number.ensures (search) (search)
     c.requires.counted c.requires.can_meet.thread_in c.requires.can_meet.partner_in c.requires.can_meet.other

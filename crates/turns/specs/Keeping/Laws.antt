@@ -1,6 +1,7 @@
 -- Where the rows that a move writes hold what they held, no count of holders is to be moved, and counts of waiting holders only for one row: this is so after
 -- a tau, an assignment, a wait, and a meeting at which a number is given. Assumes nothing but what the table grants.
-use Rattle.std.specs.Prelude.{ℕ, ◌<◌, ◌≡◌, ◌⊎◌, ◌≢◌, List, Bool, true}
+use Rattle.rules.specs.Answers.{Partner}
+use Rattle.std.specs.Prelude.{ℕ, ◌<◌, ◌≡◌, ◌⊎◌, ◌≢◌, List, Bool, true, Some}
 use Rattle.std.proofs.Math.Path.{refl, sym, ap}
 use Rattle.std.proofs.Common.{◌∙◌, inl, inr, eqb-true}
 use Rattle.std.proofs.Math.ListN.{length}
@@ -17,8 +18,6 @@ use Rattle.rules.specs.Moves.{waiting_row, gone, side_of, row_of, gone_by, met_b
 use Rattle.rules.specs.Calls.{bench}
 use Rattle.rules.specs.declared.Direction.{Direction}
 use Rattle.rules.specs.declared.Act.TheVariants.{Tau, Assignment}
-use Rattle.rules.specs.declared.Partner.{Partner}
-use Rattle.rules.specs.declared.Partner.TheVariants.{At}
 use Rattle.rules.specs.declared.Move.{Move}
 use Rattle.rules.specs.declared.Move.TheVariants.{Calls, Waits, Goes, Spawns, Meets}
 use Rattle.call_rows.specs.CalledRow.{call_keeps}
@@ -158,11 +157,11 @@ module _ (tb : Table) (b : List ℕ) (t : ℕ) (s₁ : State) where
         let same = waiting_holds tb (thread (state_of b) t) (ready_used (thread (state_of b) t) r) in
         rw n (row_wrote Waits row f refl same e h (λ whole. row_weighed_lem tb (state_of b) (length_threads b) whole t h row same 1 (weighs_more (thread (state_of b) t) row r refl)))
 
-    pub goes_made : (index : List ℕ) (i r v : ℕ) → s₁ ≡ with_thread (state_of b) t (gone_storing tb r v (thread (state_of b) t)) → Carries tb r v (state_of b) t m → m ≡ Goes i → m ≡ move tb (state_of b) t → Running tb index (state_of b)
+    pub goes_made : (i r v : ℕ) → s₁ ≡ with_thread (state_of b) t (gone_storing tb r v (thread (state_of b) t)) → Carries tb r v (state_of b) t m → m ≡ Goes i → m ≡ move tb (state_of b) t → Running tb (state_of b)
         → t < max_threads
         → is_ready (thread (state_of b) t) ≡ true → MoveMade tb (state_of b) t m s₁
     unfolding Chosen written weighed_after
-    goes_made index i x v f c n d run h r =
+    goes_made i x v f c n d run h r =
         let g : s₁ ≡ with_thread (state_of b) t (gone_by tb (thread (state_of b) t) i) = f ∙ ap (with_thread (state_of b) t) (gone_storing_lem tb x v (state_of b) t i (goes_assigns tb x v (state_of b) t i m c n)) in
         let q : move tb (state_of b) t ≡ Goes i = sym d ∙ n in
         let o : Chosen tb (state_of b) t (Goes i) = rw q at (chosen tb (state_of b) t) in
@@ -184,10 +183,10 @@ module _ (tb : Table) (b : List ℕ) (t : ℕ) (m : Move) (e : m ≡ move tb (st
   pub child_aside : (i u : ℕ) → m ≡ Spawns i u → is_ready (thread (state_of b) t) ≡ true → u ≢ t
   child_aside i u f r = spawns_other tb (state_of b) t i u (sym e ∙ f) r
 
-  pub can_meet : (index : List ℕ) (i u j : ℕ) → m ≡ Meets i u j → Running tb index (state_of b) → t < max_threads → is_ready (thread (state_of b) t) ≡ true
+  pub can_meet : (i u j : ℕ) → m ≡ Meets i u j → Running tb (state_of b) → t < max_threads → is_ready (thread (state_of b) t) ≡ true
       → CanMeet tb (state_of b) t i u j
   unfolding Chosen Facing number_by type_at
-  can_meet index i u j f run h r =
+  can_meet i u j f run h r =
       let q : move tb (state_of b) t ≡ Meets i u j = sym e ∙ f in
       let o : Chosen tb (state_of b) t (Meets i u j) = rw q at (chosen tb (state_of b) t) in
       record {
@@ -214,7 +213,7 @@ module _ (tb : Table) (b : List ℕ) (u j v : ℕ) (s₁ s₂ : State) where
       minus_one (weighs_less (thread (state_of b) u) row a.waits (met_by_ready tb (thread (state_of b) u) j v))))
 
 -- r is the number of ports, as it was read
-pub at_port : (tb : Table) (s : State) (u j : ℕ) (x : Partner) → x ≡ At u j → (d : Direction) (p : ℕ) → x ≡ partner_of tb s bench d p
+pub at_port : (tb : Table) (s : State) (u j : ℕ) (x : Partner) → x ≡ Some (u, j) → (d : Direction) (p : ℕ) → x ≡ partner_of tb s bench d p
     → (r : ℕ) → r ≡ ports tb → p < r → AtPort tb s u j
 unfolding AtPort
 at_port tb s u j x f d p e r q l = (d, p, (rw (← q) l), sym e ∙ f)

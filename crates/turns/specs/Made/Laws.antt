@@ -1,5 +1,7 @@
 -- A turn: the move that a thread makes, the state after it, and what it comes to. Assumes nothing.
-use Rattle.std.specs.Prelude.{ℕ, ◌<◌, ◌≤◌, ◌≡◌, true}
+use Rattle.std.specs.declared.ops.ControlFlow.TheVariants.{Break, Continue}
+use Rattle.rules.specs.Answers.{Stepped, Turn}
+use Rattle.std.specs.Prelude.{ℕ, ◌<◌, ◌≤◌, ◌≡◌, true, Err, Ok}
 use Rattle.std.proofs.Math.Path.{refl}
 use Rattle.std.proofs.Common.{sym}
 use borrow.Author.Tests.{lt-ltb, le-ltb}
@@ -12,12 +14,8 @@ use Rattle.rules.specs.declared.Move.TheVariants.{Ends, Calls, Waits, Goes, Crea
 use Rattle.rules.specs.Calls.{step_answer, next_ready, past_turn, reason_for, turn_for, turn_by, Turned, turned, turn_end, take_turn}
 use Rattle.rules.specs.declared.Refusal.{Refusal}
 use Rattle.rules.specs.declared.Deed.{Deed}
-use Rattle.rules.specs.declared.Stepped.{Stepped}
-use Rattle.rules.specs.declared.Stepped.TheVariants.{Done, Refused}
 use Rattle.rules.specs.declared.Reason.{Reason}
 use Rattle.rules.specs.declared.Reason.TheVariants.{NoneReady}
-use Rattle.rules.specs.declared.Turn.{Turn}
-use Rattle.rules.specs.declared.Turn.TheVariants.{Went, Stopped}
 use Rattle.next_rows.specs.Around.{next_ready_in}
 use Rattle.rules_laws.specs.Decided.{spawns_free}
 use Rattle.rules_laws.specs.Granted.{Granted}
@@ -79,11 +77,11 @@ pub reason_arm : (r : Reason) (t : ℕ) (g h : Refusal) → g ≡ h → r ≡ re
 reason_arm r t g h e f = rw e f
 
 module _ (t : ℕ) (m : Move) (a : Stepped) (e : a ≡ step_answer 0 m) where
-  pub went_by : (n : ℕ) (d : Deed) → a ≡ Done n d → Went ≡ turn_by t m
+  pub went_by : (n : ℕ) (d : Deed) → a ≡ Ok (n, d) → Continue tt ≡ turn_by t m
   unfolding turn_by turn_for
   went_by n d f = rw (← e, f)
 
-  pub stopped_by : (g : Refusal) (r : Reason) → a ≡ Refused g → r ≡ reason_for t g → Stopped r ≡ turn_by t m
+  pub stopped_by : (g : Refusal) (r : Reason) → a ≡ Err g → r ≡ reason_for t g → Break r ≡ turn_by t m
   unfolding turn_by turn_for
   stopped_by g r f h = rw (← e, f, h)
 
@@ -92,7 +90,7 @@ module _ (tb : Table) (s : State) (t : ℕ) (e : t ≡ next_ready s) where
   unfolding take_turn
   next_turn k f h = rw (← e, lt-ltb t 64 h) f
 
-  pub no_turn : max_threads ≤ t → turned (Stopped NoneReady) s ≡ take_turn tb s
+  pub no_turn : max_threads ≤ t → turned (Break NoneReady) s ≡ take_turn tb s
   unfolding take_turn
   no_turn h = rw (← e, le-ltb t 64 h)
 

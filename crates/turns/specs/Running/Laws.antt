@@ -1,15 +1,14 @@
 -- A run begins in a sound state, a turn of a ready thread keeps its invariant, and what the code leaves is the turn of the rules. Assumes nothing.
+use Rattle.rules.specs.Answers.{Turn}
 use Rattle.std.specs.Prelude.{ℕ, ◌<◌, ◌≡◌, true, List}
 use Rattle.std.proofs.Common.{sym, ◌∙◌}
 use Rattle.table.specs.Table.{Table}
-use Rattle.table.specs.Index.{Indexed}
 use Rattle.state.specs.State.{State, max_threads, thread, stands_at, is_ready, with_mark, with_channels}
 use Rattle.rules.specs.Holding.{settled}
 use Rattle.rules.specs.Moves.{one_up, move, written, perform}
 use Rattle.rules.specs.Calls.{turn_by}
 use Rattle.rules.specs.declared.Move.{Move}
 use Rattle.rules.specs.declared.Move.TheVariants.{LacksThread, LacksChannel}
-use Rattle.rules.specs.declared.Turn.{Turn}
 use Rattle.upkeep.specs.Upkeep.{settled_again, settled_mark}
 use Rattle.next_rows.specs.UsedBelow.{UsedBelow}
 use Rattle.offers.specs.Apart.{Apart}
@@ -26,12 +25,12 @@ use Rattle.turns.specs.Running.{Running, MoveMade, TurnTaken}
 
 -- ---- a run begins
 
-pub running_begins : (tb : Table) (index : List ℕ) (s : State) → Granted tb → Indexed tb index → Sound tb s → Running tb index s
-running_begins tb index s g i ok = record { accepted = g; indexed = i; counted = counted_start tb s (sound_settled tb s ok); sound = rw (sound_settled tb s ok) ok }
+pub running_begins : (tb : Table) (s : State) → Granted tb → Sound tb s → Running tb s
+running_begins tb s g ok = record { accepted = g; counted = counted_start tb s (sound_settled tb s ok); sound = rw (sound_settled tb s ok) ok }
 
 -- ---- in the midst of a run
 
-module _ (tb : Table) (index : List ℕ) (s : State) (run : Running tb index s) where
+module _ (tb : Table) (s : State) (run : Running tb s) where
   pub running_apart : Apart tb s.threads
   unfolding settled with_channels
   running_apart = sound_apart tb (settled tb s) run.sound
@@ -57,9 +56,9 @@ module _ (tb : Table) (s : State) (t : ℕ) (m : Move) (e : Counted tb s) where
 
 -- ---- a turn: s₁ after the move, s₂ with the turn moved on
 
-module _ (tb : Table) (index : List ℕ) (s : State) (t top : ℕ) (m : Move) (s₁ s₂ : State) (v k : ℕ) (w : Turn) (f : s₂ ≡ with_mark s₁ 2 v)
+module _ (tb : Table) (s : State) (t top : ℕ) (m : Move) (s₁ s₂ : State) (v k : ℕ) (w : Turn) (f : s₂ ≡ with_mark s₁ 2 v)
     (a : MoveMade tb s t m s₁)
-    (d : m ≡ move tb s t) (i : v ≡ one_up max_threads t) (j : w ≡ turn_by t m) (n : k ≡ raised_by top m) (run : Running tb index s) (used : UsedBelow s top) (l : t < max_threads)
+    (d : m ≡ move tb s t) (i : v ≡ one_up max_threads t) (j : w ≡ turn_by t m) (n : k ≡ raised_by top m) (run : Running tb s) (used : UsedBelow s top) (l : t < max_threads)
     (r : is_ready (thread s t) ≡ true) where
   -- the move in what the state stands for
   same_move : m ≡ move tb (settled tb s) t
@@ -79,11 +78,11 @@ module _ (tb : Table) (index : List ℕ) (s : State) (t top : ℕ) (m : Move) (s
   unfolding settled with_channels UsedBelow
   still_used = turn_used tb (settled tb s) t top used r m (settled tb s₁) (settled tb s₂) v k after_turn after_move same_move n
 
-  pub turn_taken : TurnTaken tb index s t (record { turn = w; decided = m; top = k }) s₂
+  pub turn_taken : TurnTaken tb s t (record { turn = w; decided = m; top = k }) s₂
   turn_taken = record {
     ends = turn_ends tb (settled tb s) (settled_again tb s) t m (settled tb s₁) (settled tb s₂) w v after_turn after_move same_move i j;
     decided = same_move;
-    running = record { accepted = run.accepted; indexed = run.indexed; counted = counted_mark tb s₁ s₂ 2 v a.counted f; sound = still_sound };
+    running = record { accepted = run.accepted; counted = counted_mark tb s₁ s₂ 2 v a.counted f; sound = still_sound };
     used = still_used;
     weights = λ whole. rw f (settled_mark tb s₁ 2 v ∙ rw (a.weights whole) (sym (weighed_mark tb (stands_at (thread s t)) t s₁ 2 v m)));
   }

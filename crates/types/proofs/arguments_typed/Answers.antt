@@ -1,15 +1,7 @@
-use borrow.Author.Rules.{rules}
-use Rattle.numbers.specs.Search.Laws.{every_none, every_passed, every_failed, every_all}
+use Rattle.std.proofs.Common.{rules, refl}
+use Rattle.numbers.specs.Search.Chains.{every_all}
+use Rattle.types.specs.Types.{argument_typed}
 use Rattle.types.proofs.arguments_typed.Goals as goal
 
-pub loop-i-init : goal.loop-i-init
-loop-i-init c = (search rules, search every_none)
-
-pub returns-then-not-argument_typed : goal.returns-then-not-argument_typed
-returns-then-not-argument_typed c = search every_failed
-
-pub loop-i-preserved : goal.loop-i-preserved
-loop-i-preserved c = (search rules, search every_passed)
-
 pub returns : goal.returns
-returns c = search every_all
+returns c = every_all (argument_typed c.args.table.now c.args.row c.args.d) c.args.n refl _ _ c.all.result c.all.ensures.ran (λ x b q k. search rules)

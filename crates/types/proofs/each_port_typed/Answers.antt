@@ -1,16 +1,8 @@
-use borrow.Author.Rules.{rules}
-use Rattle.numbers.specs.Search.Laws.{every_none, every_all}
-use Rattle.types.proofs.Answers.{port_more, port_not}
+use Rattle.std.proofs.Common.{rules, refl}
+use Rattle.numbers.specs.Search.Chains.{every_all}
+use Rattle.types.specs.Types.{port_typed}
 use Rattle.types.proofs.each_port_typed.Goals as goal
 
-pub loop-k-init : goal.loop-k-init
-loop-k-init c = (search rules, search every_none)
-
-pub returns-then-slot_type-ne1 : goal.returns-then-slot_type-ne1
-returns-then-slot_type-ne1 c = search port_not
-
-pub loop-k-preserved : goal.loop-k-preserved
-loop-k-preserved c = (search rules, search port_more)
-
 pub returns : goal.returns
-returns c = search every_all
+unfolding port_typed
+returns c = every_all (port_typed c.args.table.now) c.args.n refl _ _ c.all.result c.all.ensures.ran (λ x b q k. search rules)

@@ -1,12 +1,12 @@
-use borrow.Author.Rules.{rules}
-use Rattle.upkeep.proofs.Shifts.{shifts_none, shifts_more, shifts_all}
+use native.Mathlib.Omega.{arith}
+use Rattle.std.proofs.lemmas.List.{get_or-take, length-take}
+use Rattle.upkeep.proofs.Shifts.{shifts_none, shifts_more}
 use Rattle.upkeep.proofs.shift_listed.Goals as goal
 
-pub loop-i-init : goal.loop-i-init
-loop-i-init c = search (shifts_none, rules)
+pub loop-c-init : goal.loop-c-init
+loop-c-init c = search shifts_none
 
-pub loop-i-preserved : goal.loop-i-preserved
-loop-i-preserved c = search (shifts_more, rules)
-
-pub returns : goal.returns
-returns c = search shifts_all
+pub loop-c-preserved : goal.loop-c-preserved
+loop-c-preserved c =
+    shifts_more _ _ _ _ _ c.loop-c.c-index c.loop-c.invariant _ _ c.shift.ensures
+    (get_or-take c.args.n c.args.list.now c.loop-c.c-index 0 (omega (arith, length-take c.args.n c.args.list.now)))

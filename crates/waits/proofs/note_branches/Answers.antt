@@ -1,5 +1,5 @@
 use mathlib.Core.Path.{refl}
-use borrow.Author.Tests.{not-true, not-false}
+use borrow.Author.Tests.{not-false}
 use borrow.Author.Rules.{rules}
 use Rattle.numbers.specs.Search.Laws.{every_none, every_more, contra}
 use Rattle.waits.proofs.Ways.{branches_none, branches_more, branches_all, row_held, held_all, held_not}
@@ -9,7 +9,7 @@ pub loop-i-init : goal.loop-i-init
 loop-i-init c = (search rules, search rules, search rules, search every_none, search branches_none, search branches_none)
 
 pub returns-then-not-note_branch-clause-value : goal.returns-then-not-note_branch-clause-value
-returns-then-not-note_branch-clause-value c = search (held_not, row_held, not-true)
+returns-then-not-note_branch-clause-value c = search (held_not, row_held)
 
 pub returns-then-not-note_branch-clause-senders_after : goal.returns-then-not-note_branch-clause-senders_after
 returns-then-not-note_branch-clause-senders_after c = λ e. contra e refl

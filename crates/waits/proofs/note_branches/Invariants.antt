@@ -4,7 +4,6 @@ use mathlib.Core.Path.{◌≡◌}
 use mathlib.Core.Bool.{true}
 use lib.ListN.{length}
 use Rattle.numbers.specs.Search.{every, tabulate}
-use Rattle.table.specs.Table.{table_of}
 use Rattle.state.specs.State.{state_of, max_channels}
 use Rattle.rules.specs.declared.Direction.TheVariants.{Out, In}
 use Rattle.waits.specs.Waits.{branch_held, who_to}
@@ -12,5 +11,5 @@ use Rattle.waits.proofs.note_branches.Given as goal
 
 abbrev pub invariant-loop-i : goal.invariant-loop-i
 invariant-loop-i l =
-    (l.i ≤ l.count) × (length l.senders ≡ length l.initial.senders) × (length l.receivers ≡ length l.initial.receivers) × (every (branch_held (table_of l.table) (state_of l.state) l.t) l.i ≡ true)
-    × (l.senders ≡ tabulate max_channels (who_to (table_of l.table) (state_of l.state) Out l.t l.i)) × (l.receivers ≡ tabulate max_channels (who_to (table_of l.table) (state_of l.state) In l.t l.i))
+    (l.i ≤ l.count) × (length l.senders ≡ length l.initial.senders) × (length l.receivers ≡ length l.initial.receivers) × (every (branch_held l.table (state_of l.state) l.t) l.i ≡ true)
+    × (l.senders ≡ tabulate max_channels (who_to l.table (state_of l.state) Out l.t l.i)) × (l.receivers ≡ tabulate max_channels (who_to l.table (state_of l.state) In l.t l.i))

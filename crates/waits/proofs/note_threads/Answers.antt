@@ -1,5 +1,5 @@
 use mathlib.Core.Path.{refl}
-use borrow.Author.Tests.{not-true, not-false}
+use borrow.Author.Tests.{not-false}
 use borrow.Author.Rules.{rules}
 use Rattle.numbers.specs.Search.Laws.{every_laws, contra}
 use Rattle.waits.proofs.Ways.{threads_none, threads_more, threads_all}
@@ -9,7 +9,7 @@ pub loop-t-init : goal.loop-t-init
 loop-t-init c = (search rules, search rules, search rules, search every_laws, search threads_none, search threads_none)
 
 pub returns-then-not-note_thread-clause-value : goal.returns-then-not-note_thread-clause-value
-returns-then-not-note_thread-clause-value c = search (every_laws, not-true)
+returns-then-not-note_thread-clause-value c = search every_laws
 
 pub returns-then-not-note_thread-clause-senders_after : goal.returns-then-not-note_thread-clause-senders_after
 returns-then-not-note_thread-clause-senders_after c = λ e. contra e refl
@@ -18,7 +18,7 @@ pub returns-then-not-note_thread-clause-receivers_after : goal.returns-then-not-
 returns-then-not-note_thread-clause-receivers_after c = λ e. contra e refl
 
 pub loop-t-preserved : goal.loop-t-preserved
-loop-t-preserved c = (search rules, search rules, search rules, search (every_laws, not-false), search (threads_more, not-false), search (threads_more, not-false))
+loop-t-preserved c = (search rules, search rules, search rules, search (every_laws, not-false), search threads_more, search threads_more)
 
 pub returns-clause-value : goal.returns-clause-value
 returns-clause-value c = search every_laws

@@ -6,9 +6,8 @@ use lib.ListN.{length, get_or, take}
 use lib.Seq.{sets}
 use Rattle.numbers.specs.Bytes.{joined}
 use Rattle.text.specs.Text.{text}
-use Rattle.table.specs.Table.{table_of}
 use Rattle.writer.proofs.put_line.Given as goal
 
 abbrev pub invariant-loop-column : goal.invariant-loop-column
 invariant-loop-column l =
-    (l.column ≤ 12) × (l.at ≡ l.line * 73) × (length l.file ≡ length l.initial.file) × (l.file ≡ sets l.initial.file l.at (joined (map text (take l.column (get_or (table_of l.table) l.line [])))))
+    (l.column ≤ 12) × (l.at ≡ l.line * 73) × (length l.file ≡ length l.initial.file) × (l.file ≡ sets l.initial.file l.at (joined (map text (take l.column (get_or l.table l.line [])))))

@@ -4,8 +4,7 @@ use mathlib.Core.Path.{◌≡◌}
 use lib.ListN.{length, take}
 use lib.Seq.{sets}
 use Rattle.text.specs.Text.{file_text}
-use Rattle.table.specs.Table.{table_of}
 use Rattle.writer.proofs.put_lines.Given as goal
 
 abbrev pub invariant-loop-line : goal.invariant-loop-line
-invariant-loop-line l = (l.line ≤ l.n) × (length l.file ≡ length l.initial.file) × (l.file ≡ sets l.initial.file 0 (file_text (take l.line (table_of l.table))))
+invariant-loop-line l = (l.line ≤ l.n) × (length l.file ≡ length l.initial.file) × (l.file ≡ sets l.initial.file 0 (file_text (take l.line l.table)))
