@@ -1,7 +1,7 @@
 -- One law for each way out of the calls. Assumes nothing.
 use Rattle.std.specs.declared.ops.ControlFlow.TheVariants.{Continue}
 use Rattle.std.specs.Prelude.{Err, None, Ok, Some}
-use Rattle.rules.specs.Answers.{Given, Partner, Ran, Stepped, Taken, Turn}
+use Rattle.rules.specs.Answers.{Partner, Stepped, Turn}
 use Prim.Native.Nat.{ℕ, ◌+◌, ◌-◌, ◌<◌, ◌≤◌}
 use native.Mathlib.Omega.{arith}
 use mathlib.Core.Path.{◌≡◌, refl, sym, ◌∙◌, ap}

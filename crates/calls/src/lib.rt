@@ -10,14 +10,14 @@ ghost use Rattle.calls.specs.Course.{TurnsOf};
 
 use rules::{Deed, Direction, Move, Reason, Refusal};
 use std::ops::ControlFlow;
-use table::{Table, field};
+use table::Table;
 
 // Ground 11: whether thread t is there and ready.
 #[tactic(auto, unfolding(rules::specs::Calls::can_step))]
-fn can_step(state: &[u32; state::WORDS], t: u32) -> bool
+fn can_step(state: &state::Words, t: u32) -> bool
     ensures { result ≡ can_step (state_of state.now) t }
 {
-    t < state::THREADS && state::thread_word(state, t as usize, state::STATUS) == state::READY
+    t < state::THREADS && state::status(state, t) == state::READY
 }
 
 // How many turns went, why they ended, and the move of the last.
@@ -29,7 +29,7 @@ struct Turns {
 }
 
 // At most n turns, the first of them thread t's, which is ready; 64 where nobody is. The counts of waiting holders are left to be settled.
-fn take_turns(table: &Table, state: &mut [u32; state::WORDS], t: u32, n: u16) -> Turns
+fn take_turns(table: &Table, state: &mut state::Words, t: u32, n: u16) -> Turns
     requires granted { Granted table.now }
     requires sound { Sound table.now (state_of state.old) }
     requires ready { t < max_threads → is_ready (thread (state_of state.old) t) ≡ true }
@@ -67,7 +67,7 @@ fn take_turns(table: &Table, state: &mut [u32; state::WORDS], t: u32, n: u16) ->
 
 // A step of thread t: one turn, after which the turn is whose it was.
 #[tactic(auto, using(crate::proofs::Laws::step_refused, crate::proofs::Laws::step_is_ready))]
-pub fn step(table: &Table, state: &mut [u32; state::WORDS], t: u32) -> Result<(u32, Deed), Refusal>
+pub fn step(table: &Table, state: &mut state::Words, t: u32) -> Result<(u32, Deed), Refusal>
     requires granted { Granted table.now }
     requires sound { Sound table.now (state_of state.old) }
     ensures { afterwards result (state_of state.new) ≡ step_on table.now (state_of state.old) t }
@@ -75,7 +75,7 @@ pub fn step(table: &Table, state: &mut [u32; state::WORDS], t: u32) -> Result<(u
     if !can_step(state, t) {
         return Err(Refusal::Thread);
     }
-    let node = state::thread_word(state, t as usize, state::NODE);
+    let node = state::stands_at(state, t);
     let turn = state::mark(state, state::TURN);
     let turns = take_turns(table, state, t, 1);
     state::put_mark(state, state::TURN, turn);
@@ -85,18 +85,13 @@ pub fn step(table: &Table, state: &mut [u32; state::WORDS], t: u32) -> Result<(u
 }
 
 // The number of pattern v is given on port p.
-#[tactic(auto, using(crate::proofs::Laws::give_refused, crate::proofs::Laws::give_nobody, offers::specs::Partners::partner_below, turns::specs::Keeping::Laws::at_port))]
-pub fn give(
-    table: &Table,
-    state: &mut [u32; state::WORDS],
-    p: u32,
-    v: u32,
-) -> Result<Option<u32>, Refusal>
+#[tactic(auto, using(crate::proofs::Laws::give_refused, crate::proofs::Laws::give_nobody, turns::specs::Keeping::Laws::at_port))]
+pub fn give(table: &Table, state: &mut state::Words, p: u32, v: u32) -> Result<Option<u32>, Refusal>
     requires granted { Granted table.now }
     requires sound { Sound table.now (state_of state.old) }
     ensures { afterwards result (state_of state.new) ≡ give_on table.now (state_of state.old) p v }
 {
-    if table.cell(0, field::PORTS) <= p {
+    if table.ports() <= p {
         return Err(Refusal::Port);
     }
     match offers::find_at_port(table, state, Direction::In, p) {
@@ -109,16 +104,12 @@ pub fn give(
 }
 
 // A number is taken from port p.
-pub fn take(
-    table: &Table,
-    state: &mut [u32; state::WORDS],
-    p: u32,
-) -> Result<Option<(u32, u32)>, Refusal>
+pub fn take(table: &Table, state: &mut state::Words, p: u32) -> Result<Option<(u32, u32)>, Refusal>
     requires granted { Granted table.now }
     requires sound { Sound table.now (state_of state.old) }
     ensures { afterwards result (state_of state.new) ≡ take_on table.now (state_of state.old) p }
 {
-    if table.cell(0, field::PORTS) <= p {
+    if table.ports() <= p {
         return Err(Refusal::Port);
     }
     match offers::find_at_port(table, state, Direction::Out, p) {
@@ -133,7 +124,7 @@ pub fn take(
 
 // At most n steps.
 #[tactic(auto, using(next_rows::specs::UsedBelow::used_all, turns::specs::Made::Laws::next_is_ready))]
-pub fn run(table: &Table, state: &mut [u32; state::WORDS], n: u16) -> Result<(u32, Reason), Refusal>
+pub fn run(table: &Table, state: &mut state::Words, n: u16) -> Result<(u32, Reason), Refusal>
     requires granted { Granted table.now }
     requires sound { Sound table.now (state_of state.old) }
     ensures { afterwards result (state_of state.new) ≡ run_on table.now (state_of state.old) n }

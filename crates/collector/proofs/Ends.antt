@@ -1,8 +1,9 @@
 -- The start of the freeing, and what the call comes to. Assumes nothing.
-use Rattle.std.specs.Prelude.{◌≡◌, ℕ, List, Ok}
+use Rattle.std.specs.Prelude.{◌≡◌, ◌<◌, ℕ, List, Ok}
+use borrow.Author.Tests.{ne_eqb}
 use Rattle.table.specs.Table.{Table}
-use Rattle.state.specs.State.{state_of}
-use Rattle.state.specs.State.Laws.{length_threads}
+use Rattle.state.specs.State.{state_of, thread, status, max_threads}
+use Rattle.state.specs.State.Laws.{length_threads, used_below}
 use Rattle.rules.specs.Holding.{settled}
 use Rattle.rules.specs.Calls.{afterwards}
 use Rattle.engine.specs.Admitted.{Admits}
@@ -22,3 +23,7 @@ pub collect_done : (w w₁ : List ℕ) (seen : Table) (n : ℕ) → n ≡ taken_
     → afterwards (Ok n) (state_of w₁) ≡ collect_on seen (state_of w)
 unfolding collect_on
 collect_done w w₁ seen n i j = rw (i, j)
+
+-- take_thread: x is the status of the thread. One that is in use has a row
+pub row_there : (b : List ℕ) (t x : ℕ) → x ≡ status (thread (state_of b) t) → (x ≡ 0 → ⊥) → t < max_threads
+row_there b t x e f = used_below b t (rw (← e, ne_eqb x 0 f))

@@ -3,7 +3,7 @@
 
 ghost use Rattle.std.specs.Prelude.{◌≡◌, ◌<◌};
 ghost use Rattle.numbers.specs.Count.{bit};
-ghost use Rattle.state.specs.State.{max_threads, state_of};
+ghost use Rattle.state.specs.State.{state_of};
 ghost use Rattle.rules.specs.Holding.{settled};
 ghost use Rattle.rules.specs.Calls.{outcome};
 ghost use Rattle.marking.specs.Enabled.{nobody, enabled_set};
@@ -17,12 +17,11 @@ use table::Table;
 #[tactic(auto, unfolding(crate::specs::Freeing::leaves, crate::specs::Freeing::freed_by, numbers::specs::Count::bit))]
 fn take_thread(
     table: &Table,
-    state: &mut [u32; state::WORDS],
+    state: &mut state::Words,
     t: u32,
     marks: &[bool; state::THREADS as usize],
 ) -> u32
-    requires t_lt_max_threads { t < max_threads }
-    requires state_value { settled table.now (state_of state.old) ≡ state_of state.old }
+    requires { settled table.now (state_of state.old) ≡ state_of state.old }
     ensures value { result ≡ bit (leaves (state_of state.old) marks.now t) }
     ensures state_after { state_of state.new ≡ freed_by table.now (state_of state.old) marks.now t }
     ensures stays_settled { settled table.now (state_of state.new) ≡ state_of state.new }
@@ -38,7 +37,7 @@ fn take_thread(
 // Every thread that is not marked is freed. Answers how many were.
 fn take_unmarked(
     table: &Table,
-    state: &mut [u32; state::WORDS],
+    state: &mut state::Words,
     marks: &[bool; state::THREADS as usize],
 ) -> u32
     requires state_value { settled table.now (state_of state.old) ≡ state_of state.old }
@@ -54,13 +53,12 @@ fn take_unmarked(
 }
 
 // A collection on the words of a state. Answers how many threads it took.
-pub fn collect_in(table: &Table, state: &mut [u32; state::WORDS]) -> u32
+pub fn collect_in(table: &Table, state: &mut state::Words) -> u32
     requires state_value { settled table.now (state_of state.old) ≡ state_of state.old }
     ensures value { result ≡ taken_count table.now (state_of state.old) }
     ensures state_after { state_of state.new ≡ collected table.now (state_of state.old) }
 {
-    let mut marks = [false; state::THREADS as usize];
-    marking::mark_enabled(table, state, &mut marks);
+    let marks = marking::mark_enabled(table, state);
     take_unmarked(table, state, &marks)
 }
 

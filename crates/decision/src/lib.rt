@@ -13,12 +13,11 @@ ghost use Rattle.rules.specs.Program.{branch_at, printed_guard, opposite};
 ghost use Rattle.rules.specs.Offers.{partner_of};
 ghost use Rattle.rules.specs.declared.Move.TheVariants.{Waits, Goes};
 ghost use Rattle.rules.specs.Moves.{free_thread, free_channel, meeting, creation, spawning, goes_ahead, branch_move, choice, move};
-ghost use Rattle.next_rows.specs.UsedBelow.{UsedBelow};
-ghost use Rattle.offers.specs.Apart.{Apart};
 ghost use Rattle.program.specs.HandedOn.{Carries};
 
+use offers::Moment;
 use rules::{Act, Direction, Move};
-use table::{Table, field};
+use table::field;
 
 // A move that is decided. Where a branch goes ahead alone, its row, and the number that it stores if it is an assignment.
 #[derive(Clone, Copy)]
@@ -41,21 +40,11 @@ fn plain(m: Move) -> Decided
 
 // The move of thread t by branch i, a meeting of direction d on channel c.
 #[tactic(auto, unfolding(rules::specs::Moves::meeting))]
-fn meeting_move(
-    table: &Table,
-    state: &[u32; state::WORDS],
-    t: u32,
-    i: u32,
-    d: Direction,
-    c: u32,
-    top: u32,
-) -> Move
-    requires used_below { UsedBelow (state_of state.now) top }
-    requires apart { Apart table.now (state_of state.now).threads }
-    ensures { result ≡ meeting i (partner_of table.now (state_of state.now) t (opposite d) c) }
+fn meeting_move(moment: &Moment, t: u32, i: u32, d: Direction, c: u32) -> Move
+    ensures { result ≡ meeting i (partner_of moment.now.table moment.now.state t (opposite d) c) }
 {
     let side = program::opposite_of(d);
-    match offers::find_partner(table, state, t, side, c, top) {
+    match moment.find_partner(t, side, c) {
         None => Move::Waits,
         Some((u, j)) => Move::Meets(i, u, j),
     }
@@ -63,7 +52,7 @@ fn meeting_move(
 
 // The move by branch i, which makes a channel.
 #[tactic(auto, unfolding(rules::specs::Moves::creation))]
-fn creation_move(state: &[u32; state::WORDS], i: u32) -> Move
+fn creation_move(state: &state::Words, i: u32) -> Move
     ensures { result ≡ creation i (free_channel (state_of state.now)) }
 {
     let made = next_rows::free_channel(state);
@@ -76,7 +65,7 @@ fn creation_move(state: &[u32; state::WORDS], i: u32) -> Move
 
 // The move by branch i, which makes a thread.
 #[tactic(auto, unfolding(rules::specs::Moves::spawning))]
-fn spawning_move(state: &[u32; state::WORDS], i: u32) -> Move
+fn spawning_move(state: &state::Words, i: u32) -> Move
     ensures { result ≡ spawning i (free_thread (state_of state.now)) }
 {
     let child = next_rows::free_thread(state);
@@ -106,21 +95,14 @@ fn assignment_move(i: u32, row: usize, v: Option<i32>) -> Decided
 
 // The move of thread t by branch i, in a row, whose guard is true as the file has it: to wait where the branch assigns a number that does not fit.
 #[tactic(auto, unfolding(rules::specs::Moves::branch_move, rules::specs::Moves::act_move, rules::specs::Moves::meeting, rules::specs::Moves::creation, rules::specs::Moves::spawning, rules::specs::Program::guard_holds, rules::specs::Program::fitting, program::specs::HandedOn::Carries))]
-fn act_move(
-    table: &Table,
-    state: &[u32; state::WORDS],
-    t: u32,
-    i: u32,
-    row: usize,
-    top: u32,
-) -> Decided
-    requires used_below { UsedBelow (state_of state.now) top }
-    requires apart { Apart table.now (state_of state.now).threads }
-    requires row_value { row ≡ branch_at table.now (stands_at (thread (state_of state.now) t)) i }
-    requires guarded { printed_guard table.now row (thread (state_of state.now) t) ≡ true }
-    ensures made_value { result.made ≡ branch_move table.now (state_of state.now) t i }
-    ensures carries { Carries table.now result.row result.number (state_of state.now) t result.made }
+fn act_move(moment: &Moment, t: u32, i: u32, row: usize) -> Decided
+    requires row_value { row ≡ branch_at moment.now.table (stands_at (thread moment.now.state t)) i }
+    requires guarded { printed_guard moment.now.table row (thread moment.now.state t) ≡ true }
+    ensures made_value { result.made ≡ branch_move moment.now.table moment.now.state t i }
+    ensures carries { Carries moment.now.table result.row result.number moment.now.state t result.made }
 {
+    let table = moment.table();
+    let state = moment.state();
     match program::act_of(table, row) {
         Act::Tau => Decided {
             made: Move::Goes(i),
@@ -129,7 +111,7 @@ fn act_move(
         },
         Act::Meeting(d) => {
             let c = program::slot(state, t, table.cell(row, field::A));
-            plain(meeting_move(table, state, t, i, d, c, top))
+            plain(meeting_move(moment, t, i, d, c))
         }
         Act::New => plain(creation_move(state, i)),
         Act::Spawn => plain(spawning_move(state, i)),
@@ -141,22 +123,13 @@ fn act_move(
 
 // The move of thread t by branch i, in a row, alone: to wait where the guard is false.
 #[tactic(auto, unfolding(rules::specs::Moves::branch_move, rules::specs::Program::guard_holds, program::specs::HandedOn::Carries))]
-fn branch_move(
-    table: &Table,
-    state: &[u32; state::WORDS],
-    t: u32,
-    i: u32,
-    row: usize,
-    top: u32,
-) -> Decided
-    requires used_below { UsedBelow (state_of state.now) top }
-    requires apart { Apart table.now (state_of state.now).threads }
-    requires row_value { row ≡ branch_at table.now (stands_at (thread (state_of state.now) t)) i }
-    ensures made_value { result.made ≡ branch_move table.now (state_of state.now) t i }
-    ensures carries { Carries table.now result.row result.number (state_of state.now) t result.made }
+fn branch_move(moment: &Moment, t: u32, i: u32, row: usize) -> Decided
+    requires row_value { row ≡ branch_at moment.now.table (stands_at (thread moment.now.state t)) i }
+    ensures made_value { result.made ≡ branch_move moment.now.table moment.now.state t i }
+    ensures carries { Carries moment.now.table result.row result.number moment.now.state t result.made }
 {
-    if program::printed_guard(table, row, state, t) {
-        act_move(table, state, t, i, row, top)
+    if program::printed_guard(moment.table(), row, moment.state(), t) {
+        act_move(moment, t, i, row)
     } else {
         plain(Move::Waits)
     }
@@ -172,24 +145,15 @@ fn goes_ahead(m: Move) -> bool
 
 // The move of thread t at a choice of n branches, the first in row from: by the first branch that goes ahead, to wait where none does.
 #[tactic(auto, using(numbers::specs::Search::Laws::first_none, numbers::specs::Search::Laws::first_more, numbers::specs::Search::Laws::first_hit), unfolding(rules::specs::Moves::choice, rules::specs::Moves::ahead, rules::specs::Program::branch_at, program::specs::HandedOn::Carries))]
-fn choose(
-    table: &Table,
-    state: &[u32; state::WORDS],
-    t: u32,
-    n: u32,
-    from: usize,
-    top: u32,
-) -> Decided
-    requires used_below { UsedBelow (state_of state.now) top }
-    requires apart { Apart table.now (state_of state.now).threads }
-    requires n_value { n ≡ branch_count table.now (stands_at (thread (state_of state.now) t)) }
-    requires from_value { from ≡ branch_row table.now + start table.now Branches (stands_at (thread (state_of state.now) t)) }
-    requires from_bound { from ≤ 12844864 }
-    ensures made_value { result.made ≡ choice table.now (state_of state.now) t }
-    ensures carries { Carries table.now result.row result.number (state_of state.now) t result.made }
+fn choose(moment: &Moment, t: u32, n: u32, from: usize) -> Decided
+    requires n_value { n ≡ branch_count moment.now.table (stands_at (thread moment.now.state t)) }
+    requires from_value { from ≡ branch_row moment.now.table + start moment.now.table Branches (stands_at (thread moment.now.state t)) }
+    requires from_bound { from ≤ 12583201 }
+    ensures made_value { result.made ≡ choice moment.now.table moment.now.state t }
+    ensures carries { Carries moment.now.table result.row result.number moment.now.state t result.made }
 {
     for i in 0..n {
-        let d = branch_move(table, state, t, i, from + i as usize, top);
+        let d = branch_move(moment, t, i, from + i as usize);
         if goes_ahead(d.made) {
             return d;
         }
@@ -199,28 +163,19 @@ fn choose(
 
 // The move that thread t makes, if it is ready.
 #[tactic(auto, using(crate::proofs::Choice::move_is), unfolding(table::specs::Layout::branch_count, program::specs::HandedOn::Carries))]
-pub fn decide(table: &Table, state: &[u32; state::WORDS], t: u32, top: u32) -> Decided
-    requires used_below { UsedBelow (state_of state.now) top }
-    requires apart { Apart table.now (state_of state.now).threads }
-    ensures made_value { result.made ≡ move table.now (state_of state.now) t }
-    ensures carries { Carries table.now result.row result.number (state_of state.now) t result.made }
+pub fn decide(moment: &Moment, t: u32) -> Decided
+    ensures made_value { result.made ≡ move moment.now.table moment.now.state t }
+    ensures carries { Carries moment.now.table result.row result.number moment.now.state t result.made }
 {
-    let node = state::thread_word(state, t as usize, state::NODE);
-    let nodes = table.node_row();
-    let row = nodes + node as usize;
+    let table = moment.table();
+    let node = state::stands_at(moment.state(), t);
+    let row = table.node_row() + node as usize;
     match table.cell(row, field::NODE_KIND) {
-        1 => {
-            let from = offers::first_branch(table, nodes, node);
-            choose(
-                table,
-                state,
-                t,
-                table.cell(row, field::OWN_BRANCHES),
-                from,
-                top,
-            )
+        table::CHOICE => {
+            let from = table.first_branch(node);
+            choose(moment, t, table.cell(row, field::OWN_BRANCHES), from)
         }
-        2 => plain(Move::Calls),
+        table::CALL => plain(Move::Calls),
         _ => plain(Move::Ends),
     }
 }

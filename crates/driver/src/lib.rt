@@ -37,6 +37,7 @@ pub struct Opening {
 }
 
 // The functions `load`, `start`, `write` and `profile` each make one call by the exported function: a contract that strays is refused there.
+#[tactic(auto, unfolding(crate::specs::WorkedFile::load_opening), using(crate::proofs::Numbers::number_back))]
 fn load(file: &[u8], table: &mut [u8]) -> Opening
     ensures table_after { table.new ≡ (load_result file.now table.old).table }
     ensures value { result ≡ load_opening (load_result file.now table.old).answer }
@@ -48,6 +49,7 @@ fn load(file: &[u8], table: &mut [u8]) -> Opening
     }
 }
 
+#[tactic(auto, unfolding(crate::specs::WorkedFile::start_opening), using(crate::proofs::Numbers::number_back))]
 fn start(table: &[u8], state: &mut [u8]) -> Opening
     ensures state_after { state.new ≡ (start_result table.now state.old).state }
     ensures value { result ≡ start_opening (start_result table.now state.old).answer }
@@ -72,6 +74,7 @@ fn profile(table: &[u8]) -> ProfileAnswer
 }
 
 // The functions `step`, `give`, `take`, `run` and `collect` each make one call at a seat by the exported function, and put its numbers in their order.
+#[tactic(auto, unfolding(crate::specs::Encoding::answer_to, crate::specs::Encoding::stepped, guarantee::specs::SeatedClaim::after_by, interface::specs::Interface::step_result, interface::specs::Interface::in_numbers), using(crate::proofs::Numbers::number_back))]
 fn step(table: &[u8], state: &mut [u8], rights: &[u8], seat: u32, thread: u32) -> Answer
     ensures state_after { state.new ≡ after_by table.now state.old rights.now seat (on (Step thread)) }
     ensures value { result ≡ answer_to table.now state.old rights.now seat (on (Step thread)) }
@@ -86,6 +89,7 @@ fn step(table: &[u8], state: &mut [u8], rights: &[u8], seat: u32, thread: u32) -
     }
 }
 
+#[tactic(auto, unfolding(crate::specs::Encoding::answer_to, crate::specs::Encoding::given, guarantee::specs::SeatedClaim::after_by, interface::specs::Interface::give_result, interface::specs::Interface::in_numbers), using(crate::proofs::Numbers::number_back))]
 fn give(table: &[u8], state: &mut [u8], rights: &[u8], seat: u32, port: u32, number: u32) -> Answer
     ensures state_after { state.new ≡ after_by table.now state.old rights.now seat (on (Give port (pattern number) (pattern_small number))) }
     ensures value { result ≡ answer_to table.now state.old rights.now seat (on (Give port (pattern number) (pattern_small number))) }
@@ -100,6 +104,7 @@ fn give(table: &[u8], state: &mut [u8], rights: &[u8], seat: u32, port: u32, num
     }
 }
 
+#[tactic(auto, unfolding(crate::specs::Encoding::answer_to, crate::specs::Encoding::taken, guarantee::specs::SeatedClaim::after_by, interface::specs::Interface::take_result, interface::specs::Interface::in_numbers), using(crate::proofs::Numbers::number_back))]
 fn take(table: &[u8], state: &mut [u8], rights: &[u8], seat: u32, port: u32) -> Answer
     ensures state_after { state.new ≡ after_by table.now state.old rights.now seat (on (Take port)) }
     ensures value { result ≡ answer_to table.now state.old rights.now seat (on (Take port)) }
@@ -114,6 +119,7 @@ fn take(table: &[u8], state: &mut [u8], rights: &[u8], seat: u32, port: u32) -> 
     }
 }
 
+#[tactic(auto, unfolding(crate::specs::Encoding::answer_to, crate::specs::Encoding::ran, guarantee::specs::SeatedClaim::after_by, interface::specs::Interface::run_result, interface::specs::Interface::in_numbers), using(crate::proofs::Numbers::number_back))]
 fn run(table: &[u8], state: &mut [u8], rights: &[u8], seat: u32, n: u16) -> Answer
     ensures state_after { state.new ≡ after_by table.now state.old rights.now seat (on (Run n)) }
     ensures value { result ≡ answer_to table.now state.old rights.now seat (on (Run n)) }
@@ -128,6 +134,7 @@ fn run(table: &[u8], state: &mut [u8], rights: &[u8], seat: u32, n: u16) -> Answ
     }
 }
 
+#[tactic(auto, unfolding(crate::specs::Encoding::answer_to, crate::specs::Encoding::collected, guarantee::specs::SeatedClaim::after_by, interface::specs::Interface::collect_result, interface::specs::Interface::in_numbers), using(crate::proofs::Numbers::number_back))]
 fn collect(table: &[u8], state: &mut [u8], rights: &[u8], seat: u32) -> Answer
     ensures state_after { state.new ≡ after_by table.now state.old rights.now seat Collect }
     ensures value { result ≡ answer_to table.now state.old rights.now seat Collect }
@@ -143,6 +150,7 @@ fn collect(table: &[u8], state: &mut [u8], rights: &[u8], seat: u32) -> Answer
 }
 
 // The call of three words, at a seat.
+#[tactic(auto, using(crate::specs::Encoding::Laws::arms))]
 fn work_call(
     table: &[u8],
     state: &mut [u8],
@@ -175,6 +183,7 @@ fn part_of(lists: &[u8], from: u32, n: u32) -> &[u8]
 }
 
 // The call of record i.
+#[tactic(auto, using(crate::specs::Encoding::Laws::record_left, crate::specs::Encoding::Laws::record_answer))]
 fn work_record(table: &[u8], state: &mut [u8], lists: &[u8], calls: &[u8], i: usize) -> Answer
     requires { i < 768614336404564650 }
     ensures state_after { state.new ≡ after_seat table.now state.old (record_at lists.now (words calls.now) i) }
@@ -191,6 +200,7 @@ fn work_record(table: &[u8], state: &mut [u8], lists: &[u8], calls: &[u8], i: us
 }
 
 // The word at place i becomes the pattern of z.
+#[tactic(auto, using(crate::specs::Encoding::Laws::number_put))]
 fn put_number(answers: &mut [u8], i: usize, z: i32)
     ensures { words answers.new ≡ set (words answers.old) i (of_z w32 z) }
 {
@@ -198,6 +208,7 @@ fn put_number(answers: &mut [u8], i: usize, z: i32)
 }
 
 // Lays the five words of an answer from place i on.
+#[tactic(auto, unfolding(crate::specs::Encoding::written_from, crate::specs::Encoding::words_of), using(crate::proofs::Numbers::number_back))]
 fn put_answer(answers: &mut [u8], i: usize, answer: Answer)
     requires { i < 4611686018427387904 }
     ensures { words answers.new ≡ written_from (words answers.old) i (words_of answer) }
@@ -253,6 +264,7 @@ pub fn driver_work_file(
 }
 
 // Writes the file of a table, and loads what was written as the other table. Answers the refusal of the write or else that of the load.
+#[tactic(auto, unfolding(crate::specs::Restore::restored), using(crate::proofs::Numbers::number_back, crate::proofs::Numbers::zero_back, crate::specs::Restore::Laws::bytes_inside))]
 pub fn driver_restore(table: &[u8], file: &mut [u8], other: &mut [u8]) -> i32
     ensures { restored_to result file.new other.new ≡ restored table.now file.old other.old }
 {
@@ -266,6 +278,7 @@ pub fn driver_restore(table: &[u8], file: &mut [u8], other: &mut [u8]) -> i32
 }
 
 // Starts a table that keeps to the profile, and no other. Answers the refusal of the check or else that of the start.
+#[tactic(auto, unfolding(crate::specs::ProfiledStart::begun, crate::specs::WorkedFile::start_opening), using(crate::proofs::Numbers::number_back, crate::proofs::Numbers::zero_back))]
 pub fn driver_start_profiled(table: &[u8], state: &mut [u8]) -> i32
     ensures { begun_to result state.new ≡ begun table.now state.old }
 {

@@ -1,50 +1,28 @@
 -- What the admissions answer, and what the calls at a seat come to. Assumes nothing.
-use Rattle.std.specs.Prelude.{◌≡◌, ℕ, Bool, true, false, List, length, get_or, cond, Result, Option, Err, None, Ok, Some, is_some}
+use Rattle.std.specs.Prelude.{◌≡◌, ℕ, Bool, true, false, List, length, get_or, Result, Option, Err, None, Ok, Some, is_some}
 use Rattle.std.proofs.Common.{sym, ◌∙◌, ap, Fits, w8}
 use Rattle.numbers.specs.Bytes.{words}
 use Rattle.numbers.specs.Bytes.Laws.{bytes_fit}
 use Rattle.numbers.specs.Tests.{clash}
 use Rattle.table.specs.Table.{Table, table_of}
 use Rattle.state.specs.State.{State, state_length, view, state_of, state_bytes}
-use Rattle.state.specs.State.Laws.{bytes_view}
 use Rattle.rules.specs.Start.{started}
 use Rattle.rules.specs.Sound.{sound}
-use Rattle.rules.specs.Calls.{outcome, After, afterwards, and_then, start_admission, admission, on_buffers, start_on, start_call, give_on, take_on}
-use Rattle.rules.specs.Calls.Laws.{start_admits, by_refused, by_admitted, give_unchanged, take_unchanged}
+use Rattle.rules.specs.Calls.{outcome, After, afterwards, start_admission, on_buffers, start_on, start_call, give_on, take_on}
+use Rattle.rules.specs.Calls.Laws.{by_refused, by_admitted, give_unchanged, take_unchanged}
 use Rattle.rules.specs.Seats.{at_seat}
 use Rattle.rules.specs.declared.Right.{Right}
 use Rattle.rules.specs.declared.Refusal.{Refusal}
-use Rattle.rules.specs.declared.Refusal.TheVariants as Ground
-use Rattle.rules_laws.specs.Granted.{Granted}
-use Rattle.rules_laws.specs.Accepted.{granted}
 use Rattle.rules_laws.specs.Shape.Laws.{view_shaped}
 use Rattle.rules_laws.specs.Soundness.{Sound}
 use Rattle.rules_laws.specs.Soundness.Laws.{sound_elim}
-use Rattle.engine.specs.Admitted.{Judged, Admits, call_admission, as_called, written_at}
+use Rattle.engine.specs.Admitted.{Admits, call_admission, as_called, written_at}
 
 -- ---- ground 10
 
 pub state_read : (tb : Table) (b w : List ℕ) → length b ≡ state_length → ((i : ℕ) → Fits w8 (get_or b i 0)) → w ≡ words b → (x : Bool) → x ≡ sound tb (state_of w) → x ≡ true
     → Sound tb (state_of w)
 state_read tb b w long fit i x h t = rw i (sound_elim tb (view b) (view_shaped b long (bytes_fit b fit)) (sym (rw i at h) ∙ t))
-
--- ---- a table and a state that are admitted
-
-module _ (table b : List ℕ) (j : Judged table b) where
-  pub judged_length : length b ≡ state_length
-  unfolding Judged
-  judged_length = (start_admits table b j).1
-
-  pub judged_back : ((i : ℕ) → Fits w8 (get_or b i 0)) → state_bytes (view b) ≡ b
-  judged_back fit = bytes_view b judged_length (bytes_fit b fit)
-
-  pub judged_granted : ((i : ℕ) → Fits w8 (get_or table i 0)) → Granted (table_of table)
-  unfolding Judged
-  judged_granted fit = granted table (start_admits table b j).2 (bytes_fit table fit)
-
-  pub judged_admission : admission table b ≡ cond (sound (table_of table) (view b)) (Ok tt) (Err Ground.State)
-  unfolding Judged admission and_then
-  judged_admission = rw j
 
 -- ---- a call at a seat: seen is the table that was admitted, w are the words of the state and w₁ those after the call, which answers r
 

@@ -2,26 +2,49 @@
 -- what its admission answered. Assumes nothing.
 use Rattle.numbers.specs.Tests.{clash}
 use Rattle.numbers.specs.Bytes.{words}
+use Rattle.numbers.specs.Bytes.Laws.{bytes_fit}
 use Rattle.rules.specs.Answers.{Admission}
-use Rattle.std.specs.Prelude.{ℕ, ◌≡◌, List, length, Err, Ok, Result}
-use Rattle.std.proofs.Common.{sym, ◌∙◌, refl, ap}
+use Rattle.std.specs.Prelude.{ℕ, ◌≡◌, List, length, get_or, cond, Err, Ok, Result}
+use Rattle.std.proofs.Common.{sym, ◌∙◌, refl, ap, Fits, w8}
 use Rattle.table.specs.Table.{Table, table_of}
 use Rattle.table.specs.Index.{Indexed}
 use Rattle.flow.specs.Flow.{flow}
 use Rattle.flow.specs.Gaps.{gaps_of}
 use Rattle.state.specs.State.{State, state_length, state_of, state_bytes, view}
+use Rattle.state.specs.State.Laws.{bytes_view}
 use Rattle.rules.specs.Holding.{settled}
+use Rattle.rules.specs.Sound.{sound}
+use Rattle.rules.specs.Calls.Laws.{start_admits}
 use Rattle.rules.specs.Calls.{Outcome, outcome, start_admission, After, afterwards, and_then, admission, by_admission, on_buffers}
 use Rattle.rules.specs.Seats.{seat_admission, at_seat, by_seat}
 use Rattle.rules.specs.Seats.Laws.{seat_refused, seat_granted}
 use Rattle.rules.specs.declared.Right.{Right}
 use Rattle.rules.specs.declared.Refusal.{Refusal}
+use Rattle.rules.specs.declared.Refusal.TheVariants as Ground
 use Rattle.rules_laws.specs.Granted.{Granted}
+use Rattle.rules_laws.specs.Accepted.{granted}
 use Rattle.rules_laws.specs.Soundness.{Sound}
 
 -- a table and a state's buffer that grounds 8 and 9 do not refuse
 unfoldable pub Judged : List ℕ → List ℕ → Type 0
 Judged table state = start_admission table state ≡ Ok tt
+
+-- what that grants: of the table, of the state's buffer, and what is left of the admission
+module _ (table b : List ℕ) (j : Judged table b) where
+  pub judged_length : length b ≡ state_length
+  unfolding Judged
+  judged_length = (start_admits table b j).1
+
+  pub judged_back : ((i : ℕ) → Fits w8 (get_or b i 0)) → state_bytes (view b) ≡ b
+  judged_back fit = bytes_view b judged_length (bytes_fit b fit)
+
+  pub judged_granted : ((i : ℕ) → Fits w8 (get_or table i 0)) → Granted (table_of table)
+  unfolding Judged
+  judged_granted fit = granted table (start_admits table b j).2 (bytes_fit table fit)
+
+  pub judged_admission : admission table b ≡ cond (sound (table_of table) (view b)) (Ok tt) (Err Ground.State)
+  unfolding Judged admission and_then
+  judged_admission = rw j
 
 -- a: what an admission answered
 module _ (a : Admission) where
@@ -65,12 +88,11 @@ abbrev pub admission_by : Result Table Refusal → Admission
 admission_by (Ok tb) = Ok tt
 admission_by (Err r) = Err r
 
--- what is known of a table that grounds 8 and 9 do not refuse: seen is the table, and gaps are those of its flow
-pub record Seen (table state : List ℕ) (seen : Table) (gaps : List ℕ) : Type 0 where
+-- what is known of a table that grounds 8 and 9 do not refuse: seen is the table
+pub record Seen (table state : List ℕ) (seen : Table) : Type 0 where
   pub is : seen ≡ table_of table
   pub judged : Judged table state
   pub granted : Granted seen
-  pub flows : gaps_of gaps ≡ flow seen
 
 -- what is known of buffers that are admitted: seen is the table, ws are the words of the state, and
 -- a state that was not changed would be written back as it came

@@ -7,8 +7,6 @@ ghost use Rattle.std.specs.Prelude.{◌≡◌, cond, length, replicate, Err, Ok,
 ghost use Rattle.numbers.specs.Bytes.{words as words_of};
 ghost use Rattle.table.specs.Table.{max_nodes};
 ghost use Rattle.table.specs.Index.{index_length};
-ghost use Rattle.flow.specs.Flow.{flow};
-ghost use Rattle.flow.specs.Gaps.{gaps_of};
 ghost use Rattle.state.specs.State.{state_length, state_of, view};
 ghost use Rattle.rules.specs.Sound.{sound};
 ghost use Rattle.rules.specs.Calls.{outcome, lengths_right, start_admission, start_call};
@@ -16,6 +14,7 @@ ghost use Rattle.rules.specs.Seats.{seat_admission, seated_step, seated_give, se
 ghost use Rattle.rules_laws.specs.Soundness.{Sound};
 ghost use Rattle.engine.specs.Admitted.{Seen, Admits, admission_by, call_admission};
 
+use flow::Flow;
 pub use loader::GAPS;
 use rules::{Deed, Reason, Refusal, Right};
 pub use state::{WORDS, write};
@@ -30,18 +29,18 @@ fn lengths_right(table: &[u8], state: &[u8]) -> bool
     table.len() == table::BYTES && state.len() == state::BYTES
 }
 
-// Grounds 8 and 9. The table that is admitted comes with its index, which is laid into `index`, and the gaps of its flow are left in `gaps`; both come as zeros.
-#[tactic(auto, unfolding(rules::specs::Calls::start_admission, crate::specs::Admitted::Judged), using(crate::proofs::Laws::judged_granted))]
-fn admit_start<'a>(
+// Grounds 8 and 9. The table that is admitted comes with its index and the gaps of its flow, which are laid into `index` and `gaps`; both come as zeros.
+#[tactic(auto, unfolding(rules::specs::Calls::start_admission, crate::specs::Admitted::Judged), using(crate::specs::Admitted::judged_granted))]
+fn admit_start<'a, 'b>(
     table: &'a [u8],
     state: &[u8],
     index: &'a mut [u32],
-    gaps: &mut [u32],
-) -> Result<Table<'a>, Refusal>
+    gaps: &'b mut [u32],
+) -> Result<Flow<'a, 'b>, Refusal>
     requires index_value { index.old ≡ replicate index_length 0 }
     requires gaps_value { gaps.old ≡ replicate max_nodes 0 }
     ensures value { admission_by result ≡ start_admission table.now state.now }
-    ensures admitted { IfOk result (λ seen. Seen table.now state.now seen gaps.new) }
+    ensures admitted { IfOk result (λ seen. Seen table.now state.now seen) }
 {
     if lengths_right(table, state) {
         loader::accept(table, index, gaps).ok_or(Refusal::Table)
@@ -51,49 +50,43 @@ fn admit_start<'a>(
 }
 
 // Grounds 8, 9, 18 and 19, of a call that asks its seat for a right. Of the state its length is looked at and nothing else. The table that is admitted comes with
-// its index, which is laid into `index`, and the gaps of its flow are left in `gaps`; both come as zeros.
+// its index and the gaps of its flow, which are laid into `index` and `gaps`; both come as zeros.
 #[tactic(auto, unfolding(rules::specs::Seats::seat_admission, rules::specs::Calls::and_then))]
-pub fn admit_seat<'a>(
+pub fn admit_seat<'a, 'b>(
     table: &'a [u8],
     state: &[u8],
     rights: &[u8],
     seat: u32,
     right: Right,
     index: &'a mut [u32],
-    gaps: &mut [u32],
-) -> Result<Table<'a>, Refusal>
+    gaps: &'b mut [u32],
+) -> Result<Flow<'a, 'b>, Refusal>
     requires index_value { index.old ≡ replicate index_length 0 }
     requires gaps_value { gaps.old ≡ replicate max_nodes 0 }
     ensures value { admission_by result ≡ seat_admission table.now state.now rights.now seat right }
-    ensures admitted { IfOk result (λ seen. Seen table.now state.now seen gaps.new) }
+    ensures admitted { IfOk result (λ seen. Seen table.now state.now seen) }
 {
     if rights.len() != seats::BYTES {
         return Err(Refusal::Length);
     }
-    let table = admit_start(table, state, index, gaps)?;
+    let flow = admit_start(table, state, index, gaps)?;
     seats::admit(rights, seat, right)?;
-    Ok(table)
+    Ok(flow)
 }
 
 // Ground 10, where grounds 8 and 9 do not refuse. Of a sound state the words are left in `words`.
-pub fn admit_state(
-    table: &Table,
-    gaps: &[u32],
-    state: &[u8],
-    words: &mut [u32; state::WORDS],
-) -> Result<(), Refusal>
-    requires state_len { length state.now ≡ state_length }
-    requires gaps_value { gaps_of gaps.now ≡ flow table.now }
-    ensures value { result ≡ cond (sound table.now (view state.now)) (Ok tt) (Err Refusal.State) }
+pub fn admit_state(flow: &Flow, state: &[u8], words: &mut state::Words) -> Result<(), Refusal>
+    requires { length state.now ≡ state_length }
+    ensures value { result ≡ cond (sound flow.now (view state.now)) (Ok tt) (Err Refusal.State) }
     ensures words_after { result ≡ Ok tt → words.new ≡ words_of state.now }
-    ensures sound { result ≡ Ok tt → Sound table.now (state_of words.new) }
+    ensures sound { result ≡ Ok tt → Sound flow.now (state_of words.new) }
 {
     // The length is asked once more for the compiler, which then tests it at no look-up.
     if state.len() != state::BYTES {
         return Err(Refusal::Length);
     }
     state::read(state, words);
-    if sound::is_sound(table, gaps, words) {
+    if sound::is_sound(flow, words) {
         Ok(())
     } else {
         Err(Refusal::State)
@@ -102,7 +95,7 @@ pub fn admit_state(
 
 // Grounds 8, 9, 18, 19 and 10, of a call that asks its seat for a right: those before the call's own. The table that is admitted comes with its index, which is laid
 // into `index`, and the words of the state are left in `words`.
-#[tactic(auto, unfolding(crate::specs::Admitted::call_admission, rules::specs::Calls::and_then), using(crate::proofs::Laws::judged_length, crate::proofs::Laws::judged_back, crate::proofs::Laws::judged_admission))]
+#[tactic(auto, unfolding(crate::specs::Admitted::call_admission, rules::specs::Calls::and_then), using(crate::specs::Admitted::judged_length, crate::specs::Admitted::judged_back, crate::specs::Admitted::judged_admission))]
 pub fn admit<'a>(
     table: &'a [u8],
     state: &[u8],
@@ -110,16 +103,16 @@ pub fn admit<'a>(
     seat: u32,
     right: Right,
     index: &'a mut [u32],
-    words: &mut [u32; state::WORDS],
+    words: &mut state::Words,
 ) -> Result<Table<'a>, Refusal>
     requires { index.old ≡ replicate index_length 0 }
     ensures value { admission_by result ≡ call_admission table.now state.now rights.now seat right }
     ensures admitted { IfOk result (λ seen. Admits table.now state.now seen words.new) }
 {
     let mut gaps = [0u32; GAPS];
-    let table = admit_seat(table, state, rights, seat, right, index, &mut gaps)?;
-    admit_state(&table, &gaps, state, words)?;
-    Ok(table)
+    let flow = admit_seat(table, state, rights, seat, right, index, &mut gaps)?;
+    admit_state(&flow, state, words)?;
+    Ok(flow.into_table())
 }
 
 // Writes the state with which a table starts.
@@ -128,9 +121,9 @@ pub fn start(table: &[u8], state: &mut [u8]) -> Result<(), Refusal>
 {
     let mut index = [0u32; table::INDEX];
     let mut gaps = [0u32; GAPS];
-    let table = admit_start(table, state, &mut index, &mut gaps)?;
+    let flow = admit_start(table, state, &mut index, &mut gaps)?;
     let mut words = [0u32; state::WORDS];
-    starts::write_started(&table, &mut words);
+    starts::write_started(flow.table(), &mut words);
     state::write(&words, state);
     Ok(())
 }

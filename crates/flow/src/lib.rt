@@ -3,12 +3,13 @@
 #![tactic(auto)]
 
 ghost use Rattle.std.specs.Prelude.{◌≡◌, ◌+◌, ◌-◌, ◌<◌, replicate};
-ghost use Rattle.table.specs.Table.{max_nodes, nodes, branch_row};
+ghost use Rattle.table.specs.Table.{max_nodes, nodes};
 ghost use Rattle.table.specs.Layout.{start, definition_of};
-ghost use Rattle.table.specs.declared.Part.TheVariants.{Nodes, Branches};
+ghost use Rattle.table.specs.declared.Part.TheVariants.{Nodes};
 ghost use Rattle.flow.specs.Flow.{slot_written, past_write, arrive, beginning, branch_followed, node_followed, flow_to, flow, has_gap};
 ghost use Rattle.flow.specs.Gaps.{bits, gaps_of, gaps_from, seed};
 
+use std::marker::Model;
 use table::{Part, Table, field};
 
 // The numbers that hold the gaps, one for each node.
@@ -117,19 +118,10 @@ fn follow_branch(table: &Table, f: u32, m: u32, row: usize, gaps: &mut [u32])
     let past = past_write(m, slot_written(table, row));
     let next = f as usize + table.cell(row, field::NEXT) as usize;
     arrive_at(gaps, next, past);
-    if table.cell(row, field::ACTION) == 4 {
+    if table.cell(row, field::ACTION) == table::SPAWN {
         let child = f as usize + table.cell(row, field::CHILD) as usize;
         arrive_at(gaps, child, past);
     }
-}
-
-// The row of the first branch of node n.
-#[tactic(auto, unfolding(table::specs::Layout::blocks))]
-fn first_branch(table: &Table, n: u32) -> usize
-    ensures value { result ≡ branch_row table.now + start table.now Branches n }
-    ensures upper_bound { result < 4295229440 }
-{
-    table.branch_row() + table.start(Part::Branches, n) as usize
 }
 
 // Each branch of node n, which has the gaps m, leads on.
@@ -137,7 +129,7 @@ fn follow_branches(table: &Table, n: u32, m: u32, gaps: &mut [u32])
     ensures { gaps_of gaps.new ≡ node_followed table.now n (bits m) (gaps_of gaps.old) }
 {
     let f = first_node(table, n);
-    let row = first_branch(table, n);
+    let row = table.first_branch(n);
     let count = table.branch_count(n);
     for i in 0..count {
         follow_branch(table, f, m, row + i as usize, gaps);
@@ -164,5 +156,56 @@ pub fn find_gaps(table: &Table, gaps: &mut [u32])
     let count = table.node_total();
     for n in 0..count {
         follow_node(table, n, gaps);
+    }
+}
+
+// A table with the gaps of its flow.
+#[derive(Drop)]
+pub struct Flow<'a, 'b> {
+    table: Table<'a>,
+    gaps: &'b [u32],
+}
+
+impl<'a, 'b> Model for Flow<'a, 'b> {
+    ghost use Rattle.std.specs.Prelude.{◌≡◌};
+    ghost use Rattle.table.specs.Table.{Table};
+    ghost use Rattle.flow.specs.Flow.{flow};
+    ghost use Rattle.flow.specs.Gaps.{gaps_of};
+
+    ghost Value = { Table };
+
+    ghost view = { λ f. f.table };
+
+    ghost invariant = { λ f. gaps_of f.gaps.now ≡ flow f.table };
+}
+
+impl<'a, 'b> Flow<'a, 'b> {
+    // The table with the gaps that were found for it.
+    pub fn new(table: Table<'a>, gaps: &'b [u32]) -> Self
+        requires { gaps_of gaps.now ≡ flow table }
+        ensures { result ≡ table.entry }
+    {
+        Flow { table, gaps }
+    }
+
+    // The table alone.
+    pub fn table(&self) -> &Table<'a>
+        ensures { result.now ≡ self.now }
+    {
+        &self.table
+    }
+
+    // The table alone, given up by its flow.
+    pub fn into_table(self) -> Table<'a>
+        ensures { result ≡ self.entry }
+    {
+        self.table
+    }
+
+    // Whether node n has gap k.
+    pub fn has_gap(&self, n: usize, k: u32) -> bool
+        ensures { result ≡ has_gap (flow self.now) n k }
+    {
+        has_gap(self.gaps, n, k)
     }
 }

@@ -3,7 +3,7 @@ use Rattle.std.specs.Prelude.{ℕ, ◌≡◌, refl, ◌≢◌, true, false, List
 use Rattle.std.proofs.Common.{arith, sym, ◌∙◌, ap, inl, inr, ⊎_elim, eqb-true}
 use Rattle.numbers.specs.Count.{bit, count}
 use Rattle.numbers.specs.Search.Laws.{contra}
-use Rattle.marking.proofs.Enabled.Laws.{or_elim}
+use Rattle.std.proofs.lemmas.Bool.{or_cases}
 use Rattle.published.specs.Syntax.{Process, end, choice, nothing, branch, wait, always, output, and_wait, waiting, some_wait, only_waits}
 use Rattle.published.specs.Agents.{◌∈◌, channel, number, Env, holds, Commitment, gives, takes, channel_of, Thread, thread, Channels, adding, Agent, agent, refers, mentions, knows, globalrc, Commits}
 use Rattle.published.specs.Rules.{Rearranged, Acts, step, new, spawn, next, call, inert, send, out, recv, inn, more, Reclaims, reclaim, Sticks, stuck, Reduces, par, acts, reclaims, sticks, exchange, stays, goes, Reaches, Nothing}
@@ -81,7 +81,7 @@ not_reached def Δ Δ' p = contra (all_wait_on def p (λ t i. ⊎_elim (λ q. rw
 gone_unknown : {S T : Agent} → Reclaims S T → (c : ℕ) → S.channels c ≡ true → T.channels c ≡ false → globalrc c S.threads ≡ 0
 unfolding adding
 gone_unknown (reclaim {Δ} {A} ĉ f e) c y n =
-    ⊎_elim (λ q. rw (eqb-true c ĉ q) e) (λ q. contra q n) (or_elim (eqb c ĉ) (Δ c) y)
+    ⊎_elim (λ q. rw (eqb-true c ĉ q) e) (λ q. contra q n) (or_cases (eqb c ĉ) (Δ c) y)
 
 -- channel 0 stays while the lone thread is there
 pub not_reclaimed : (Δ Δ' : Channels) → Δ 0 ≡ true → Δ' 0 ≡ false → ¬ Reclaims (agent Δ (lone ∷ [])) (agent Δ' (lone ∷ []))

@@ -73,14 +73,14 @@ pub fn put_step(out: &mut [u8], at: usize, k: u32, t: u32, answer: Result<(u32, 
 
 // Whether channel c is in use, as a number to count with.
 #[tactic(auto, unfolding(rules::specs::Moves::is_free_channel, numbers::specs::Count::bit))]
-fn in_use(state: &[u32; state::WORDS], c: u32) -> u32
+fn in_use(state: &state::Words, c: u32) -> u32
     ensures { result ≡ bit (not (is_free_channel (state_of state.now) c)) }
 {
     u32::from(state::channel_word(state, c as usize, state::TYPE) != 0)
 }
 
 // How many channels are in use, the ports among them.
-pub fn channels_in_use(state: &[u32; state::WORDS]) -> u32
+pub fn channels_in_use(state: &state::Words) -> u32
     ensures { result ≡ channels_in_use (state_of state.now) }
 {
     let mut n = 0;
@@ -92,34 +92,21 @@ pub fn channels_in_use(state: &[u32; state::WORDS]) -> u32
 
 // The line of thread t, if its row was in use and is free now. Answers the place behind it.
 #[tactic(auto, using(crate::specs::Laid::Laws::length_line), unfolding(crate::specs::Laid::gone_line))]
-fn put_gone(
-    out: &mut [u8],
-    at: usize,
-    before: &[u32; state::WORDS],
-    after: &[u32; state::WORDS],
-    t: u32,
-) -> usize
+fn put_gone(out: &mut [u8], at: usize, before: &state::Words, after: &state::Words, t: u32) -> usize
     requires { at + 13 ≤ length out.old }
     ensures value { result ≡ at + length (gone_line (state_of before.now) (state_of after.now) t) }
     ensures out_after { out.new ≡ sets out.old at (gone_line (state_of before.now) (state_of after.now) t) }
 {
-    if state::thread_word(before, t as usize, state::STATUS) == state::FREE
-        || state::thread_word(after, t as usize, state::STATUS) != state::FREE
-    {
+    if state::status(before, t) == state::FREE || state::status(after, t) != state::FREE {
         at
     } else {
-        let node = state::thread_word(before, t as usize, state::NODE);
+        let node = state::stands_at(before, t);
         put_line(out, at, &[t, node])
     }
 }
 
 // The lines of all threads whose rows were in use and are free now, lowest first. Answers the place behind them.
-pub fn list_gone(
-    out: &mut [u8],
-    at: usize,
-    before: &[u32; state::WORDS],
-    after: &[u32; state::WORDS],
-) -> usize
+pub fn list_gone(out: &mut [u8], at: usize, before: &state::Words, after: &state::Words) -> usize
     requires { at + 832 ≤ length out.old }
     ensures value { result ≡ at + length (gone_lines (state_of before.now) (state_of after.now) max_threads) }
     ensures out_after { out.new ≡ sets out.old at (gone_lines (state_of before.now) (state_of after.now) max_threads) }

@@ -11,7 +11,7 @@ ghost use Rattle.rules.specs.Calls.{turned, take_turn, course_of};
 ghost use Rattle.rules_laws.specs.Granted.{Granted};
 ghost use Rattle.rules_laws.specs.Soundness.{Sound};
 ghost use Rattle.listing_text.specs.Listing.{max_steps, step_lines, run_lines, listing};
-ghost use Rattle.listing_text.specs.Laying.{longest, past, shown_turn, ended, end_of};
+ghost use Rattle.listing_text.specs.Laying.{past, shown_turn, ended, end_of};
 
 use loader::LoadRefusal;
 use rules::Reason;
@@ -36,21 +36,20 @@ struct Run {
 // One turn of a run that has made i steps: the next ready thread makes its step, and the turn moves past it. The line of the step is laid behind those before.
 fn list_turn(
     table: &Table,
-    state: &mut [u32; state::WORDS],
-    out: &mut [u8],
+    state: &mut state::Words,
+    out: &mut [u8; LONGEST],
     i: u32,
 ) -> ControlFlow<Reason>
     requires granted { Granted table.now }
     requires sound { Sound table.now (state_of state.old) }
     requires i_lt_max_steps { i < max_steps }
-    requires out_len { length out.old ≡ longest }
     ensures state_after { turned result (state_of state.new) ≡ take_turn table.now (state_of state.old) }
     ensures sound_after { Sound table.now (state_of state.new) }
     ensures out_after { out.new ≡ sets out.old (past i) (shown_turn result table.now i (state_of state.old)) }
 {
     let t = next_rows::next_ready(state, state::THREADS);
     if t < state::THREADS {
-        let node = state::thread_word(state, t as usize, state::NODE);
+        let node = state::stands_at(state, t);
         let round = turns::turn_of(table, state, t, state::THREADS);
         turns::settle_waiting(table, state);
         let m = round.decided;
@@ -68,10 +67,9 @@ fn list_turn(
 }
 
 // At most 1,000 turns, and the lines of their steps behind the heading.
-fn list_steps(table: &Table, state: &mut [u32; state::WORDS], out: &mut [u8]) -> Run
+fn list_steps(table: &Table, state: &mut state::Words, out: &mut [u8; LONGEST]) -> Run
     requires granted { Granted table.now }
     requires sound { Sound table.now (state_of state.old) }
-    requires out_len { length out.old ≡ longest }
     ensures state_after { ended result (state_of state.new) ≡ course_of table.now max_steps (state_of state.old) }
     ensures sound_after { Sound table.now (state_of state.new) }
     ensures steps_value { result.steps * 37 ≡ length (step_lines table.now (state_of state.old)) }
@@ -89,10 +87,9 @@ fn list_steps(table: &Table, state: &mut [u32; state::WORDS], out: &mut [u8]) ->
 }
 
 // A collection after a run: the closing line, and the lines of the threads that it takes. Answers the place behind them.
-fn list_end(table: &Table, state: &mut [u32; state::WORDS], out: &mut [u8], run: Run) -> usize
+fn list_end(table: &Table, state: &mut state::Words, out: &mut [u8; LONGEST], run: Run) -> usize
     requires state_value { settled table.now (state_of state.old) ≡ state_of state.old }
     requires steps_le_max_steps { run.steps ≤ max_steps }
-    requires out_len { length out.old ≡ longest }
     ensures value { result ≡ past run.steps + length (end_of table.now run (state_of state.old)) }
     ensures out_after { out.new ≡ sets out.old (past run.steps) (end_of table.now run (state_of state.old)) }
 {
@@ -108,22 +105,22 @@ fn list_end(table: &Table, state: &mut [u32; state::WORDS], out: &mut [u8], run:
 }
 
 // The listing of an accepted table: the heading, the run from the state with which the table starts, and what follows it. Answers its length.
-fn list_table(table: &[u8], out: &mut [u8]) -> usize
-    requires accepted { accepted table.now ≡ true }
-    requires out_len { length out.old ≡ longest }
+fn list_table(table: &[u8], out: &mut [u8; LONGEST]) -> usize
+    requires { accepted table.now ≡ true }
     ensures value { result ≡ length (run_lines (table_of table.now)) }
     ensures out_after { out.new ≡ sets out.old 0 (run_lines (table_of table.now)) }
 {
     let mut index = [0u32; table::INDEX];
     let mut gaps = [0u32; loader::GAPS];
-    let Some(table) = loader::accept(table, &mut index, &mut gaps) else {
+    let Some(accepted) = loader::accept(table, &mut index, &mut gaps) else {
         return 0;
     };
+    let table = accepted.table();
     let mut state = [0u32; state::WORDS];
-    starts::write_started(&table, &mut state);
+    starts::write_started(table, &mut state);
     listing_lines::put_heading(out);
-    let run = list_steps(&table, &mut state, out);
-    list_end(&table, &mut state, out, run)
+    let run = list_steps(table, &mut state, out);
+    list_end(table, &mut state, out, run)
 }
 
 // The listing of a file, at the front of a buffer. Answers how many characters it has; what stands behind them in the buffer stays.

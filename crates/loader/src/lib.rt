@@ -1,7 +1,7 @@
 // Loading a procedure file: grounds 1 to 8, and ground 9 for a table that is handed in.
 #![tactic(auto)]
 
-ghost use Rattle.std.specs.Prelude.{Some, None, ◌≡◌, suc, cond, ltb, Ok, Err, true, ◌≤◌, length, replicate};
+ghost use Rattle.std.specs.Prelude.{Some, None, ◌≡◌, suc, cond, ltb, Ok, Err, ◌≤◌, length, replicate};
 ghost use Rattle.numbers.specs.Search.{every};
 ghost use Rattle.table.specs.Table.{table_of, max_rows, max_nodes, line_total};
 ghost use Rattle.table.specs.Index.{index_length, Indexed};
@@ -12,7 +12,7 @@ ghost use Rattle.file.specs.EmptyFile.{procedure_text};
 ghost use Rattle.loader.specs.Verdict.{judged_flow, judged_rows, judged, verdict, rest_zero};
 ghost use Rattle.loader.specs.Load.{Outcome, loaded, accepted, table_length};
 
-pub use flow::GAPS;
+pub use flow::{Flow, GAPS};
 use table::Table;
 
 // Why a file is refused. Ground 3 has its four tests apart, in their order: header, total, kind, sums.
@@ -58,30 +58,31 @@ fn pass(ground: Ground, row: usize, n: usize) -> Result<(), (Ground, usize)>
 
 // Grounds 6 and 7, of a table that has passed those before. The gaps of its flow are left in `gaps`, which comes as zeros.
 #[tactic(auto, unfolding(crate::specs::Verdict::judged_flow, crate::specs::Verdict::at_fault))]
-fn judge_flow(table: &Table, gaps: &mut [u32], n: usize) -> Result<(), (Ground, usize)>
+fn judge_flow(table: Table, gaps: &mut [u32], n: usize) -> Result<(), (Ground, usize)>
     requires gaps_value { gaps.old ≡ replicate max_nodes 0 }
-    ensures value { result ≡ judged_flow table.now n }
-    ensures gaps_after { gaps_of gaps.new ≡ flow table.now }
+    ensures value { result ≡ judged_flow table.entry n }
+    ensures gaps_after { gaps_of gaps.new ≡ flow table.entry }
 {
-    flow::find_gaps(table, gaps);
-    let unwritten = paths::first_reads_unwritten(table, gaps, n);
+    flow::find_gaps(&table, gaps);
+    let flow = Flow::new(table, gaps);
+    let unwritten = paths::first_reads_unwritten(&flow, n);
     pass(Ground::Unwritten, unwritten, n)?;
     pass(
         Ground::Unreachable,
-        paths::first_unreachable(table.bytes(), gaps, n),
+        paths::first_unreachable(flow.table().bytes(), gaps, n),
         n,
     )
 }
 
 // Grounds 4 and on, of a table that has passed ground 3. The gaps of the flow of a table in which there is no fault are left in `gaps`, which comes as zeros.
 #[tactic(auto, unfolding(crate::specs::Verdict::judged_rows, crate::specs::Verdict::at_fault))]
-fn judge_rows(table: &Table, gaps: &mut [u32], n: usize) -> Result<(), (Ground, usize)>
+fn judge_rows(table: Table, gaps: &mut [u32], n: usize) -> Result<(), (Ground, usize)>
     requires gaps_value { gaps.old ≡ replicate max_nodes 0 }
-    ensures value { result ≡ judged_rows table.now n }
-    ensures gaps_after { result ≡ Ok tt → gaps_of gaps.new ≡ flow table.now }
+    ensures value { result ≡ judged_rows table.entry n }
+    ensures gaps_after { result ≡ Ok tt → gaps_of gaps.new ≡ flow table.entry }
 {
-    pass(Ground::Range, ranges::first_out_of_range(table, n), n)?;
-    pass(Ground::Types, types::first_types_disagree(table, n), n)?;
+    pass(Ground::Range, ranges::first_out_of_range(&table, n), n)?;
+    pass(Ground::Types, types::first_types_disagree(&table, n), n)?;
     judge_flow(table, gaps, n)
 }
 
@@ -111,7 +112,7 @@ fn judge(table: &[u8], index: &mut [u32], gaps: &mut [u32], n: usize) -> Result<
         return Err((Ground::Sums, 1));
     }
     table::indexing::fill_index(table, index);
-    judge_rows(&Table::new(table, index), gaps, n)
+    judge_rows(Table::new(table, index), gaps, n)
 }
 
 // The verdict on a file; the numbers of a file in which there is no fault are left in `table`, which comes as zeros.
@@ -178,21 +179,24 @@ fn rest_is_zero(table: &[u8], n: usize) -> bool
     all == 0
 }
 
-// Ground 9: the table that a buffer holds, if it is one that loading yields. Its index is laid into `index` and the gaps of its flow into `gaps`, which come as
-// zeros; for any other table it is left open what they hold, and nobody may use them.
+// Ground 9: the table that a buffer holds, if it is one that loading yields. It comes with its index and the gaps of its flow, which are laid into `index` and
+// `gaps`; both come as zeros.
 #[tactic(auto, unfolding(crate::specs::Load::accepted, crate::specs::Verdict::acceptable, crate::specs::Verdict::is_sound), using(crate::specs::Verdict::Laws::sound_few))]
-pub fn accept<'a>(table: &'a [u8], index: &'a mut [u32], gaps: &mut [u32]) -> Option<Table<'a>>
+pub fn accept<'a, 'b>(
+    table: &'a [u8],
+    index: &'a mut [u32],
+    gaps: &'b mut [u32],
+) -> Option<Flow<'a, 'b>>
     requires index_value { index.old ≡ replicate index_length 0 }
     requires gaps_value { gaps.old ≡ replicate max_nodes 0 }
     ensures value { result ≡ cond (accepted table.now) (Some (table_of table.now)) None }
-    ensures gaps_after { accepted table.now ≡ true → gaps_of gaps.new ≡ flow (table_of table.now) }
 {
     if table.len() != table::BYTES {
         return None;
     }
     let n = table::line_total(table);
     if judge(table, index, gaps, n).is_ok() && rest_is_zero(table, n) {
-        Some(Table::new(table, index))
+        Some(Flow::new(Table::new(table, index), gaps))
     } else {
         None
     }

@@ -14,7 +14,7 @@ use Rattle.numbers.specs.Search.Laws.{case_b, get_d_tabulate, length_tabulate, i
 use Rattle.state.specs.State.{max_channels}
 use Rattle.marking.specs.Marking.{ports_to}
 
--- know_ports
+-- known_ports
 pub ports_none : (k : List Bool) → k ≡ replicate max_channels false → k ≡ ports_to 0
 unfolding ports_to
 ports_none k e =

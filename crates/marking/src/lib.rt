@@ -1,10 +1,10 @@
 // Marks the enabled threads of a state, in rounds over all threads. Which threads are enabled stands in specs/Enabled.antt.
 #![tactic(auto)]
 
-ghost use Rattle.std.specs.Prelude.{◌≡◌, false, ◌+◌, ◌≤◌, get_or, replicate};
+ghost use Rattle.std.specs.Prelude.{◌≡◌, false, ◌+◌, ◌≤◌, get_or};
 ghost use Rattle.numbers.specs.Count.{bit};
 ghost use Rattle.table.specs.Table.{ports};
-ghost use Rattle.state.specs.State.{max_threads, max_channels, state_of, thread};
+ghost use Rattle.state.specs.State.{max_threads, state_of, thread};
 ghost use Rattle.marking.specs.Enabled.{nobody, enabled_set};
 ghost use Rattle.marking.specs.Marking.{ports_to, comes, marked_if, known_if, Marking, Still, unmarked};
 
@@ -21,7 +21,7 @@ pub fn mark_at(list: &[bool], i: usize) -> bool
 #[tactic(auto, unfolding(crate::specs::Marking::comes))]
 fn joins_now(
     table: &Table,
-    state: &[u32; state::WORDS],
+    state: &state::Words,
     t: u32,
     marks: &[bool; state::THREADS as usize],
     known: &[bool; state::CHANNELS as usize],
@@ -37,7 +37,7 @@ fn joins_now(
 #[tactic(auto, unfolding(crate::specs::Marking::marked_if, crate::specs::Marking::known_if))]
 fn visit(
     table: &Table,
-    state: &[u32; state::WORDS],
+    state: &state::Words,
     t: u32,
     marks: &mut [bool; state::THREADS as usize],
     known: &mut [bool; state::CHANNELS as usize],
@@ -57,7 +57,7 @@ fn visit(
 // One round over the threads. Answers whether it marked one; where it did not, none is left to be marked.
 fn round(
     table: &Table,
-    state: &[u32; state::WORDS],
+    state: &state::Words,
     marks: &mut [bool; state::THREADS as usize],
     known: &mut [bool; state::CHANNELS as usize],
 ) -> bool
@@ -73,27 +73,24 @@ fn round(
     changed
 }
 
-// The ports become known: the bench holds them, whoever else does.
-fn know_ports(table: &Table, known: &mut [bool; state::CHANNELS as usize])
-    requires known_value { known.old ≡ replicate max_channels false }
-    ensures { known.new ≡ ports_to (ports table.now) }
-{
-    let n = engine::port_count(table);
-    for c in 0..n {
-        numbers::put_item(known, c as usize, true);
-    }
-}
-
-// The enabled threads are marked, where none was: rounds, until one marks nobody.
-pub fn mark_enabled(
-    table: &Table,
-    state: &[u32; state::WORDS],
-    marks: &mut [bool; state::THREADS as usize],
-)
-    requires marks_value { marks.old ≡ replicate max_threads false }
-    ensures { marks.new ≡ enabled_set table.now (state_of state.now) nobody }
+// The channels that are known from the first, the ports: the bench holds them, whoever else does.
+fn known_ports(table: &Table) -> [bool; state::CHANNELS as usize]
+    ensures { result ≡ ports_to (ports table.now) }
 {
     let mut known = [false; state::CHANNELS as usize];
-    know_ports(table, &mut known);
-    while round(table, state, marks, &mut known) {}
+    let n = engine::port_count(table);
+    for c in 0..n {
+        numbers::put_item(&mut known, c as usize, true);
+    }
+    known
+}
+
+// The marks of the enabled threads: rounds, until one marks nobody.
+pub fn mark_enabled(table: &Table, state: &state::Words) -> [bool; state::THREADS as usize]
+    ensures { result ≡ enabled_set table.now (state_of state.now) nobody }
+{
+    let mut marks = [false; state::THREADS as usize];
+    let mut known = known_ports(table);
+    while round(table, state, &mut marks, &mut known) {}
+    marks
 }

@@ -1,5 +1,5 @@
 -- One law for each way out of the functions that write a meeting. Assumes nothing.
-use Prim.Native.Nat.{ℕ, ◌<◌}
+use Prim.Native.Nat.{ℕ}
 use mathlib.Core.Path.{◌≡◌, sym, ◌∙◌, ap}
 use mathlib.Core.Logic.{◌≢◌}
 use mathlib.Core.List.{List}
@@ -7,7 +7,7 @@ use lib.Seq.{set_comm}
 use Rattle.numbers.specs.Rows.{at}
 use Rattle.table.specs.Fields as Field
 use Rattle.table.specs.Table.{Table}
-use Rattle.state.specs.State.{max_threads, State, state_of, thread, stands_at, slot_of, with_thread, with_threads}
+use Rattle.state.specs.State.{State, state_of, thread, stands_at, slot_of, with_thread, with_threads}
 use Rattle.state.specs.State.Laws.{thread_other}
 use Rattle.rules.specs.Program.{branch_at, next_of, act_of, opposite}
 use Rattle.rules.specs.Moves.{resumed, stored, met, side_of, row_of, met_by, value_by, written}
@@ -29,10 +29,10 @@ module _ (tb : Table) (b : List ℕ) (t i v x r n k : ℕ) (c : Act) (d : Direct
   unfolding met_by
   same_row = rw (g, f, o, z, q, p)
 
-  pub receiver_goes : (s₂ : State) → s₂ ≡ with_thread s₁ t (stored (thread s₁ t) k v) → t < max_threads → d ≡ In
+  pub receiver_goes : (s₂ : State) → s₂ ≡ with_thread s₁ t (stored (thread s₁ t) k v) → d ≡ In
       → s₂ ≡ with_thread (state_of b) t (met_by tb (thread (state_of b) t) i v)
   unfolding met
-  receiver_goes s₂ j l h = rw (← same_row, h) (stored_after b t (resumed (thread (state_of b) t) n) s₁ s₂ k v j e l)
+  receiver_goes s₂ j h = rw (← same_row, h) (stored_after b t (resumed (thread (state_of b) t) n) s₁ s₂ k v j e)
 
 -- ---- two rows: threads t and u go on with what the other one gives
 
@@ -48,14 +48,14 @@ both_go tb s s₁ s₂ t i u j x y e f g h n =
 
 -- s₁, of the words b₁, after t's row is written, s₂ after the head of u's row is, and s₃ with what is given in u's slot
 pub passed_on : (tb : Table) (s : State) (b₁ : List ℕ) (s₂ s₃ : State) (t a u b n m k v x y z : ℕ) → s₃ ≡ with_thread s₂ u (stored (thread s₂ u) k v)
-    → s₂ ≡ with_thread (state_of b₁) u (resumed (thread (state_of b₁) u) m) → state_of b₁ ≡ with_thread s t (resumed (thread s t) n) → u < max_threads → u ≢ t
+    → s₂ ≡ with_thread (state_of b₁) u (resumed (thread (state_of b₁) u) m) → state_of b₁ ≡ with_thread s t (resumed (thread s t) n) → u ≢ t
     → n ≡ next_of tb y a
     → y ≡ stands_at (thread s t) → m ≡ next_of tb z b → z ≡ stands_at (thread s u) → k ≡ at tb b Field.b → x ≡ at tb a Field.b → v ≡ slot_of (thread s t) x
     → s₃ ≡ passed tb s t a u b
 unfolding passed met
-passed_on tb s b₁ s₂ s₃ t a u b n m k v x y z d e f c o p i q j g h l =
+passed_on tb s b₁ s₂ s₃ t a u b n m k v x y z d e f o p i q j g h l =
     let w : thread (state_of b₁) u ≡ thread s u = ap (λ (r : State). thread r u) f ∙ thread_other s t (resumed (thread s t) n) u o in
-    stored_after b₁ u (resumed (thread (state_of b₁) u) m) s₂ s₃ k v d e c ∙ rw (w, f, p, i, q, j, g, l, h)
+    stored_after b₁ u (resumed (thread (state_of b₁) u) m) s₂ s₃ k v d e ∙ rw (w, f, p, i, q, j, g, l, h)
 
 swapped : (s : State) (t u : ℕ) (x y : List ℕ) → u ≢ t → with_thread (with_thread s u x) t y ≡ with_thread (with_thread s t y) u x
 unfolding with_thread

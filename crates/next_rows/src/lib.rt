@@ -9,15 +9,15 @@ ghost use Rattle.next_rows.specs.UsedBelow.{UsedBelow};
 
 // Whether row u of the threads is free.
 #[tactic(auto, unfolding(rules::specs::Moves::is_free_thread))]
-fn is_free_thread(state: &[u32; state::WORDS], u: u32) -> bool
+fn is_free_thread(state: &state::Words, u: u32) -> bool
     ensures { result ≡ is_free_thread (state_of state.now) u }
 {
-    state::thread_word(state, u as usize, state::STATUS) == state::FREE
+    state::status(state, u) == state::FREE
 }
 
 // Whether row c of the channels is free.
 #[tactic(auto, unfolding(rules::specs::Moves::is_free_channel))]
-fn is_free_channel(state: &[u32; state::WORDS], c: u32) -> bool
+fn is_free_channel(state: &state::Words, c: u32) -> bool
     ensures { result ≡ is_free_channel (state_of state.now) c }
 {
     state::channel_word(state, c as usize, state::TYPE) == 0
@@ -25,15 +25,15 @@ fn is_free_channel(state: &[u32; state::WORDS], c: u32) -> bool
 
 // Whether thread u is ready.
 #[tactic(auto, unfolding(rules::specs::Calls::is_ready_thread))]
-fn is_ready_thread(state: &[u32; state::WORDS], u: u32) -> bool
+fn is_ready_thread(state: &state::Words, u: u32) -> bool
     ensures { result ≡ is_ready_thread (state_of state.now) u }
 {
-    state::thread_word(state, u as usize, state::STATUS) == state::READY
+    state::status(state, u) == state::READY
 }
 
 // One past the last row of the threads that is in use.
 #[tactic(auto, using(crate::specs::UsedBelow::used_all, crate::specs::UsedBelow::used_less))]
-pub fn rows_used(state: &[u32; state::WORDS]) -> u32
+pub fn rows_used(state: &state::Words) -> u32
     ensures { UsedBelow (state_of state.now) result }
 {
     for u in (0..state::THREADS).rev() {
@@ -65,7 +65,7 @@ fn first_around<F: Fn(u32) -> bool>(n: u32, mark: u32, test: F) -> u32
 
 // The first free row of the threads from their mark on and around the end; 64 where there is none.
 #[tactic(auto, unfolding(rules::specs::Moves::free_thread))]
-pub fn free_thread(state: &[u32; state::WORDS]) -> u32
+pub fn free_thread(state: &state::Words) -> u32
     ensures value { result ≡ free_thread (state_of state.now) }
     ensures upper_bound { result ≤ max_threads }
 {
@@ -75,7 +75,7 @@ pub fn free_thread(state: &[u32; state::WORDS]) -> u32
 
 // The first free row of the channels from their mark on and around the end; 128 where there is none.
 #[tactic(auto, unfolding(rules::specs::Moves::free_channel))]
-pub fn free_channel(state: &[u32; state::WORDS]) -> u32
+pub fn free_channel(state: &state::Words) -> u32
     ensures value { result ≡ free_channel (state_of state.now) }
     ensures upper_bound { result ≤ max_channels }
 {
@@ -84,7 +84,7 @@ pub fn free_channel(state: &[u32; state::WORDS]) -> u32
 }
 
 // The first ready thread from the turn on and around the end, where no row from top on is in use; 64 where there is none.
-pub fn next_ready(state: &[u32; state::WORDS], top: u32) -> u32
+pub fn next_ready(state: &state::Words, top: u32) -> u32
     requires { UsedBelow (state_of state.now) top }
     ensures value { result ≡ next_ready (state_of state.now) }
     ensures upper_bound { result ≤ max_threads }

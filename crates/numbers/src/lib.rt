@@ -26,6 +26,7 @@ fn quad(a: u8, b: u8, c: u8, d: u8) -> u32
 }
 
 // The 16-bit number at place i.
+#[tactic(auto, using(crate::specs::Bytes::Laws::short_is, crate::specs::Bytes::Laws::number_past))]
 pub fn short_at(s: &[u8], i: usize) -> u32
     ensures value { result ≡ slice_index (shorts s.now) i }
     ensures upper_bound { result < 65536 }
@@ -39,6 +40,7 @@ pub fn short_at(s: &[u8], i: usize) -> u32
 }
 
 // The 16-bit number at place i becomes v.
+#[tactic(auto, using(crate::specs::Bytes::Laws::short_put, crate::specs::Bytes::Laws::short_bytes, crate::specs::Bytes::Laws::numbers_kept))]
 pub fn put_short(s: &mut [u8], i: usize, v: u16)
     ensures { shorts s.new ≡ slice_set (shorts s.old) i v }
 {
@@ -50,6 +52,7 @@ pub fn put_short(s: &mut [u8], i: usize, v: u16)
 }
 
 // The word at place i.
+#[tactic(auto, using(crate::specs::Bytes::Laws::word_is, crate::specs::Bytes::Laws::number_past))]
 pub fn word_at(s: &[u8], i: usize) -> u32
     ensures { result ≡ slice_index (words s.now) i }
 {
@@ -62,6 +65,7 @@ pub fn word_at(s: &[u8], i: usize) -> u32
 }
 
 // The word at place i becomes v.
+#[tactic(auto, using(crate::specs::Bytes::Laws::word_put, crate::specs::Bytes::Laws::word_bytes, crate::specs::Bytes::Laws::numbers_kept))]
 pub fn put_word(s: &mut [u8], i: usize, v: u32)
     ensures { words s.new ≡ slice_set (words s.old) i v }
 {
@@ -82,6 +86,7 @@ pub fn item_at<T: Copy>(list: &[T], i: usize, outside: T) -> T
 }
 
 // The item at place i of a list becomes v.
+#[tactic(auto, using(std::proofs::lemmas::List::set_past))]
 pub fn put_item<T: Copy>(list: &mut [T], i: usize, v: T)
     ensures { list.new ≡ set list.old i v }
 {
@@ -120,6 +125,7 @@ pub fn pattern(x: i32) -> u32
 }
 
 // Whether the number of pattern x is below that of pattern y.
+#[tactic(auto, unfolding(crate::specs::Signed::lower))]
 pub fn below(x: u32, y: u32) -> bool
     ensures { result ≡ lower x y }
 {

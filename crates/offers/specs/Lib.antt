@@ -1,5 +1,6 @@
 pub mod Offer
 pub mod Apart
+pub mod Moment
 pub mod Partners
 pub mod Seen
 pub mod Tried

@@ -2,9 +2,6 @@
 #![tactic(auto)]
 
 ghost use Rattle.std.specs.Prelude.{◌≡◌, true, ◌+◌, ◌≤◌, ◌<◌};
-ghost use Rattle.table.specs.Table.{node_row, branch_row};
-ghost use Rattle.table.specs.Layout.{start};
-ghost use Rattle.table.specs.declared.Part.TheVariants.{Branches};
 ghost use Rattle.state.specs.State.{max_threads, state_of, thread, is_waiting};
 ghost use Rattle.rules.specs.Program.{act_of, same};
 ghost use Rattle.rules.specs.Offers.{offers_at, partner_of};
@@ -16,9 +13,8 @@ ghost use Rattle.offers.specs.Seen.{seen_in};
 ghost use Rattle.offers.specs.Tried.{is_waiting_thread, tried, first_row};
 
 use rules::{Act, Direction};
-use table::{Part, Table, field};
-
-const CHOICE: u32 = 1;
+use std::marker::Model;
+use table::{Table, field};
 
 // What the branch in a row, of thread u, offers on channel c: a meeting on it whose guard is true, which assigns nothing that would have to fit. The
 // guard is read last, since in a search most branches fail by their act or by their channel.
@@ -26,7 +22,7 @@ const CHOICE: u32 = 1;
 pub fn offer_on(
     table: &Table,
     row: usize,
-    state: &[u32; state::WORDS],
+    state: &state::Words,
     u: u32,
     c: u32,
 ) -> Option<Direction>
@@ -50,14 +46,7 @@ enum Seen {
 
 // The branch in a row, of thread u, to a search for an offer of d on channel c.
 #[tactic(auto, unfolding(crate::specs::Seen::seen_in, crate::specs::Seen::seen_as, rules::specs::Program::same))]
-fn seen_in(
-    table: &Table,
-    row: usize,
-    state: &[u32; state::WORDS],
-    u: u32,
-    d: Direction,
-    c: u32,
-) -> Seen
+fn seen_in(table: &Table, row: usize, state: &state::Words, u: u32, d: Direction, c: u32) -> Seen
     ensures { result ≡ seen_in table.now (thread (state_of state.now) u) d c row }
 {
     match offer_on(table, row, state, u, c) {
@@ -67,16 +56,14 @@ fn seen_in(
     }
 }
 
-// How many branches of thread u, which waits, are tried for thread t: none of its own. The rows of the nodes begin at the row `nodes`.
+// How many branches of thread u, which waits, are tried for thread t: none of its own.
 #[tactic(auto, unfolding(crate::specs::Tried::tried, table::specs::Layout::branch_count))]
-fn branches_asked(table: &Table, nodes: usize, state: &[u32; state::WORDS], t: u32, u: u32) -> u32
-    requires nodes_value { nodes ≡ node_row table.now }
-    requires nodes_bound { nodes ≤ 196608 }
-    requires waits { is_waiting (thread (state_of state.now) u) ≡ true }
+fn branches_asked(table: &Table, state: &state::Words, t: u32, u: u32) -> u32
+    requires { is_waiting (thread (state_of state.now) u) ≡ true }
     ensures { result ≡ tried table.now (state_of state.now) t u }
 {
-    let row = nodes + state::thread_word(state, u as usize, state::NODE) as usize;
-    if u != t && table.cell(row, field::NODE_KIND) == CHOICE {
+    let row = table.node_row() + state::stands_at(state, u) as usize;
+    if u != t && table.cell(row, field::NODE_KIND) == table::CHOICE {
         table.cell(row, field::OWN_BRANCHES)
     } else {
         0
@@ -85,127 +72,134 @@ fn branches_asked(table: &Table, nodes: usize, state: &[u32; state::WORDS], t: u
 
 // How many branches of thread u are tried for thread t: none of its own, and none of a thread that does not wait.
 #[tactic(auto, unfolding(crate::specs::Tried::tried))]
-fn branches_tried(table: &Table, nodes: usize, state: &[u32; state::WORDS], t: u32, u: u32) -> u32
-    requires nodes_value { nodes ≡ node_row table.now }
-    requires nodes_bound { nodes ≤ 196608 }
+fn branches_tried(table: &Table, state: &state::Words, t: u32, u: u32) -> u32
     ensures { result ≡ tried table.now (state_of state.now) t u }
 {
-    if state::thread_word(state, u as usize, state::STATUS) == state::WAITING {
-        branches_asked(table, nodes, state, t, u)
+    if state::status(state, u) == state::WAITING {
+        branches_asked(table, state, t, u)
     } else {
         0
     }
-}
-
-// The row of the first branch of a node, where the rows of the nodes begin at a row.
-pub fn first_branch(table: &Table, nodes: usize, node: u32) -> usize
-    requires nodes_value { nodes ≡ node_row table.now }
-    requires nodes_bound { nodes ≤ 196608 }
-    ensures value { result ≡ branch_row table.now + start table.now Branches node }
-    ensures upper_bound { result ≤ 12844864 }
-{
-    let branches = nodes + table.cell(0, field::NODES) as usize;
-    branches + table.start(Part::Branches, node) as usize
 }
 
 // The row of the first branch of thread u, of which n are tried; 0 where none is.
 #[tactic(auto, unfolding(crate::specs::Tried::first_row))]
-fn first_row(table: &Table, nodes: usize, state: &[u32; state::WORDS], u: u32, n: u32) -> usize
-    requires nodes_value { nodes ≡ node_row table.now }
-    requires nodes_bound { nodes ≤ 196608 }
+fn first_row(table: &Table, state: &state::Words, u: u32, n: u32) -> usize
     ensures value { result ≡ first_row table.now (state_of state.now) u n }
-    ensures upper_bound { result ≤ 12844864 }
+    ensures upper_bound { result ≤ 12583201 }
 {
     if n == 0 {
         0
     } else {
-        first_branch(
-            table,
-            nodes,
-            state::thread_word(state, u as usize, state::NODE),
-        )
+        table.first_branch(state::stands_at(state, u))
     }
-}
-
-// The number from which on no row is in use, seen to be at most that of all rows.
-#[tactic(auto, unfolding(next_rows::specs::UsedBelow::UsedBelow))]
-fn at_most_all(state: &[u32; state::WORDS], top: u32) -> u32
-    requires { UsedBelow (state_of state.now) top }
-    ensures { UsedBelow (state_of state.now) result }
-{
-    top.min(state::THREADS)
 }
 
 // The first waiting thread from a number on, below a limit; the limit where there is none.
 #[tactic(auto, unfolding(crate::specs::Tried::is_waiting_thread))]
-fn next_waiting(state: &[u32; state::WORDS], from: u32, limit: u32) -> u32
+fn next_waiting(state: &state::Words, from: u32, limit: u32) -> u32
     requires { from ≤ limit }
     ensures value { result ≡ first_from limit from (is_waiting_thread (state_of state.now)) }
     ensures upper_bound { result ≤ limit }
 {
-    next_rows::first_from(
-        limit,
-        from,
-        |u| state::thread_word(state, u as usize, state::STATUS) == state::WAITING,
-    )
+    next_rows::first_from(limit, from, |u| state::status(state, u) == state::WAITING)
 }
 
-// The first waiting thread other than t that offers d on channel c, and the first of its branches that does. No row from top on is in use.
-// Where a thread competes, that is, offers t's own direction on c, no other thread offers d, and the search ends with its branches.
-pub fn find_partner(
-    table: &Table,
-    state: &[u32; state::WORDS],
-    t: u32,
-    d: Direction,
-    c: u32,
+// A state in which a move is decided, with its table: no thread row from top on is in use, and no two threads that wait could meet.
+#[derive(Drop)]
+pub struct Moment<'a, 'b> {
+    table: &'a Table<'a>,
+    state: &'b state::Words,
     top: u32,
-) -> Option<(u32, u32)>
-    requires used_below { UsedBelow (state_of state.now) top }
-    requires apart { Apart table.now (state_of state.now).threads }
-    ensures { result ≡ partner_of table.now (state_of state.now) t d c }
-{
-    if state::CHANNELS <= c {
-        return None;
+}
+
+impl<'a, 'b> Model for Moment<'a, 'b> {
+    ghost use Rattle.state.specs.State.{state_of};
+    ghost use Rattle.next_rows.specs.UsedBelow.{UsedBelow};
+    ghost use Rattle.offers.specs.Apart.{Apart};
+    ghost use Rattle.offers.specs.Moment.{Moment};
+
+    ghost Value = { Moment };
+
+    ghost view = { λ m. record { table = m.table.now; state = state_of m.state.now } };
+
+    ghost invariant = { λ m. UsedBelow (state_of m.state.now) m.top × Apart m.table.now (state_of m.state.now).threads };
+}
+
+impl<'a, 'b> Moment<'a, 'b> {
+    // A state with its table, and a number from which on no thread row is in use.
+    pub fn new(table: &'a Table<'a>, state: &'b state::Words, top: u32) -> Self
+        requires used_below { UsedBelow (state_of state.now) top }
+        requires apart { Apart table.now (state_of state.now).threads }
+        ensures { result ≡ record { table = table.now; state = state_of state.now } }
+    {
+        Moment { table, state, top }
     }
-    let limit = at_most_all(state, top);
-    let nodes = table.node_row();
-    let mut found = None;
-    let mut u = next_waiting(state, 0, limit);
-    'threads: while u < limit {
-        let n = branches_asked(table, nodes, state, t, u);
-        let from = first_row(table, nodes, state, u, n);
-        let mut competes = false;
-        for i in 0..n {
-            match seen_in(table, from + i as usize, state, u, d, c) {
-                Seen::Answers => {
-                    found = Some((u, i));
-                    break 'threads;
+
+    // The table alone.
+    pub fn table(&self) -> &Table<'a>
+        ensures { result.now ≡ self.now.table }
+    {
+        self.table
+    }
+
+    // The words of the state.
+    pub fn state(&self) -> &state::Words
+        ensures { state_of result.now ≡ self.now.state }
+    {
+        self.state
+    }
+
+    // The number from which on no row is in use, seen to be at most that of all rows.
+    #[tactic(auto, unfolding(next_rows::specs::UsedBelow::UsedBelow))]
+    fn limit(&self) -> u32
+        ensures { UsedBelow self.now.state result }
+    {
+        self.top.min(state::THREADS)
+    }
+
+    // The first waiting thread other than t that offers d on channel c, and the first of its branches that does.
+    // Where a thread competes, that is, offers t's own direction on c, no other thread offers d, and the search ends with its branches.
+    pub fn find_partner(&self, t: u32, d: Direction, c: u32) -> Option<(u32, u32)>
+        ensures { result ≡ partner_of self.now.table self.now.state t d c }
+    {
+        if state::CHANNELS <= c {
+            return None;
+        }
+        let table = self.table;
+        let state = self.state;
+        let limit = self.limit();
+        let mut found = None;
+        let mut u = next_waiting(state, 0, limit);
+        'threads: while u < limit {
+            let n = branches_asked(table, state, t, u);
+            let from = first_row(table, state, u, n);
+            let mut competes = false;
+            for i in 0..n {
+                match seen_in(table, from + i as usize, state, u, d, c) {
+                    Seen::Answers => {
+                        found = Some((u, i));
+                        break 'threads;
+                    }
+                    Seen::Competes => competes = true,
+                    Seen::Neither => {}
                 }
-                Seen::Competes => competes = true,
-                Seen::Neither => {}
             }
+            if competes {
+                break 'threads;
+            }
+            u = next_waiting(state, u + 1, limit);
         }
-        if competes {
-            break 'threads;
-        }
-        u = next_waiting(state, u + 1, limit);
+        found
     }
-    found
 }
 
 // Whether thread u offers d on channel c by its branch i.
 #[tactic(auto, using(crate::proofs::Ways::at_nothing))]
-fn offers_at(
-    table: &Table,
-    state: &[u32; state::WORDS],
-    u: u32,
-    d: Direction,
-    c: u32,
-    i: u32,
-) -> bool
+fn offers_at(table: &Table, state: &state::Words, u: u32, d: Direction, c: u32, i: u32) -> bool
     ensures { result ≡ offers_at table.now (thread (state_of state.now) u) d c i }
 {
-    let node = state::thread_word(state, u as usize, state::NODE);
+    let node = state::stands_at(state, u);
     let row = program::branch_at(table, node, i);
     match offer_on(table, row, state, u, c) {
         Some(e) => e == d,
@@ -215,21 +209,15 @@ fn offers_at(
 
 // The first waiting thread that offers d on port p to the bench, which is no thread, and the first of its branches that does. The search for a
 // thread's partner has one caller, so that the compiler lays it out in the loop of a run; hence the bench has this one.
-pub fn find_at_port(
-    table: &Table,
-    state: &[u32; state::WORDS],
-    d: Direction,
-    p: u32,
-) -> Option<(u32, u32)>
+pub fn find_at_port(table: &Table, state: &state::Words, d: Direction, p: u32) -> Option<(u32, u32)>
     ensures { result ≡ partner_of table.now (state_of state.now) max_threads d p }
 {
     if state::CHANNELS <= p {
         return None;
     }
-    let nodes = table.node_row();
     let mut found = None;
     'threads: for u in 0..state::THREADS {
-        let n = branches_tried(table, nodes, state, state::THREADS, u);
+        let n = branches_tried(table, state, state::THREADS, u);
         for i in 0..n {
             if offers_at(table, state, u, d, p, i) {
                 found = Some((u, i));

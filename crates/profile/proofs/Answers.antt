@@ -1,9 +1,9 @@
 -- The ways out of the check of a table. Assumes nothing.
 use Rattle.profile.specs.declared.ProfileRefusal.TheVariants as ProfileRefusal
 use Rattle.profile.specs.Answers.{Profiled}
-use Rattle.std.specs.Prelude.{ℕ, ◌≤◌, ◌<◌, ◌≡◌, Bool, true, false, cond, List, length, get_or, Option, None, Some, Result, Err, Ok}
+use Rattle.std.specs.Prelude.{ℕ, ◌≤◌, ◌<◌, ◌≡◌, Bool, true, false, List, length, get_or, Err, Ok}
 use native.Mathlib.Omega.{arith}
-use Rattle.std.proofs.Common.{Fits, refl}
+use Rattle.std.proofs.Common.{Fits}
 use Rattle.std.specs.Int.{w8}
 use borrow.Author.Tests.{eq-eqb, ne_eqb, le-leb, lt-leb}
 use Rattle.numbers.specs.Bytes.Laws.{bytes_fit}

@@ -1,8 +1,8 @@
 // The rental-shop profile (document 02, S-3): whether a procedure can run out of thread rows, told from its table alone. Grounds 8, 9, 16 and 17.
 #![tactic(auto)]
 
-ghost use Rattle.std.specs.Prelude.{◌≡◌, true, ◌+◌, ◌≤◌, ◌<◌, replicate};
-ghost use Rattle.table.specs.Table.{max_definitions, definitions, nodes};
+ghost use Rattle.std.specs.Prelude.{◌≡◌, true, ◌+◌, ◌≤◌, ◌<◌};
+ghost use Rattle.table.specs.Table.{Table, definitions, nodes};
 ghost use Rattle.table.specs.Layout.{branch_count};
 ghost use Rattle.table.specs.Form.Laws.{Counts};
 ghost use Rattle.rules_laws.specs.Granted.{Granted};
@@ -10,10 +10,8 @@ ghost use Rattle.profile.specs.Profile.{largest, is_spawn, node_spawns, node_all
 ghost use Rattle.profile.specs.Equations.{Rising};
 ghost use Rattle.profile.specs.Finding.{above, capped, Kept, onward, marked_by, Spawning};
 
+use std::marker::Model;
 use table::{Part, Table, field};
-
-// The number of the action that is a spawn.
-const SPAWN: u32 = 4;
 
 // A bound above the rows that there are is told as one more than these.
 const ABOVE: u32 = state::THREADS + 1;
@@ -43,7 +41,7 @@ fn is_spawn(table: &Table, n: u32, i: u32) -> bool
     ensures { result ≡ is_spawn table.now n i }
 {
     let row = program::branch_at(table, n, i);
-    table.cell(row, field::ACTION) == SPAWN
+    table.cell(row, field::ACTION) == table::SPAWN
 }
 
 // Whether a branch of node n is a spawn.
@@ -64,15 +62,16 @@ fn mark_node(table: &Table, spawning: &mut [u32], n: u32)
     }
 }
 
-// The definitions that have a spawn are marked, where none was.
-fn mark_spawns(table: &Table, spawning: &mut [u32])
-    requires spawning_value { spawning.old ≡ replicate max_definitions 0 }
-    ensures { Spawning table.now (nodes table.now) spawning.new }
+// The marks of the definitions that have a spawn.
+fn mark_spawns(table: &Table) -> [u32; table::MAX_DEFINITIONS as usize]
+    ensures { Spawning table.now (nodes table.now) result }
 {
+    let mut spawning = [0; table::MAX_DEFINITIONS as usize];
     let count = table.node_total();
     for n in 0..count {
-        mark_node(table, spawning, n);
+        mark_node(table, &mut spawning, n);
     }
+    spawning
 }
 
 // Whether node n is no call, or one that is allowed.
@@ -87,7 +86,7 @@ fn node_allowed(table: &Table, spawning: &[u32], n: u32) -> bool
     let row = table.node_row() + n as usize;
     let own = program::definition_of(table, n);
     let callee = table.cell(row, field::CALLEE);
-    table.cell(row, field::NODE_KIND) != 2
+    table.cell(row, field::NODE_KIND) != table::CALL
         || own < callee
         || (callee == own && numbers::cell_at(spawning, own as usize) == 0)
 }
@@ -97,8 +96,7 @@ fn calls_allowed(table: &Table) -> bool
     requires granted { Granted table.now }
     ensures { result ≡ calls_allowed table.now }
 {
-    let mut spawning = [0u32; table::MAX_DEFINITIONS as usize];
-    mark_spawns(table, &mut spawning);
+    let spawning = mark_spawns(table);
     let count = table.node_total();
     (0..count).all(|n| node_allowed(table, &spawning, n))
 }
@@ -122,82 +120,102 @@ fn onward_of(table: &Table, n: u32) -> Onward
     let row = table.node_row() + n as usize;
     let callee = table.cell(row, field::CALLEE);
     match table.cell(row, field::NODE_KIND) {
-        1 => Onward::Branches,
-        2 if callee != program::definition_of(table, n) => Onward::Definition(callee),
+        table::CHOICE => Onward::Branches,
+        table::CALL if callee != program::definition_of(table, n) => Onward::Definition(callee),
         _ => Onward::Nowhere,
     }
 }
 
-// The bound of branch i of node n: that of its next node and, for a spawn, that of its child besides.
-#[cycle(bounds)]
-fn branch_bound(table: &Table, kept: &mut [u32], n: u32, i: u32) -> u32
-    requires rising { Rising table.now }
-    requires kept { Kept table.now kept.old }
-    requires n_bound { n < nodes table.now }
-    requires i_bound { i < branch_count table.now n }
-    ensures value { result ≡ capped (branch_bound table.now n i) }
-    ensures still_kept { Kept table.now kept.new }
-{
-    let row = program::branch_at(table, n, i);
-    let next = node_bound(table, kept, program::next_of(table, n, row));
-    if is_spawn(table, n, i) {
-        let child = node_bound(table, kept, program::child_of(table, n, row));
-        joint(next, child)
-    } else {
-        next
-    }
+// A table in which bounds rest on later nodes alone, with the bounds that have been found: 0 stands for one that has not.
+#[derive(Drop)]
+struct Bounds<'a> {
+    table: &'a Table<'a>,
+    kept: [u32; table::MAX_NODES as usize],
 }
 
-// The bound of a choice: the largest over its branches.
-#[cycle(bounds)]
-fn choice_bound(table: &Table, kept: &mut [u32], n: u32) -> u32
-    requires rising { Rising table.now }
-    requires kept { Kept table.now kept.old }
-    requires n_bound { n < nodes table.now }
-    ensures value { result ≡ capped (largest (branch_bound table.now n) (branch_count table.now n)) }
-    ensures still_kept { Kept table.now kept.new }
-{
-    let count = table.branch_count(n);
-    let mut most: u32 = 0;
-    for i in 0..count {
-        most = most.max(branch_bound(table, kept, n, i));
-    }
-    most
+impl<'a> Model for Bounds<'a> {
+    ghost Value = { Table };
+
+    ghost view = { λ b. b.table.now };
+
+    ghost invariant = { λ b. Rising b.table.now × Kept b.table.now b.kept };
 }
 
-// The bound of a definition: that of its first node.
-#[cycle(bounds)]
-fn definition_bound(table: &Table, kept: &mut [u32], d: u32) -> u32
-    requires rising { Rising table.now }
-    requires kept { Kept table.now kept.old }
-    requires d_bound { d < definitions table.now }
-    ensures value { result ≡ capped (definition_bound table.now d) }
-    ensures still_kept { Kept table.now kept.new }
-{
-    let first = table.start(Part::Nodes, d);
-    node_bound(table, kept, first)
-}
-
-// The bound of node n: the one that is kept, or else the one that is found from the nodes to which it leads, which is then kept.
-#[cycle(bounds)]
-fn node_bound(table: &Table, kept: &mut [u32], n: u32) -> u32
-    requires rising { Rising table.now }
-    requires kept { Kept table.now kept.old }
-    requires n_bound { n < nodes table.now }
-    ensures value { result ≡ capped (node_bound table.now n) }
-    ensures still_kept { Kept table.now kept.new }
-{
-    let found = numbers::cell_at(kept, n as usize);
-    if found != 0 {
-        return found;
+#[tactic(auto, using(crate::proofs::Finding::Bounds::ways))]
+impl<'a> Bounds<'a> {
+    // No bound is found yet.
+    fn new(table: &'a Table<'a>) -> Self
+        requires { Rising table.now }
+        ensures { result ≡ table.now }
+    {
+        let kept = [0; table::MAX_NODES as usize];
+        Bounds { table, kept }
     }
-    let bound = match onward_of(table, n) {
-        Onward::Nowhere => 1,
-        Onward::Definition(d) => definition_bound(table, kept, d),
-        Onward::Branches => choice_bound(table, kept, n),
-    };
-    numbers::put_cell(kept, n as usize, bound);
-    bound
+
+    // The bound of branch i of node n: that of its next node and, for a spawn, that of its child besides.
+    #[cycle(bounds)]
+    fn branch_bound(&mut self, n: u32, i: u32) -> u32
+        requires n_bound { n < nodes self.old }
+        requires i_bound { i < branch_count self.old n }
+        ensures value { result ≡ capped (branch_bound self.old n i) }
+        ensures same_table { self.new ≡ self.old }
+    {
+        let table = self.table;
+        let row = program::branch_at(table, n, i);
+        let next = self.node_bound(program::next_of(table, n, row));
+        if is_spawn(table, n, i) {
+            let child = self.node_bound(program::child_of(table, n, row));
+            joint(next, child)
+        } else {
+            next
+        }
+    }
+
+    // The bound of a choice: the largest over its branches.
+    #[cycle(bounds)]
+    fn choice_bound(&mut self, n: u32) -> u32
+        requires n_bound { n < nodes self.old }
+        ensures value { result ≡ capped (largest (branch_bound self.old n) (branch_count self.old n)) }
+        ensures same_table { self.new ≡ self.old }
+    {
+        let count = self.table.branch_count(n);
+        let mut most: u32 = 0;
+        for i in 0..count {
+            most = most.max(self.branch_bound(n, i));
+        }
+        most
+    }
+
+    // The bound of a definition: that of its first node.
+    #[cycle(bounds)]
+    fn definition_bound(&mut self, d: u32) -> u32
+        requires d_bound { d < definitions self.old }
+        ensures value { result ≡ capped (definition_bound self.old d) }
+        ensures same_table { self.new ≡ self.old }
+    {
+        let first = self.table.start(Part::Nodes, d);
+        self.node_bound(first)
+    }
+
+    // The bound of node n: the one that is kept, or else the one that is found from the nodes to which it leads, which is then kept.
+    #[cycle(bounds)]
+    fn node_bound(&mut self, n: u32) -> u32
+        requires n_bound { n < nodes self.old }
+        ensures value { result ≡ capped (node_bound self.old n) }
+        ensures same_table { self.new ≡ self.old }
+    {
+        let found = numbers::cell_at(&self.kept, n as usize);
+        if found != 0 {
+            return found;
+        }
+        let bound = match onward_of(self.table, n) {
+            Onward::Nowhere => 1,
+            Onward::Definition(d) => self.definition_bound(d),
+            Onward::Branches => self.choice_bound(n),
+        };
+        numbers::put_cell(&mut self.kept, n as usize, bound);
+        bound
+    }
 }
 
 // The bound of definition 0. The bounds of all nodes are found before, from the last node to the first, so that each finds those on which it rests kept.
@@ -205,12 +223,11 @@ fn thread_bound(table: &Table) -> u32
     requires rising { Rising table.now }
     ensures { result ≡ capped (definition_bound table.now 0) }
 {
-    let mut kept = [0u32; table::MAX_NODES as usize];
-    let count = table.node_total();
-    for n in (0..count).rev() {
-        node_bound(table, &mut kept, n);
+    let mut bounds = Bounds::new(table);
+    for n in (0..table.node_total()).rev() {
+        bounds.node_bound(n);
     }
-    definition_bound(table, &mut kept, 0)
+    bounds.definition_bound(0)
 }
 
 // Grounds 16 and 17, of an accepted table.
@@ -240,5 +257,6 @@ pub fn profile(table: &[u8]) -> Result<u32, ProfileRefusal>
     }
     let mut index = [0u32; table::INDEX];
     let mut gaps = [0u32; loader::GAPS];
-    judge(&loader::accept(table, &mut index, &mut gaps).ok_or(ProfileRefusal::WrongTable)?)
+    let accepted = loader::accept(table, &mut index, &mut gaps).ok_or(ProfileRefusal::WrongTable)?;
+    judge(accepted.table())
 }

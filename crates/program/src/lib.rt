@@ -21,11 +21,11 @@ pub fn definition_of(table: &Table, n: u32) -> u32
 }
 
 // Where the types of a definition's slots begin in the table.
-pub fn types_from(table: &Table, d: u32) -> usize
+pub fn types_from(table: &Table, d: u32) -> u32
     ensures value { result ≡ slot_row table.now + start table.now Slots d }
     ensures upper_bound { result ≤ 12713792 }
 {
-    table.slot_row() + table.start(Part::Slots, d) as usize
+    table.slot_row() as u32 + table.start(Part::Slots, d)
 }
 
 // The type of slot k at node n.
@@ -64,8 +64,7 @@ pub fn blank_of(table: &Table, d: u32, k: u32) -> u32
 pub fn branch_at(table: &Table, n: u32, i: u32) -> usize
     ensures { result ≡ branch_at table.now n i }
 {
-    let place = table.start(Part::Branches, n) as usize + i as usize;
-    table.branch_row() + place
+    table.first_branch(n) + i as usize
 }
 
 // The node that number x of the definition of node n is.
@@ -109,7 +108,7 @@ pub fn act_of(table: &Table, row: usize) -> Act
 }
 
 // Slot k of thread t.
-pub fn slot(state: &[u32; state::WORDS], t: u32, k: u32) -> u32
+pub fn slot(state: &state::Words, t: u32, k: u32) -> u32
     ensures { result ≡ slot_of (thread (state_of state.now) t) k }
 {
     state::thread_word(state, t as usize, state::FIRST_SLOT + k as usize)
@@ -117,7 +116,7 @@ pub fn slot(state: &[u32; state::WORDS], t: u32, k: u32) -> u32
 
 // Whether the guard of the branch in a row, as the file has it, is true of thread t.
 #[tactic(auto, unfolding(rules::specs::Program::printed_guard))]
-pub fn printed_guard(table: &Table, row: usize, state: &[u32; state::WORDS], t: u32) -> bool
+pub fn printed_guard(table: &Table, row: usize, state: &state::Words, t: u32) -> bool
     ensures { result ≡ printed_guard table.now row (thread (state_of state.now) t) }
 {
     // Read where the guard asks for them: most branches have none.
@@ -150,7 +149,7 @@ fn difference_of(x: u32, y: u32) -> Option<i32>
 
 // What the assignment in a row comes to for thread t.
 #[tactic(auto, unfolding(rules::specs::Program::assigned))]
-pub fn assigned_value(table: &Table, row: usize, state: &[u32; state::WORDS], t: u32) -> Option<i32>
+pub fn assigned_value(table: &Table, row: usize, state: &state::Words, t: u32) -> Option<i32>
     ensures { result ≡ assigned table.now row (thread (state_of state.now) t) }
 {
     let first = table.cell(row, field::B);
@@ -164,21 +163,18 @@ pub fn assigned_value(table: &Table, row: usize, state: &[u32; state::WORDS], t:
 
 // Whether what the branch in a row assigns thread t, if anything, fits.
 #[tactic(auto, unfolding(rules::specs::Program::fitting, numbers::specs::Signed::is_exact))]
-fn is_fitting(table: &Table, row: usize, state: &[u32; state::WORDS], t: u32) -> bool
+fn is_fitting(table: &Table, row: usize, state: &state::Words, t: u32) -> bool
     ensures { result ≡ fitting (act_of table.now row) (assigned table.now row (thread (state_of state.now) t)) }
 {
     match act_of(table, row) {
         Act::Tau | Act::Meeting(_) | Act::New | Act::Spawn => true,
-        Act::Assignment => match assigned_value(table, row, state, t) {
-            Some(_) => true,
-            None => false,
-        },
+        Act::Assignment => assigned_value(table, row, state, t).is_some(),
     }
 }
 
 // Whether the guard of the branch in a row counts as true of thread t: it is true, and what the branch assigns fits.
 #[tactic(auto, unfolding(rules::specs::Program::guard_holds))]
-pub fn guard_holds(table: &Table, row: usize, state: &[u32; state::WORDS], t: u32) -> bool
+pub fn guard_holds(table: &Table, row: usize, state: &state::Words, t: u32) -> bool
     ensures { result ≡ guard_holds table.now row (thread (state_of state.now) t) }
 {
     printed_guard(table, row, state, t) && is_fitting(table, row, state, t)

@@ -9,7 +9,7 @@ use borrow.Author.Tests.{ltb-true, ltb-false, eqb-false, ne_eqb, not-true, not-f
 use Rattle.numbers.specs.Search.{some, tabulate}
 use Rattle.numbers.specs.Search.Laws.{case_b, contra, some_elim, some_intro}
 use Rattle.numbers.specs.Tests.{parts}
-use Rattle.marking.proofs.Enabled.Laws.{or_elim, or_second}
+use Rattle.std.proofs.lemmas.Bool.{or_cases, or_right}
 use Rattle.marking.specs.Rounds.{round_all, round_root, round_closed}
 use Rattle.published.specs.Syntax.{Process, end, waiting}
 use Rattle.published.specs.Agents.{◌∈◌, Commitment, channel_of, Thread, thread, Channels, Agent, agent, nth, knows, globalrc, Commits}
@@ -96,13 +96,13 @@ any_elim : (p : Commitment → Bool) (Γ : List Commitment) → any_of p Γ ≡ 
 unfolding any_of
 any_elim p [] e = contra e refl
 any_elim p (k ∷ Γ) e =
-    ⊎_elim (λ y. (k, inl refl, y)) (λ y. let (h, i, q) = any_elim p Γ y in (h, inr i, q)) (or_elim (p k) (any_of p Γ) e)
+    ⊎_elim (λ y. (k, inl refl, y)) (λ y. let (h, i, q) = any_elim p Γ y in (h, inr i, q)) (or_cases (p k) (any_of p Γ) e)
 
 any_intro : (p : Commitment → Bool) (Γ : List Commitment) (k : Commitment) → k ∈ Γ → p k ≡ true → any_of p Γ ≡ true
 unfolding any_of
 any_intro p [] k i y = absurd i
 any_intro p (h ∷ Γ) k (inl q) y = let z : p h ≡ true = rw q at y in rw z
-any_intro p (h ∷ Γ) k (inr i) y = or_second (p h) (any_of p Γ) (any_intro p Γ k i y)
+any_intro p (h ∷ Γ) k (inr i) y = or_right (p h) (any_of p Γ) (any_intro p Γ k i y)
 
 module _ (A : List Thread) where
   -- a marked thread, j left aside, knows channel ĉ
@@ -142,13 +142,13 @@ module _ (A : List Thread) where
       let p : Commitment → Bool = λ k. heard m j (channel_of k) in
       ⊎_elim (λ y. inl y)
       (λ y. let (k, i, h) = any_elim p (nth A j).commitments y in inr (channel_of k, (k, i, refl), heard_elim m j (channel_of k) h))
-      (or_elim (get_or m j false) (any_of p (nth A j).commitments) e)
+      (or_cases (get_or m j false) (any_of p (nth A j).commitments) e)
 
   joins_intro : (m : List Bool) (j : ℕ) → Joins m j → joins m j ≡ true
   unfolding joins Joins
   joins_intro m j (inl y) = rw y
   joins_intro m j (inr (ĉ, (k, i, q), h)) =
-      or_second (get_or m j false) (any_of (λ k. heard m j (channel_of k)) (nth A j).commitments)
+      or_right (get_or m j false) (any_of (λ k. heard m j (channel_of k)) (nth A j).commitments)
       (any_intro (λ k. heard m j (channel_of k)) (nth A j).commitments k i (rw q (heard_intro m j ĉ h)))
 
   begins_enabled : (j : ℕ) → j < length A → begins j ≡ true → Enabled A j

@@ -3,6 +3,7 @@ use Prim.Native.Nat.{ℕ, zero, suc, ◌+◌}
 use native.Mathlib.Omega.{arith}
 use Rattle.std.specs.Prelude.{◌≡◌, ◌≢◌, Bool, Some}
 use Rattle.std.proofs.Math.Path.{refl}
+use Rattle.std.proofs.Math.Numerals.{one-add}
 use Rattle.std.proofs.Common.{sym, ◌∙◌, ap}
 use Rattle.std.proofs.Math.Logic.{inl, inr}
 use mathlib.Core.List.{List, [], ◌∷◌}
@@ -48,9 +49,6 @@ call_stands δ end f e x = apart (sym x ∙ e) refl
 call_stands δ (choice Q) f e x = absurd (no_call δ Q f.branch (rw e at x))
 call_stands δ (invoke D vs) f e x = refl
 
-one_more_lem : (n : ℕ) → 1 + n ≡ suc n
-one_more_lem n = omega arith
-
 two_more : (n m : ℕ) → suc (suc n) + m ≡ suc (suc n + m)
 two_more n m = omega arith
 
@@ -75,7 +73,7 @@ module _ (def : ℕ → Process) (for_numbers : ℕ → ℕ → Bool) where
   acts_stands (step g) n = inr (g, refl)
   acts_stands (new ĉ g f) n = inr (g, (ĉ, refl))
   acts_stands (spawn g) n = inr (g, refl)
-  acts_stands (next g r) n = rw (one_more_lem (fires r).branch) (inl g, acts_stands r n)
+  acts_stands (next g r) n = rw (one-add (fires r).branch) (inl g, acts_stands r n)
   acts_stands (call ws e) n = refl
   acts_stands inert n = refl
   acts_stands (send ĉ x w g c i v) n = inr (g, inr (_, _, refl))
@@ -93,14 +91,14 @@ module _ (def : ℕ → Process) (for_numbers : ℕ → ℕ → Bool) where
   acts_past (step g) e f x = apart e refl
   acts_past (new ĉ g y) e f x = apart e refl
   acts_past (spawn g) e f x = apart e refl
-  acts_past (next {δ = δ} g r) e f x = rw (one_more_lem (fires r).branch, two_more (fires r).branch f.branch) (inl g, acts_past r e f x)
+  acts_past (next {δ = δ} g r) e f x = rw (one-add (fires r).branch, two_more (fires r).branch f.branch) (inl g, acts_past r e f x)
   acts_past (call ws y) e f x = apart e refl
   acts_past inert e f x = apart e refl
   acts_past (send ĉ y w g c i v) e f x = apart e refl
-  acts_past (out {δ = δ} {Q = Q} ĉ g c y) e f x = rw (one_more_lem f.branch) (inr tt, and_wait_lem δ Q f.branch f.rule x)
+  acts_past (out {δ = δ} {Q = Q} ĉ g c y) e f x = rw (one-add f.branch) (inr tt, and_wait_lem δ Q f.branch f.rule x)
   acts_past (recv ĉ v w g c i y) e f x = apart e refl
-  acts_past (inn {δ = δ} {Q = Q} ĉ g c y) e f x = rw (one_more_lem f.branch) (inr tt, and_wait_lem δ Q f.branch f.rule x)
-  acts_past (more (skip {δ = δ} {Q = Q} g)) e f x = rw (one_more_lem f.branch) (inl g, and_wait_lem δ Q f.branch f.rule x)
+  acts_past (inn {δ = δ} {Q = Q} ĉ g c y) e f x = rw (one-add f.branch) (inr tt, and_wait_lem δ Q f.branch f.rule x)
+  acts_past (more (skip {δ = δ} {Q = Q} g)) e f x = rw (one-add f.branch) (inl g, and_wait_lem δ Q f.branch f.rule x)
   acts_past (more (assigns z g v)) e f x = apart e refl
   acts_past (more (zeros D z)) e f x = apart e refl
 

@@ -3,7 +3,7 @@ use Rattle.std.specs.Prelude.{ℕ, zero, suc, ◌<◌, ◌≡◌, refl, ◌≢�
 use Rattle.std.proofs.Common.{arith, ap, ⊎_elim, eqb-true, eq-eqb}
 use Rattle.numbers.specs.Search.Laws.{contra}
 use Rattle.numbers.specs.Tests.{clash}
-use Rattle.marking.proofs.Enabled.Laws.{or_elim, or_second}
+use Rattle.std.proofs.lemmas.Bool.{or_cases, or_right}
 use Rattle.published.specs.Agents.{Value, channel, number, Env, look, bind, refers, mentions, Thread, knows}
 
 -- ---- a binding
@@ -44,13 +44,13 @@ mentions_elim : (c : ℕ) (δ : Env) → mentions c δ ≡ true → (x : ℕ) ×
 unfolding mentions
 mentions_elim c [] e = contra e refl
 mentions_elim c (o ∷ δ) e =
-    ⊎_elim (λ y. (0, refers_is c o y)) (λ y. let (x, h) = mentions_elim c δ y in (suc x, h)) (or_elim (refers c o) (mentions c δ) e)
+    ⊎_elim (λ y. (0, refers_is c o y)) (λ y. let (x, h) = mentions_elim c δ y in (suc x, h)) (or_cases (refers c o) (mentions c δ) e)
 
 mentions_intro : (c : ℕ) (δ : Env) (x : ℕ) → look δ x ≡ Some (channel c) → mentions c δ ≡ true
 unfolding mentions refers
 mentions_intro c [] x e = clash cc
 mentions_intro c (o ∷ δ) zero e = let q : o ≡ Some (channel c) = e in rw (q, eq-eqb c c refl)
-mentions_intro c (o ∷ δ) (suc x) e = or_second (refers c o) (mentions c δ) (mentions_intro c δ x e)
+mentions_intro c (o ∷ δ) (suc x) e = or_right (refers c o) (mentions c δ) (mentions_intro c δ x e)
 
 -- knows(ĉ, [Γ; δ] : P) as it is printed: some x has δ(x) = ĉ
 pub knows_iff : (c : ℕ) (t : Thread) → (knows c t ≡ true) ↔ ((x : ℕ) × (look t.env x ≡ Some (channel c)))

@@ -28,7 +28,7 @@ use Rattle.published_laws.specs.Products.{Bench, ready_thread_lem, waiting_threa
 use Rattle.published_laws.specs.Commitments.{pledged}
 use Rattle.published_laws.proofs.Commitments.{pledge_channel, pledged_in, commits_offers}
 use Rattle.published_laws.specs.Places as Places
-use Rattle.published_laws.specs.Places.{rank, rank_in, rank_nth, rank_apart, rank_found}
+use Rattle.published_laws.specs.Places.{rank_in, rank_nth, rank_apart, rank_found}
 
 -- ---- who waits
 

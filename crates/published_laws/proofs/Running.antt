@@ -157,9 +157,6 @@ module _ (table : List ℕ) (ok : accepted table ≡ true) (fit : (i : ℕ) → 
 
   module _ (def : ℕ → Process) (More : Agent → Agent → Type 0) (own : Labels More) (p : ℕ) (δ : Env) (c x : ℕ) (E : Process) (q : Sum) (on : look δ c ≡ Some (Agents.channel p)) where
     module _ (v : ℕ) (small : v < 4294967296) (has : look δ x ≡ Some (Agents.number v)) (bn : Bench (table_of table) (Agents.thread [] δ E)) where
-      abbrev giver : Thread
-      giver = Agents.thread [] δ (choice (branch always (output c x) E q))
-
       -- a give that meets thread u is (send) to it
       pub give_call_reduced : (u : ℕ) → (give_call table state p v).answer ≡ Ok (Some u)
           → (k : Commitment) × SteppedBy def More own (agent_of (table_of table) (Agents.thread [] δ (choice (branch always (output c x) E q))) (view state))

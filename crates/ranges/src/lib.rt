@@ -123,7 +123,7 @@ fn targets_in_range(table: &Table, row: usize, own: u32, n: u32) -> bool
     ensures { result ≡ targets_in_range table.now row own n }
 {
     let child = table.cell(row, field::CHILD);
-    let spawns = table.cell(row, field::ACTION) == 4;
+    let spawns = table.cell(row, field::ACTION) == table::SPAWN;
     is_ahead(own, n, table.cell(row, field::NEXT))
         && if spawns {
             is_ahead(own, n, child)

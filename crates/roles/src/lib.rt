@@ -2,7 +2,7 @@
 #![tactic(auto)]
 
 ghost use Rattle.std.specs.Prelude.{◌≡◌, ◌<◌};
-ghost use Rattle.table.specs.Roles.{guard_role, action_role, operand_count, operand_place, operand, operand_role, reads, writes};
+ghost use Rattle.table.specs.Roles.{guard_role, action_role, operand_place, operand, operand_role, reads, writes};
 
 use table::{Role, Table, field};
 
@@ -38,7 +38,6 @@ pub fn action_role(a: u32, k: u32) -> Role
 // The number of a branch's row that operand k is: two operands are its guard's, then three its action's.
 #[tactic(auto, unfolding(table::specs::Roles::operand_place))]
 fn operand_place(k: u32) -> usize
-    requires { k < operand_count }
     ensures { result ≡ operand_place k }
 {
     if k < 2 {
@@ -51,7 +50,6 @@ fn operand_place(k: u32) -> usize
 // Operand k of the branch in a row.
 #[tactic(auto, unfolding(table::specs::Roles::operand))]
 pub fn operand_of(table: &Table, row: usize, k: u32) -> u32
-    requires { k < operand_count }
     ensures value { result ≡ operand table.now row k }
     ensures upper_bound { result < 65536 }
 {

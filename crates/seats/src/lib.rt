@@ -38,7 +38,7 @@ fn right_at(rights: &[u8], seat: u32, k: u32) -> u32
 fn grants_first(number: u32) -> bool
     ensures { result ≡ grants_first number }
 {
-    number == 1 || number == 3
+    matches!(number, 1 | 3)
 }
 
 // Whether a number grants the second of its two things.
@@ -46,7 +46,7 @@ fn grants_first(number: u32) -> bool
 fn grants_second(number: u32) -> bool
     ensures { result ≡ grants_second number }
 {
-    number == 2 || number == 3
+    matches!(number, 2 | 3)
 }
 
 // Whether the numbers of a seat grant a right. The number behind those of the ports is no port's.

@@ -1,13 +1,11 @@
 // Ground 10: whether a state is sound for a table. Each thread row is passed once, for its own tests and for the counts, and once more for its offers where it waits.
 #![tactic(auto)]
 
-ghost use Rattle.std.specs.Prelude.{◌≡◌, ◌&&◌, ◌+◌, ◌≤◌, ◌<◌, ltb, leb, length, replicate};
+ghost use Rattle.std.specs.Prelude.{◌≡◌, ◌&&◌, ◌+◌, ◌<◌, ltb, leb, replicate};
 ghost use Rattle.numbers.specs.Count.{bit};
 ghost use Rattle.numbers.specs.Search.{every, tabulate};
 ghost use Rattle.table.specs.Table.{nodes, ports};
-ghost use Rattle.flow.specs.Flow.{flow};
-ghost use Rattle.flow.specs.Gaps.{gaps_of};
-ghost use Rattle.state.specs.State.{state_of, max_threads, max_channels, thread_words, row_slots, thread, stands_at, is_waiting};
+ghost use Rattle.state.specs.State.{state_of, max_channels, thread_words, row_slots, thread, stands_at, is_waiting};
 ghost use Rattle.state.specs.Words.{waiting as waiting_status};
 ghost use Rattle.holding.specs.Own.{own_room, types_of};
 ghost use Rattle.rules.specs.Holding.{count_of, holders, waiters};
@@ -15,6 +13,8 @@ ghost use Rattle.rules.specs.Sound.{marks_in_range, count_true, port_typed, soun
 ghost use Rattle.recount.specs.Tally.{row_added, Fresh};
 ghost use Rattle.sound.specs.SoundRows.{word_zero, spare_of, spare_zero_at, slot_sound, row_sound, rows_sound};
 
+use flow::Flow;
+use recount::Counts;
 use table::{Table, field};
 
 // Every port has this type.
@@ -22,7 +22,7 @@ const PORT_TYPE: u32 = 1;
 
 // Whether the marks and the turn are in range.
 #[tactic(auto, unfolding(rules::specs::Sound::marks_in_range))]
-fn marks_in_range(state: &[u32; state::WORDS]) -> bool
+fn marks_in_range(state: &state::Words) -> bool
     ensures { result ≡ marks_in_range (state_of state.now) }
 {
     state::mark(state, state::THREAD_MARK) < state::THREADS
@@ -33,26 +33,16 @@ fn marks_in_range(state: &[u32; state::WORDS]) -> bool
 // Whether slot k of thread t is typed, and filled if it must be. The thread is in use and stands at node n, and the types of its slots, of which k is one, stand from a
 // row of the table on.
 #[tactic(auto, using(crate::proofs::Ways::slot_number, crate::proofs::Ways::slot_channel, crate::proofs::Ways::slot_empty, crate::proofs::Ways::slot_no_channel))]
-fn slot_sound(
-    table: &Table,
-    gaps: &[u32],
-    state: &[u32; state::WORDS],
-    t: u32,
-    n: u32,
-    from: usize,
-    k: u32,
-) -> bool
-    requires gaps_value { gaps_of gaps.now ≡ flow table.now }
+fn slot_sound(flow: &Flow, state: &state::Words, t: u32, n: u32, from: u32, k: u32) -> bool
     requires n_value { n ≡ stands_at (thread (state_of state.now) t) }
-    requires from_value { from ≡ types_of table.now (thread (state_of state.now) t) }
-    requires from_bound { from ≤ 12713792 }
-    requires k_bound { k < own_room table.now (thread (state_of state.now) t) }
-    ensures { result ≡ slot_sound table.now (state_of state.now) (thread (state_of state.now) t) k }
+    requires from_value { from ≡ types_of flow.now (thread (state_of state.now) t) }
+    requires k_bound { k < own_room flow.now (thread (state_of state.now) t) }
+    ensures { result ≡ slot_sound flow.now (state_of state.now) (thread (state_of state.now) t) k }
 {
-    let ty = table.cell(from + k as usize, field::TYPE);
+    let ty = flow.table().cell(from as usize + k as usize, field::TYPE);
     ty == 0
         || match program::slot(state, t, k) {
-            state::MINUS_ONE => flow::has_gap(gaps, n as usize, k),
+            state::MINUS_ONE => flow.has_gap(n as usize, k),
             v => v < state::CHANNELS && state::channel_word(state, v as usize, state::TYPE) == ty,
         }
 }
@@ -60,43 +50,35 @@ fn slot_sound(
 // The slots of thread t, of which there are `count`, are put to their tests, and the thread is counted at the channels in them. Answers whether all pass; the counts
 // are true whether they do or not.
 fn pass_slots(
-    table: &Table,
-    gaps: &[u32],
-    state: &[u32; state::WORDS],
+    flow: &Flow,
+    state: &state::Words,
     t: u32,
     n: u32,
-    from: usize,
+    from: u32,
     count: u32,
-    stamps: &mut [u8; recount::CHANNELS],
-    held: &mut [u8; recount::CHANNELS],
-    waiting: &mut [u8; recount::CHANNELS],
+    counts: &mut Counts,
 ) -> bool
-    requires gaps_value { gaps_of gaps.now ≡ flow table.now }
-    requires t_lt_max_threads { t < max_threads }
     requires n_value { n ≡ stands_at (thread (state_of state.now) t) }
-    requires from_value { from ≡ types_of table.now (thread (state_of state.now) t) }
-    requires from_bound { from ≤ 12713792 }
-    requires count_value { count ≡ own_room table.now (thread (state_of state.now) t) }
-    requires fresh { Fresh t stamps.old }
-    requires held_len { length held.old ≡ max_channels }
-    requires waiting_len { length waiting.old ≡ max_channels }
-    ensures value { result ≡ every (slot_sound table.now (state_of state.now) (thread (state_of state.now) t)) count }
-    ensures held_after { held.new ≡ row_added table.now (thread (state_of state.now) t) 1 held.old }
-    ensures waiting_after { waiting.new ≡ row_added table.now (thread (state_of state.now) t) (bit (is_waiting (thread (state_of state.now) t))) waiting.old }
-    ensures fresh_after { Fresh (t + 1) stamps.new }
+    requires from_value { from ≡ types_of flow.now (thread (state_of state.now) t) }
+    requires count_value { count ≡ own_room flow.now (thread (state_of state.now) t) }
+    requires fresh { Fresh t counts.old.stamps }
+    ensures value { result ≡ every (slot_sound flow.now (state_of state.now) (thread (state_of state.now) t)) count }
+    ensures held_after { counts.new.held ≡ row_added flow.now (thread (state_of state.now) t) 1 counts.old.held }
+    ensures waiting_after { counts.new.waiting ≡ row_added flow.now (thread (state_of state.now) t) (bit (is_waiting (thread (state_of state.now) t))) counts.old.waiting }
+    ensures fresh_after { Fresh (t + 1) counts.new.stamps }
 {
     let w = holding::weight(state, t);
     let mut passed = true;
     for k in 0..count {
-        passed &= slot_sound(table, gaps, state, t, n, from, k);
-        recount::count_slot(table, state, t, from, k, w, stamps, held, waiting);
+        passed &= slot_sound(flow, state, t, n, from, k);
+        recount::count_slot(flow.table(), state, t, from, k, w, counts);
     }
     passed
 }
 
 // What stands in slot k of thread t, which has `count` slots of its own, if it is a spare one; 0 of its own.
 #[tactic(auto, unfolding(crate::specs::SoundRows::spare_of))]
-fn spare_at(state: &[u32; state::WORDS], t: u32, count: u32, k: u32) -> u32
+fn spare_at(state: &state::Words, t: u32, count: u32, k: u32) -> u32
     ensures { result ≡ spare_of (thread (state_of state.now) t) count k }
 {
     if k < count {
@@ -108,7 +90,7 @@ fn spare_at(state: &[u32; state::WORDS], t: u32, count: u32, k: u32) -> u32
 
 // Whether the spare slots of thread t, which has `count` of its own, are 0: so is then every bit that one of them has. (All are joined, with no way out of the loop:
 // that takes four at a time.)
-fn spare_zero(state: &[u32; state::WORDS], t: u32, count: u32) -> bool
+fn spare_zero(state: &state::Words, t: u32, count: u32) -> bool
     ensures { result ≡ every (spare_zero_at (thread (state_of state.now) t) count) row_slots }
 {
     let mut all: u32 = 0;
@@ -119,7 +101,7 @@ fn spare_zero(state: &[u32; state::WORDS], t: u32, count: u32) -> bool
 }
 
 // Whether all of thread t's row is 0, told in the same way.
-fn row_is_zero(state: &[u32; state::WORDS], t: u32) -> bool
+fn row_is_zero(state: &state::Words, t: u32) -> bool
     ensures { result ≡ every (word_zero (thread (state_of state.now) t)) thread_words }
 {
     let mut all: u32 = 0;
@@ -133,140 +115,99 @@ fn row_is_zero(state: &[u32; state::WORDS], t: u32) -> bool
 fn in_range(table: &Table, status: u32, n: u32) -> bool
     ensures { result ≡ (leb status waiting_status && ltb n (nodes table.now)) }
 {
-    status <= state::WAITING && n < table.cell(0, field::NODES)
+    status <= state::WAITING && n < table.node_total()
 }
 
 // Thread t's row is put to all its tests, and is counted at the channels that it holds. Answers whether it passes.
-fn pass_row(
-    table: &Table,
-    gaps: &[u32],
-    state: &[u32; state::WORDS],
-    t: u32,
-    stamps: &mut [u8; recount::CHANNELS],
-    held: &mut [u8; recount::CHANNELS],
-    waiting: &mut [u8; recount::CHANNELS],
-) -> bool
-    requires gaps_value { gaps_of gaps.now ≡ flow table.now }
-    requires t_lt_max_threads { t < max_threads }
-    requires fresh { Fresh t stamps.old }
-    requires held_len { length held.old ≡ max_channels }
-    requires waiting_len { length waiting.old ≡ max_channels }
-    ensures value { result ≡ row_sound table.now (state_of state.now) (thread (state_of state.now) t) }
-    ensures held_after { held.new ≡ row_added table.now (thread (state_of state.now) t) 1 held.old }
-    ensures waiting_after { waiting.new ≡ row_added table.now (thread (state_of state.now) t) (bit (is_waiting (thread (state_of state.now) t))) waiting.old }
-    ensures fresh_after { Fresh (t + 1) stamps.new }
+fn pass_row(flow: &Flow, state: &state::Words, t: u32, counts: &mut Counts) -> bool
+    requires fresh { Fresh t counts.old.stamps }
+    ensures value { result ≡ row_sound flow.now (state_of state.now) (thread (state_of state.now) t) }
+    ensures held_after { counts.new.held ≡ row_added flow.now (thread (state_of state.now) t) 1 counts.old.held }
+    ensures waiting_after { counts.new.waiting ≡ row_added flow.now (thread (state_of state.now) t) (bit (is_waiting (thread (state_of state.now) t))) counts.old.waiting }
+    ensures fresh_after { Fresh (t + 1) counts.new.stamps }
 {
-    let status = state::thread_word(state, t as usize, state::STATUS);
+    let status = state::status(state, t);
     if status == state::FREE {
         return row_is_zero(state, t);
     }
-    let n = state::thread_word(state, t as usize, state::NODE);
+    let n = state::stands_at(state, t);
+    let table = flow.table();
     let slots = holding::slots_of(table, state, t);
     let count = slots.count;
-    let typed = pass_slots(
-        table, gaps, state, t, n, slots.from, count, stamps, held, waiting,
-    );
+    let typed = pass_slots(flow, state, t, n, slots.from, count, counts);
     typed & spare_zero(state, t, count) & in_range(table, status, n)
 }
 
 // One pass over the thread rows: each is put to its tests, and is counted at the channels that it holds. Answers whether all pass. Nothing ends the pass early, so
-// that the counts, which come as zeros, are true whether the rows pass or not.
-fn pass_rows(
-    table: &Table,
-    gaps: &[u32],
-    state: &[u32; state::WORDS],
-    held: &mut [u8; recount::CHANNELS],
-    waiting: &mut [u8; recount::CHANNELS],
-) -> bool
-    requires gaps_value { gaps_of gaps.now ≡ flow table.now }
-    requires held_value { held.old ≡ replicate max_channels 0 }
-    requires waiting_value { waiting.old ≡ replicate max_channels 0 }
-    ensures value { result ≡ rows_sound table.now (state_of state.now) }
-    ensures held_after { held.new ≡ tabulate max_channels (holders table.now (state_of state.now).threads) }
-    ensures waiting_after { waiting.new ≡ tabulate max_channels (waiters table.now (state_of state.now).threads) }
+// that the counts, of which none has been made, are true whether the rows pass or not.
+fn pass_rows(flow: &Flow, state: &state::Words, counts: &mut Counts) -> bool
+    requires stamps_value { counts.old.stamps ≡ replicate max_channels 0 }
+    requires held_value { counts.old.held ≡ replicate max_channels 0 }
+    requires waiting_value { counts.old.waiting ≡ replicate max_channels 0 }
+    ensures value { result ≡ rows_sound flow.now (state_of state.now) }
+    ensures held_after { counts.new.held ≡ tabulate max_channels (holders flow.now (state_of state.now).threads) }
+    ensures waiting_after { counts.new.waiting ≡ tabulate max_channels (waiters flow.now (state_of state.now).threads) }
 {
-    let mut stamps = [0u8; recount::CHANNELS];
     let mut passed = true;
     for t in 0..state::THREADS {
-        passed &= pass_row(table, gaps, state, t, &mut stamps, held, waiting);
+        passed &= pass_row(flow, state, t, counts);
     }
     passed
 }
 
 // The count that channel c ought to have: its holders, and the bench if it is a port.
 #[tactic(auto, using(crate::proofs::Ways::due_port, crate::proofs::Ways::due_other))]
-fn count_due(
-    table: &Table,
-    state: &[u32; state::WORDS],
-    held: &[u8; recount::CHANNELS],
-    c: u32,
-) -> u32
-    requires held_value { held.now ≡ tabulate max_channels (holders table.now (state_of state.now).threads) }
+fn count_due(table: &Table, state: &state::Words, counts: &Counts, c: u32) -> u32
+    requires held_value { counts.now.held ≡ tabulate max_channels (holders table.now (state_of state.now).threads) }
     requires c_lt_max_channels { c < max_channels }
     ensures { result ≡ count_of table.now (state_of state.now).threads c }
 {
-    let n = recount::byte_at(held, c) as u32;
-    if c < table.cell(0, field::PORTS) {
-        1 + n
-    } else {
-        n
-    }
+    let n = recount::byte_at(&counts.held, c) as u32;
+    if c < table.ports() { 1 + n } else { n }
 }
 
 // Whether the counts of channel c are true, and it is in use exactly when its count is above 0.
 #[tactic(auto, using(crate::proofs::Ways::count_false, crate::proofs::Ways::waiting_false))]
-fn channel_sound(
-    table: &Table,
-    state: &[u32; state::WORDS],
-    held: &[u8; recount::CHANNELS],
-    waiting: &[u8; recount::CHANNELS],
-    c: u32,
-) -> bool
-    requires held_value { held.now ≡ tabulate max_channels (holders table.now (state_of state.now).threads) }
-    requires waiting_value { waiting.now ≡ tabulate max_channels (waiters table.now (state_of state.now).threads) }
+fn channel_sound(table: &Table, state: &state::Words, counts: &Counts, c: u32) -> bool
+    requires held_value { counts.now.held ≡ tabulate max_channels (holders table.now (state_of state.now).threads) }
+    requires waiting_value { counts.now.waiting ≡ tabulate max_channels (waiters table.now (state_of state.now).threads) }
     requires c_lt_max_channels { c < max_channels }
     ensures { result ≡ count_true table.now (state_of state.now) c }
 {
     let count = state::channel_word(state, c as usize, state::COUNT);
-    count == count_due(table, state, held, c)
+    count == count_due(table, state, counts, c)
         && state::channel_word(state, c as usize, state::WAITERS)
-            == recount::byte_at(waiting, c) as u32
+            == recount::byte_at(&counts.waiting, c) as u32
         && (state::channel_word(state, c as usize, state::TYPE) == 0) == (count == 0)
 }
 
 // Whether the counts of all channels are true, given the numbers of their holders and of the waiting ones.
-fn counts_sound(
-    table: &Table,
-    state: &[u32; state::WORDS],
-    held: &[u8; recount::CHANNELS],
-    waiting: &[u8; recount::CHANNELS],
-) -> bool
-    requires held_value { held.now ≡ tabulate max_channels (holders table.now (state_of state.now).threads) }
-    requires waiting_value { waiting.now ≡ tabulate max_channels (waiters table.now (state_of state.now).threads) }
+fn counts_sound(table: &Table, state: &state::Words, counts: &Counts) -> bool
+    requires held_value { counts.now.held ≡ tabulate max_channels (holders table.now (state_of state.now).threads) }
+    requires waiting_value { counts.now.waiting ≡ tabulate max_channels (waiters table.now (state_of state.now).threads) }
     ensures { result ≡ every (count_true table.now (state_of state.now)) max_channels }
 {
-    (0..state::CHANNELS).all(|c| channel_sound(table, state, held, waiting, c))
+    (0..state::CHANNELS).all(|c| channel_sound(table, state, counts, c))
 }
 
 // Whether the ports are in use, of type 1.
-fn ports_sound(table: &Table, state: &[u32; state::WORDS]) -> bool
+fn ports_sound(table: &Table, state: &state::Words) -> bool
     ensures { result ≡ every (port_typed table.now (state_of state.now)) (ports table.now) }
 {
-    let n = table.cell(0, field::PORTS);
+    let n = table.ports();
     (0..n).all(|c| state::channel_word(state, c as usize, state::TYPE) == PORT_TYPE)
 }
 
-// Whether a state is sound for a table, whose flow has these gaps: ground 10.
+// Whether a state is sound for a table, which comes with the gaps of its flow: ground 10.
 #[tactic(auto, using(crate::proofs::Ways::marks_unsound, crate::proofs::Ways::threads_unsound, crate::proofs::Ways::counts_unsound, crate::proofs::Ways::ports_unsound, crate::proofs::Ways::waits_tested))]
-pub fn is_sound(table: &Table, gaps: &[u32], state: &[u32; state::WORDS]) -> bool
-    requires gaps_value { gaps_of gaps.now ≡ flow table.now }
-    ensures { result ≡ sound table.now (state_of state.now) }
+pub fn is_sound(flow: &Flow, state: &state::Words) -> bool
+    ensures { result ≡ sound flow.now (state_of state.now) }
 {
-    let mut held = [0u8; recount::CHANNELS];
-    let mut waiting = [0u8; recount::CHANNELS];
+    let mut counts = Counts::none();
+    let table = flow.table();
     marks_in_range(state)
-        && pass_rows(table, gaps, state, &mut held, &mut waiting)
-        && counts_sound(table, state, &held, &waiting)
+        && pass_rows(flow, state, &mut counts)
+        && counts_sound(table, state, &counts)
         && ports_sound(table, state)
         && waits::waits_rightly(table, state)
 }

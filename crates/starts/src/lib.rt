@@ -1,9 +1,9 @@
 // The state with which a file starts. Nothing of the old state is read.
 #![tactic(auto)]
 
-ghost use Rattle.std.specs.Prelude.{◌≡◌, [], ◌∷◌, ◌<◌, replicate};
+ghost use Rattle.std.specs.Prelude.{◌≡◌, [], ◌∷◌, ◌<◌};
 ghost use Rattle.numbers.specs.Search.{tabulate};
-ghost use Rattle.state.specs.State.{max_channels, state_of, row_slots, with_thread, with_channel};
+ghost use Rattle.state.specs.State.{state_of, row_slots, with_thread, with_channel};
 ghost use Rattle.rules.specs.Start.{entered, started};
 ghost use Rattle.starts.specs.Opening.{port_held, freed, opened, marked, unstarted, port_at};
 
@@ -11,7 +11,7 @@ use table::{Part, Table};
 
 // Every thread row is free.
 #[tactic(auto, using(crate::specs::Opening::Laws::freeing))]
-fn free_threads(state: &mut [u32; state::WORDS])
+fn free_threads(state: &mut state::Words)
     ensures { state_of state.new ≡ freed (state_of state.old) }
 {
     for t in 0..state::THREADS {
@@ -21,8 +21,7 @@ fn free_threads(state: &mut [u32; state::WORDS])
 
 // Channel c's row: its type, its count, and no waiting holder.
 #[tactic(auto, using(crate::specs::Opening::Laws::row_put))]
-fn put_channel_row(state: &mut [u32; state::WORDS], c: u32, ty: u32, n: u32)
-    requires { c < max_channels }
+fn put_channel_row(state: &mut state::Words, c: u32, ty: u32, n: u32)
     ensures { state_of state.new ≡ with_channel (state_of state.old) c (ty ∷ n ∷ 0 ∷ []) }
 {
     state::put_channel(state, c as usize, state::TYPE, ty);
@@ -32,8 +31,7 @@ fn put_channel_row(state: &mut [u32; state::WORDS], c: u32, ty: u32, n: u32)
 
 // Channel c where this many channels are ports: a port is of type 1 and held by the bench, any other channel is free.
 #[tactic(auto, unfolding(crate::specs::Opening::port_held))]
-fn open_channel(state: &mut [u32; state::WORDS], c: u32, ports: u32)
-    requires { c < max_channels }
+fn open_channel(state: &mut state::Words, c: u32, ports: u32)
     ensures { state_of state.new ≡ with_channel (state_of state.old) c (port_held ports c) }
 {
     if c < ports {
@@ -45,7 +43,7 @@ fn open_channel(state: &mut [u32; state::WORDS], c: u32, ports: u32)
 
 // Every channel is opened where this many channels are ports.
 #[tactic(auto, using(crate::specs::Opening::Laws::opening))]
-fn open_ports(state: &mut [u32; state::WORDS], ports: u32)
+fn open_ports(state: &mut state::Words, ports: u32)
     ensures { state_of state.new ≡ opened (state_of state.old) ports }
 {
     for c in 0..state::CHANNELS {
@@ -55,7 +53,7 @@ fn open_ports(state: &mut [u32; state::WORDS], ports: u32)
 
 // The marks: thread row 0 is taken, so are the ports' rows, and the turn is with thread 0.
 #[tactic(auto, using(crate::specs::Opening::Laws::marks_put))]
-fn put_marks(state: &mut [u32; state::WORDS], ports: u32)
+fn put_marks(state: &mut state::Words, ports: u32)
     ensures { state_of state.new ≡ marked (state_of state.old) ports }
 {
     state::put_mark(state, state::THREAD_MARK, 1);
@@ -65,10 +63,10 @@ fn put_marks(state: &mut [u32; state::WORDS], ports: u32)
 
 // The state before thread 0 has its row: the bench alone holds the ports.
 #[tactic(auto, unfolding(crate::specs::Opening::unstarted, crate::specs::Opening::freed, crate::specs::Opening::opened, crate::specs::Opening::marked, state::specs::State::with_channels))]
-fn write_unstarted(table: &Table, state: &mut [u32; state::WORDS])
+fn write_unstarted(table: &Table, state: &mut state::Words)
     ensures { state_of state.new ≡ unstarted table.now }
 {
-    let ports = table.cell(0, table::field::PORTS);
+    let ports = table.ports();
     free_threads(state);
     open_ports(state, ports);
     put_marks(state, ports);
@@ -86,35 +84,34 @@ fn port_slot(table: &Table, k: u32) -> u32
     }
 }
 
-// All slots with which thread 0 starts are laid down.
-fn port_slots(table: &Table, slots: &mut [u32; thread_rows::SLOTS])
-    requires slots_value { slots.old ≡ replicate row_slots 0 }
-    ensures { slots.new ≡ tabulate row_slots (port_at table.now) }
+// All slots with which thread 0 starts.
+fn port_slots(table: &Table) -> [u32; thread_rows::SLOTS]
+    ensures { result ≡ tabulate row_slots (port_at table.now) }
 {
+    let mut slots = [0; thread_rows::SLOTS];
     for k in 0..state::SLOTS {
         slots[k as usize] = port_slot(table, k);
     }
+    slots
 }
 
 // Thread 0 enters definition 0 with the ports.
 #[tactic(auto, unfolding(rules::specs::Start::entered, crate::specs::Opening::port_at))]
-fn write_start(table: &Table, state: &mut [u32; state::WORDS])
+fn write_start(table: &Table, state: &mut state::Words)
     ensures { state_of state.new ≡ with_thread (state_of state.old) 0 (entered table.now 0 (λ k. k)) }
 {
-    let mut slots = [0; thread_rows::SLOTS];
-    port_slots(table, &mut slots);
+    let slots = port_slots(table);
     let node = table.start(Part::Nodes, 0);
     thread_rows::put_row(state, 0, state::READY, node, &slots);
 }
 
 // The state with which the table's file starts.
 #[tactic(auto, using(crate::specs::Opening::Laws::started_is))]
-pub fn write_started(table: &Table, state: &mut [u32; state::WORDS])
+pub fn write_started(table: &Table, state: &mut state::Words)
     ensures { state_of state.new ≡ started table.now }
 {
-    let mut old = [0; holding::LIST];
     write_unstarted(table, state);
-    let waits = upkeep::note_held(table, state, 0, &mut old);
+    let noted = upkeep::note_held(table, state, 0);
     write_start(table, state);
-    upkeep::settle_one(table, state, 0, &old, waits);
+    upkeep::settle_one(table, state, 0, &noted);
 }

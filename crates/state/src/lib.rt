@@ -4,7 +4,7 @@
 ghost use Rattle.std.specs.Prelude.{◌≡◌, length, get_or, set};
 ghost use Rattle.numbers.specs.Bytes.{words};
 ghost use Rattle.numbers.specs.Rows.{at};
-ghost use Rattle.state.specs.State.{state_of, state_bytes, state_words, state_length, thread, channel, with_mark, with_thread, with_channel};
+ghost use Rattle.state.specs.State.{state_of, state_bytes, state_words, state_length, thread, status, stands_at, channel, with_mark, with_thread, with_channel};
 
 // The words of a state, and the bytes of its buffer.
 pub const WORDS: usize = 1539;
@@ -64,9 +64,12 @@ const CHANNEL_ROWS: usize = CHANNELS as usize;
 
 const CHANNELS_FROM: usize = MARKS + THREAD_ROWS * THREAD_WORDS;
 
+// The words of a state, in their order.
+pub type Words = [u32; WORDS];
+
 // Mark i; 0 where there is none.
 #[tactic(auto, unfolding(crate::specs::State::state_of))]
-pub fn mark(state: &[u32; WORDS], i: usize) -> u32
+pub fn mark(state: &Words, i: usize) -> u32
     ensures { result ≡ get_or (state_of state.now).marks i 0 }
 {
     state[..MARKS].get(i).copied().unwrap_or(0)
@@ -74,7 +77,7 @@ pub fn mark(state: &[u32; WORDS], i: usize) -> u32
 
 // Mark i becomes v.
 #[tactic(auto, using(crate::specs::State::Laws::places))]
-pub fn put_mark(state: &mut [u32; WORDS], i: usize, v: u32)
+pub fn put_mark(state: &mut Words, i: usize, v: u32)
     ensures { state_of state.new ≡ with_mark (state_of state.old) i v }
 {
     if i < MARKS {
@@ -84,7 +87,7 @@ pub fn put_mark(state: &mut [u32; WORDS], i: usize, v: u32)
 
 // Word k of thread t's row; 0 where there is none.
 #[tactic(auto, using(crate::specs::State::Laws::places))]
-pub fn thread_word(state: &[u32; WORDS], t: usize, k: usize) -> u32
+pub fn thread_word(state: &Words, t: usize, k: usize) -> u32
     ensures { result ≡ at (state_of state.now).threads t k }
 {
     if t < THREAD_ROWS && k < THREAD_WORDS {
@@ -95,9 +98,23 @@ pub fn thread_word(state: &[u32; WORDS], t: usize, k: usize) -> u32
     }
 }
 
+// The status of thread t; that of a free row where there is no such thread.
+pub fn status(state: &Words, t: u32) -> u32
+    ensures { result ≡ status (thread (state_of state.now) t) }
+{
+    thread_word(state, t as usize, STATUS)
+}
+
+// The node at which thread t stands.
+pub fn stands_at(state: &Words, t: u32) -> u32
+    ensures { result ≡ stands_at (thread (state_of state.now) t) }
+{
+    thread_word(state, t as usize, NODE)
+}
+
 // Word k of thread t's row becomes v.
 #[tactic(auto, using(crate::specs::State::Laws::places))]
-pub fn put_thread(state: &mut [u32; WORDS], t: usize, k: usize, v: u32)
+pub fn put_thread(state: &mut Words, t: usize, k: usize, v: u32)
     ensures { state_of state.new ≡ with_thread (state_of state.old) t (set (thread (state_of state.old) t) k v) }
 {
     if t < THREAD_ROWS && k < THREAD_WORDS {
@@ -107,7 +124,7 @@ pub fn put_thread(state: &mut [u32; WORDS], t: usize, k: usize, v: u32)
 
 // Word k of channel c's row; 0 where there is none.
 #[tactic(auto, using(crate::specs::State::Laws::places))]
-pub fn channel_word(state: &[u32; WORDS], c: usize, k: usize) -> u32
+pub fn channel_word(state: &Words, c: usize, k: usize) -> u32
     ensures { result ≡ at (state_of state.now).channels c k }
 {
     if c < CHANNEL_ROWS && k < CHANNEL_WORDS {
@@ -120,7 +137,7 @@ pub fn channel_word(state: &[u32; WORDS], c: usize, k: usize) -> u32
 
 // Word k of channel c's row becomes v.
 #[tactic(auto, using(crate::specs::State::Laws::places))]
-pub fn put_channel(state: &mut [u32; WORDS], c: usize, k: usize, v: u32)
+pub fn put_channel(state: &mut Words, c: usize, k: usize, v: u32)
     ensures { state_of state.new ≡ with_channel (state_of state.old) c (set (channel (state_of state.old) c) k v) }
 {
     if c < CHANNEL_ROWS && k < CHANNEL_WORDS {
@@ -142,7 +159,7 @@ pub fn read(buffer: &[u8], state: &mut [u32])
 
 // The words of a state into its buffer.
 #[tactic(auto, using(crate::proofs::Filling::words_written))]
-pub fn write(state: &[u32; WORDS], buffer: &mut [u8])
+pub fn write(state: &Words, buffer: &mut [u8])
     requires { length buffer.old ≡ state_length }
     ensures { buffer.new ≡ state_bytes (state_of state.now) }
 {

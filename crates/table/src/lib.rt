@@ -4,9 +4,10 @@
 
 ghost use Rattle.std.specs.Prelude.{◌≡◌, ◌+◌, ◌-◌, ◌≤◌, ◌<◌};
 ghost use Rattle.numbers.specs.Rows.{at};
-ghost use Rattle.table.specs.Table.{table_of, definition_row, slot_row, node_row, branch_row, line_total, parameters, slot_count, node_count, nodes};
+ghost use Rattle.table.specs.Table.{table_of, definition_row, slot_row, node_row, branch_row, line_total, parameters, slot_count, node_count, nodes, ports};
 ghost use Rattle.table.specs.Layout.{blocks, lines, branch_count, size, start, owner, definition_of, node_of, slot_type};
 ghost use Rattle.table.specs.Index.{starts_from, starts_room, owners_from, owners_room, Indexed};
+ghost use Rattle.table.specs.declared.Part.TheVariants.{Branches};
 ghost use Rattle.table.specs.Form.Laws.{Counts};
 ghost use Rattle.table.specs.Form.{within};
 
@@ -45,6 +46,13 @@ pub const MAX_OWN_SLOTS: u32 = 16;
 pub const MAX_OWN_NODES: u32 = 192;
 
 pub const MAX_OWN_BRANCHES: u32 = 8;
+
+// The kinds of a node that are asked for: a choice and a call; and the action that is a spawn.
+pub const CHOICE: u32 = 1;
+
+pub const CALL: u32 = 2;
+
+pub const SPAWN: u32 = 4;
 
 // The operands of a branch: two of its guard, then three of its action.
 pub const OPERANDS: u32 = 5;
@@ -181,7 +189,7 @@ pub fn branch_count(table: &[u8], node: u32) -> u32
     ensures upper_bound { result < 65536 }
 {
     let row = node_row(table) + node as usize;
-    if cell(table, row, field::NODE_KIND) == 1 {
+    if cell(table, row, field::NODE_KIND) == CHOICE {
         cell(table, row, field::OWN_BRANCHES)
     } else {
         0
@@ -296,6 +304,14 @@ impl<'a> Table<'a> {
         cell(self.bytes, 0, field::NODES)
     }
 
+    // The number of ports.
+    pub fn ports(&self) -> u32
+        ensures value { result ≡ ports self.now }
+        ensures upper_bound { result < 65536 }
+    {
+        self.cell(0, field::PORTS)
+    }
+
     // The number of nodes of definition d.
     pub fn nodes(&self, d: u32) -> u32
         ensures value { result ≡ node_count self.now d }
@@ -324,7 +340,8 @@ impl<'a> Table<'a> {
         ensures value { result ≡ start self.now part i }
         ensures upper_bound { result ≤ 12582720 }
     {
-        self.index[starts_from(part) + i as usize]
+        let place = starts_from(part) + i as usize;
+        self.index[place]
     }
 
     // The block that x stands in; 0 past the part's lines.
@@ -377,6 +394,14 @@ impl<'a> Table<'a> {
         self.index[BRANCH_ROW] as usize
     }
 
+    // The row of the first branch of a node.
+    pub fn first_branch(&self, node: u32) -> usize
+        ensures value { result ≡ branch_row self.now + start self.now Branches node }
+        ensures upper_bound { result ≤ 12583201 }
+    {
+        self.branch_row() + self.start(Part::Branches, node) as usize
+    }
+
     // Number k of a row; 0 outside the table.
     #[tactic(auto, using(crate::proofs::Cells::cells))]
     pub fn cell(&self, row: usize, k: usize) -> u32
@@ -414,7 +439,7 @@ impl<'a> Table<'a> {
         ensures upper_bound { result < 65536 }
     {
         let row = self.node_row() + node as usize;
-        if self.cell(row, field::NODE_KIND) == 1 {
+        if self.cell(row, field::NODE_KIND) == CHOICE {
             self.cell(row, field::OWN_BRANCHES)
         } else {
             0

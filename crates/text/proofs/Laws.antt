@@ -216,16 +216,16 @@ module _ (l ys zs : List ℕ) (at : ℕ) (inside : at + 6 ≤ length l) where
       let k : at + 6 - at ≡ 6 = omega arith in
       rw (e, k, sets-eq zs l at (omega arith), n, drop-drop 6 at l, append_assoc)
 
-  pub columns_laid : (n : Bool) (m : ℕ) → zs ≡ columns n m → ys ≡ zs → put_mid at (at + 6 - at) l ys ≡ sets l at (columns n m)
-  unfolding columns
-  columns_laid n m e h = six_laid (ap length e) h ∙ ap (sets l at) e
+  pub field_laid : (v : ℕ) → zs ≡ text v → length zs ≡ 6 → ys ≡ zs → put_mid at (at + 6 - at) l ys ≡ sets l at (text v)
+  field_laid v e n h = six_laid n h ∙ ap (sets l at) e
 
-  pub figure_laid : (v : ℕ) → v < 10 → zs ≡ six 32 32 32 32 32 (48 + v) → ys ≡ zs → put_mid at (at + 6 - at) l ys ≡ sets l at (text v)
-  figure_laid v h e k = six_laid (ap length e) k ∙ ap (sets l at) (e ∙ sym (text_one v h))
+-- the six columns of the number with the pattern v
+module _ (zs : List ℕ) (v : ℕ) where
+  pub figure_printed : v < 10 → zs ≡ six 32 32 32 32 32 (48 + v) → zs ≡ text v
+  figure_printed h e = e ∙ sym (text_one v h)
 
-module _ (l l₁ : List ℕ) (at v : ℕ) where
-  pub text_laid : v ≤ 32767 → l₁ ≡ sets l at (columns false v) → l₁ ≡ sets l at (text v)
-  text_laid h e = e ∙ rw (text_pos v h)
+  pub text_printed : v ≤ 32767 → zs ≡ columns false v → zs ≡ text v
+  text_printed h e = e ∙ sym (text_pos v h)
 
-  pub minus_laid : 32767 < v → l₁ ≡ sets l at (columns true (65536 - v)) → l₁ ≡ sets l at (text v)
-  minus_laid h e = e ∙ rw (text_neg v h)
+  pub minus_printed : 32767 < v → zs ≡ columns true (65536 - v) → zs ≡ text v
+  minus_printed h e = e ∙ sym (text_neg v h)

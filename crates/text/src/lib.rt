@@ -108,37 +108,25 @@ pub fn read_field(field: &[u8]) -> Option<u16>
     }
 }
 
-// The six columns of a size below 100000 and its sign, laid into a buffer from a place on.
-#[tactic(auto, using(crate::proofs::Laws::columns_laid))]
-fn put_columns(buffer: &mut [u8], at: usize, negative: bool, size: u32)
-    requires { at + 6 ≤ length buffer.old }
-    ensures { buffer.new ≡ sets buffer.old at (columns negative size) }
+// The six columns that print the number with the pattern v. Most are one figure, which is told at once.
+#[tactic(auto, using(crate::proofs::Laws::figure_printed, crate::proofs::Laws::text_printed, crate::proofs::Laws::minus_printed))]
+fn printed(v: u16) -> [u8; FIELD]
+    ensures { result ≡ text v }
 {
-    buffer[at..at + FIELD].copy_from_slice(&columns(negative, size));
+    if v < 10 {
+        [b' ', b' ', b' ', b' ', b' ', b'0' + v as u8]
+    } else if v <= 32767 {
+        columns(false, v as u32)
+    } else {
+        columns(true, 65536 - v as u32)
+    }
 }
 
-// One figure after five blanks, laid into a buffer from a place on.
-#[tactic(auto, using(crate::proofs::Laws::figure_laid))]
-fn put_figure(buffer: &mut [u8], at: usize, v: u16)
-    requires at_in_bounds { at + 6 ≤ length buffer.old }
-    requires v_bound { v < 10 }
-    ensures { buffer.new ≡ sets buffer.old at (text v) }
-{
-    let field = [b' ', b' ', b' ', b' ', b' ', b'0' + v as u8];
-    buffer[at..at + FIELD].copy_from_slice(&field);
-}
-
-// The field of the number with the pattern v, laid into a buffer from a place on. Most fields are one figure, which is laid at once.
-#[tactic(auto, using(crate::proofs::Laws::text_laid, crate::proofs::Laws::minus_laid))]
+// The field of the number with the pattern v, laid into a buffer from a place on.
+#[tactic(auto, using(crate::proofs::Laws::field_laid))]
 pub fn put_field(buffer: &mut [u8], at: usize, v: u16)
     requires { at + 6 ≤ length buffer.old }
     ensures { buffer.new ≡ sets buffer.old at (text v) }
 {
-    if v < 10 {
-        put_figure(buffer, at, v);
-    } else if v <= 32767 {
-        put_columns(buffer, at, false, v as u32);
-    } else {
-        put_columns(buffer, at, true, 65536 - v as u32);
-    }
+    buffer[at..at + FIELD].copy_from_slice(&printed(v));
 }

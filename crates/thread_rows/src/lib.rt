@@ -1,8 +1,8 @@
-// The row of a thread, written in part or as a whole. Whoever calls these functions settles the channel rows.
+// The row of a thread, written in part or as a whole; of a thread that has no row nothing is written. Whoever calls these functions settles the channel rows.
 #![tactic(auto)]
 
-ghost use Rattle.std.specs.Prelude.{◌≡◌, ◌∷◌, ◌<◌, replicate};
-ghost use Rattle.state.specs.State.{max_threads, state_of, thread, stands_at, slots_of, row_slots, with_thread};
+ghost use Rattle.std.specs.Prelude.{◌≡◌, ◌∷◌, ◌<◌};
+ghost use Rattle.state.specs.State.{max_threads, state_of, thread, slots_of, with_thread};
 ghost use Rattle.rules.specs.Start.{free_row};
 ghost use Rattle.rules.specs.Moves.{resumed, waiting_row, stored};
 ghost use Rattle.thread_rows.specs.WrittenRows.{rewritten, reslotted};
@@ -10,17 +10,9 @@ ghost use Rattle.thread_rows.specs.WrittenRows.{rewritten, reslotted};
 // The slots of a row.
 pub const SLOTS: usize = state::SLOTS as usize;
 
-// The node at which thread t stands.
-pub fn stands_at(state: &[u32; state::WORDS], t: u32) -> u32
-    ensures { result ≡ stands_at (thread (state_of state.now) t) }
-{
-    state::thread_word(state, t as usize, state::NODE)
-}
-
 // Thread t gets a status and a node; its slots stay.
 #[tactic(auto, using(crate::specs::WrittenRows::Laws::head_written))]
-fn put_head(state: &mut [u32; state::WORDS], t: u32, status: u32, node: u32)
-    requires { t < max_threads }
+fn put_head(state: &mut state::Words, t: u32, status: u32, node: u32)
     ensures { state_of state.new ≡ rewritten (state_of state.old) t (λ row. status ∷ node ∷ slots_of row) }
 {
     state::put_thread(state, t as usize, state::STATUS, status);
@@ -29,7 +21,7 @@ fn put_head(state: &mut [u32; state::WORDS], t: u32, status: u32, node: u32)
 
 // Slot k of thread t gets v.
 #[tactic(auto, unfolding(rules::specs::Moves::stored))]
-pub fn store(state: &mut [u32; state::WORDS], t: u32, k: u32, v: u32)
+pub fn store(state: &mut state::Words, t: u32, k: u32, v: u32)
     ensures { state_of state.new ≡ rewritten (state_of state.old) t (λ row. stored row k v) }
 {
     state::put_thread(state, t as usize, state::FIRST_SLOT + k as usize, v);
@@ -37,8 +29,7 @@ pub fn store(state: &mut [u32; state::WORDS], t: u32, k: u32, v: u32)
 
 // Thread t goes on, ready, at a node.
 #[tactic(auto, unfolding(rules::specs::Moves::resumed))]
-pub fn resume(state: &mut [u32; state::WORDS], t: u32, node: u32)
-    requires { t < max_threads }
+pub fn resume(state: &mut state::Words, t: u32, node: u32)
     ensures { state_of state.new ≡ rewritten (state_of state.old) t (λ row. resumed row node) }
 {
     put_head(state, t, state::READY, node);
@@ -46,17 +37,15 @@ pub fn resume(state: &mut [u32; state::WORDS], t: u32, node: u32)
 
 // Thread t waits where it stands.
 #[tactic(auto, unfolding(rules::specs::Moves::waiting_row))]
-pub fn write_waiting(state: &mut [u32; state::WORDS], t: u32)
-    requires { t < max_threads }
+pub fn write_waiting(state: &mut state::Words, t: u32)
     ensures { state_of state.new ≡ rewritten (state_of state.old) t waiting_row }
 {
-    let node = stands_at(state, t);
+    let node = state::stands_at(state, t);
     put_head(state, t, state::WAITING, node);
 }
 
 // Thread t gets these slots; its status and its node stay.
-fn put_slots(state: &mut [u32; state::WORDS], t: u32, slots: &[u32; SLOTS])
-    requires { t < max_threads }
+fn put_slots(state: &mut state::Words, t: u32, slots: &[u32; SLOTS])
     ensures { state_of state.new ≡ rewritten (state_of state.old) t (λ row. reslotted row slots.now) }
 {
     for k in 0..state::SLOTS {
@@ -66,14 +55,7 @@ fn put_slots(state: &mut [u32; state::WORDS], t: u32, slots: &[u32; SLOTS])
 
 // Thread t gets a whole row: a status, a node and sixteen slots.
 #[tactic(auto, using(crate::specs::WrittenRows::Laws::row_written_lem))]
-pub fn put_row(
-    state: &mut [u32; state::WORDS],
-    t: u32,
-    status: u32,
-    node: u32,
-    slots: &[u32; SLOTS],
-)
-    requires { t < max_threads }
+pub fn put_row(state: &mut state::Words, t: u32, status: u32, node: u32, slots: &[u32; SLOTS])
     ensures { state_of state.new ≡ with_thread (state_of state.old) t (status ∷ node ∷ slots.now) }
 {
     put_head(state, t, status, node);
@@ -81,20 +63,20 @@ pub fn put_row(
 }
 
 // Thread t's row is free.
-pub fn write_free(state: &mut [u32; state::WORDS], t: u32)
-    requires { t < max_threads }
+pub fn write_free(state: &mut state::Words, t: u32)
     ensures { state_of state.new ≡ with_thread (state_of state.old) t free_row }
 {
     put_row(state, t, state::FREE, 0, &[0; SLOTS]);
 }
 
-// The slots of thread t are copied.
-pub fn copy_slots(state: &[u32; state::WORDS], t: u32, slots: &mut [u32; SLOTS])
-    requires t_lt_max_threads { t < max_threads }
-    requires slots_value { slots.old ≡ replicate row_slots 0 }
-    ensures { slots.new ≡ slots_of (thread (state_of state.now) t) }
+// The slots of thread t.
+pub fn copy_slots(state: &state::Words, t: u32) -> [u32; SLOTS]
+    requires { t < max_threads }
+    ensures { result ≡ slots_of (thread (state_of state.now) t) }
 {
+    let mut slots = [0; SLOTS];
     for k in 0..state::SLOTS {
         slots[k as usize] = program::slot(state, t, k);
     }
+    slots
 }

@@ -1,7 +1,7 @@
 -- One law for each way out of the functions. Assumes nothing.
 use Rattle.rules.specs.declared.Direction.{Direction}
 use Rattle.std.specs.Prelude.{None, Option, Some}
-use Prim.Native.Nat.{ℕ, ◌<◌, ◌≤◌}
+use Prim.Native.Nat.{ℕ, ◌+◌, ◌<◌, ◌≤◌}
 use native.Mathlib.Omega.{arith}
 use mathlib.Core.Path.{◌≡◌, refl, sym, ◌∙◌, ap}
 use mathlib.Core.Bool.{Bool, true, false, ◌&&◌, ◌||◌}
@@ -10,11 +10,12 @@ use lib.ListN.{length}
 use borrow.Author.Tests.{eq-eqb, ne_eqb}
 use Rattle.numbers.specs.Count.{bit}
 use Rattle.numbers.specs.Search.{some}
-use Rattle.table.specs.Table.{Table}
-use Rattle.table.specs.Layout.{branch_count}
+use Rattle.table.specs.Table.{Table, branch_row}
+use Rattle.table.specs.Layout.{start, branch_count}
+use Rattle.table.specs.declared.Part.TheVariants.{Branches}
 use Rattle.state.specs.State.{max_channels, max_threads, row_slots, State, state_of, thread, status, stands_at, slot_of, is_waiting, with_thread}
 use Rattle.state.specs.State.Laws.{length_threads}
-use Rattle.rules.specs.Program.{field_a}
+use Rattle.rules.specs.Program.{branch_at, field_a}
 use Rattle.rules.specs.Holding.{settled}
 use Rattle.rules.specs.Start.{free_row}
 use Rattle.rules.specs.Offers.{offers_in}
@@ -43,7 +44,17 @@ module _ (tb : Table) (row : List ℕ) (k : List Bool) (r : ℕ) where
   unfolding reaches_by
   reaches_is_offer = ap (λ (x : Bool). is_marked k (slot_of row (field_a tb r)) && x) (in_either (slot_of row (field_a tb r)) (offer_on tb row (slot_of row (field_a tb r)) r) refl)
 
--- offers_marked: y is the status of the thread
+-- offers_marked: the branches of the node at which the row stands begin at the row b of the table
+module _ (tb : Table) (row : List ℕ) (k : List Bool) (b n i : ℕ) (p : n ≡ stands_at row) (q : b ≡ branch_row tb + start tb Branches n) where
+  row_is : b + i ≡ branch_at tb (stands_at row) i
+  unfolding branch_at
+  row_is = rw (← p) (omega arith)
+
+  pub reaches_there : (r : Bool) → r ≡ reaches_by tb row k (b + i) → r ≡ reaches_at tb row k i
+  unfolding reaches_at
+  reaches_there r e = e ∙ rw row_is
+
+-- y is the status of the thread
 module _ (tb : Table) (row : List ℕ) (k : List Bool) (y : ℕ) (s : y ≡ status row) where
   pub not_waiting : (y ≡ 2 → ⊥) → false ≡ offers_marked tb row k
   not_waiting n = offers_nothing tb row k (ne_eqb (status row) 2 (λ q. n (s ∙ q)))

@@ -19,6 +19,7 @@ ghost use Rattle.turns.specs.Made.{ChildIn};
 ghost use Rattle.turns.specs.TopRaised.{raised_by};
 ghost use Rattle.turns.specs.Keeping.{CanMeet, AtPort};
 
+use offers::Moment;
 use rules::{Deed, Move, Reason, Refusal};
 use std::ops::ControlFlow;
 use table::{Table, field};
@@ -34,62 +35,57 @@ pub struct Round {
 }
 
 // Thread t comes to its end.
-fn make_end(table: &Table, state: &mut [u32; state::WORDS], t: u32)
+fn make_end(table: &Table, state: &mut state::Words, t: u32)
     requires counted { Counted table.now (state_of state.old) }
     requires t_lt_max_threads { t < max_threads }
     ensures { MoveMade table.now (state_of state.old) t Ends (state_of state.new) }
 {
-    let mut old = [0; holding::LIST];
-    let waits = upkeep::note_held(table, state, t, &mut old);
+    let noted = upkeep::note_held(table, state, t);
     thread_rows::write_free(state, t);
-    upkeep::settle_one(table, state, t, &old, waits);
+    upkeep::settle_one(table, state, t, &noted);
 }
 
 // Thread t, which is ready, makes the call at its node. Where it will hold what it holds, no count changes.
-fn make_call(table: &Table, state: &mut [u32; state::WORDS], t: u32)
+#[tactic(auto, using(crate::specs::Keeping::Laws::ready_below))]
+fn make_call(table: &Table, state: &mut state::Words, t: u32)
     requires counted { Counted table.now (state_of state.old) }
-    requires t_lt_max_threads { t < max_threads }
     requires ready { is_ready (thread (state_of state.old) t) ≡ true }
     ensures { MoveMade table.now (state_of state.old) t Calls (state_of state.new) }
 {
-    let mut slots = [0; thread_rows::SLOTS];
-    if call_rows::prepare_call(table, state, t, &mut slots) {
-        call_rows::enter_call(table, state, t, &slots);
+    let entry = call_rows::prepare_call(table, state, t);
+    if entry.keeps {
+        call_rows::enter_call(table, state, t, &entry.slots);
     } else {
-        let mut old = [0; holding::LIST];
-        let waits = upkeep::note_held(table, state, t, &mut old);
-        call_rows::enter_call(table, state, t, &slots);
-        upkeep::settle_one(table, state, t, &old, waits);
+        let noted = upkeep::note_held(table, state, t);
+        call_rows::enter_call(table, state, t, &entry.slots);
+        upkeep::settle_one(table, state, t, &noted);
     }
 }
 
 // Thread t makes channel c by its branch i.
-fn make_channel(table: &Table, state: &mut [u32; state::WORDS], t: u32, i: u32, c: u32)
+fn make_channel(table: &Table, state: &mut state::Words, t: u32, i: u32, c: u32)
     requires counted { Counted table.now (state_of state.old) }
     requires t_lt_max_threads { t < max_threads }
     requires c_lt_max_channels { c < max_channels }
     ensures { MoveMade table.now (state_of state.old) t (Creates i c) (state_of state.new) }
 {
-    let mut old = [0; holding::LIST];
-    let waits = upkeep::note_held(table, state, t, &mut old);
+    let noted = upkeep::note_held(table, state, t);
     acts::write_creation(table, state, t, i, c);
-    upkeep::settle_new(table, state, t, c, &old, waits);
+    upkeep::settle_new(table, state, t, c, &noted);
 }
 
 // Thread t makes the child u by its branch i.
-fn make_child(table: &Table, state: &mut [u32; state::WORDS], t: u32, i: u32, u: u32)
+fn make_child(table: &Table, state: &mut state::Words, t: u32, i: u32, u: u32)
     requires counted { Counted table.now (state_of state.old) }
     requires t_lt_max_threads { t < max_threads }
     requires u_lt_max_threads { u < max_threads }
     requires distinct { u ≢ t }
     ensures { MoveMade table.now (state_of state.old) t (Spawns i u) (state_of state.new) }
 {
-    let mut old = [0; holding::LIST];
-    let mut child_old = [0; holding::LIST];
-    let waits = upkeep::note_held(table, state, t, &mut old);
-    let child_waits = upkeep::note_held(table, state, u, &mut child_old);
+    let noted = upkeep::note_held(table, state, t);
+    let child = upkeep::note_held(table, state, u);
     acts::write_spawn(table, state, t, i, u);
-    upkeep::settle_two(table, state, t, u, &old, waits, &child_old, child_waits);
+    upkeep::settle_two(table, state, t, u, &noted, &child);
 }
 
 // Whether a number is given at a meeting by branch i of a node.
@@ -103,28 +99,25 @@ fn gives_number(table: &Table, node: u32, i: u32) -> bool
 }
 
 // Threads t and u meet by their branches i and j. Where a number is given, both hold what they held, and no count of holders changes.
-fn make_meeting(table: &Table, state: &mut [u32; state::WORDS], t: u32, i: u32, u: u32, j: u32)
+fn make_meeting(table: &Table, state: &mut state::Words, t: u32, i: u32, u: u32, j: u32)
     requires counted { Counted table.now (state_of state.old) }
     requires can_meet { CanMeet table.now (state_of state.old) t i u j }
     ensures { MoveMade table.now (state_of state.old) t (Meets i u j) (state_of state.new) }
 {
-    if gives_number(table, thread_rows::stands_at(state, t), i) {
+    if gives_number(table, state::stands_at(state, t), i) {
         meetings::write_directed(table, state, t, i, u, j);
     } else {
-        let mut old = [0; holding::LIST];
-        let mut partner_old = [0; holding::LIST];
-        let waits = upkeep::note_held(table, state, t, &mut old);
-        let partner_waits = upkeep::note_held(table, state, u, &mut partner_old);
+        let noted = upkeep::note_held(table, state, t);
+        let partner = upkeep::note_held(table, state, u);
         meetings::write_meeting(table, state, t, i, u, j);
-        upkeep::settle_two(table, state, t, u, &old, waits, &partner_old, partner_waits);
+        upkeep::settle_two(table, state, t, u, &noted, &partner);
     }
 }
 
 // Thread t, which is ready, makes the move that was decided, with what is handed on with it; one that lacks a row changes nothing.
-#[tactic(auto, using(crate::specs::Running::Laws::made_by, crate::specs::Keeping::Laws::child_aside))]
-fn make_move(table: &Table, state: &mut [u32; state::WORDS], t: u32, m: Move, row: usize, v: u32)
+#[tactic(auto, using(crate::specs::Running::Laws::made_by, crate::specs::Keeping::Laws::child_aside, crate::specs::Keeping::Laws::ready_below))]
+fn make_move(table: &Table, state: &mut state::Words, t: u32, m: Move, row: usize, v: u32)
     requires running { Running table.now (state_of state.old) }
-    requires t_lt_max_threads { t < max_threads }
     requires ready { is_ready (thread (state_of state.old) t) ≡ true }
     requires m_value { m ≡ move table.now (state_of state.old) t }
     requires carries { Carries table.now row v (state_of state.old) t m }
@@ -143,8 +136,7 @@ fn make_move(table: &Table, state: &mut [u32; state::WORDS], t: u32, m: Move, ro
 }
 
 // Thread u, which the bench meets through its branch j at a port and which is given v, goes on. A port carries numbers, so that u holds what it held; it no longer waits.
-pub fn make_met(table: &Table, state: &mut [u32; state::WORDS], u: u32, j: u32, v: u32)
-    requires u_lt_max_threads { u < max_threads }
+pub fn make_met(table: &Table, state: &mut state::Words, u: u32, j: u32, v: u32)
     requires granted { Granted table.now }
     requires sound { Sound table.now (state_of state.old) }
     requires at_port { AtPort table.now (state_of state.old) u j }
@@ -206,15 +198,15 @@ fn raised(m: Move, top: u32) -> u32
 }
 
 // Thread t, which is ready, has its turn: it makes its move, and the turn moves past it.
-#[tactic(auto, using(crate::specs::Running::Laws::running_apart, crate::specs::Made::Laws::move_child))]
-pub fn turn_of(table: &Table, state: &mut [u32; state::WORDS], t: u32, top: u32) -> Round
+#[tactic(auto, using(crate::specs::Running::Laws::running_apart, crate::specs::Made::Laws::move_child, crate::specs::Keeping::Laws::ready_below))]
+pub fn turn_of(table: &Table, state: &mut state::Words, t: u32, top: u32) -> Round
     requires running { Running table.now (state_of state.old) }
     requires used_below { UsedBelow (state_of state.old) top }
-    requires t_lt_max_threads { t < max_threads }
     requires ready { is_ready (thread (state_of state.old) t) ≡ true }
     ensures { TurnTaken table.now (state_of state.old) t result (state_of state.new) }
 {
-    let d = decision::decide(table, state, t, top);
+    let moment = Moment::new(table, state, top);
+    let d = decision::decide(&moment, t);
     let m = d.made;
     make_move(table, state, t, m, d.row, d.number);
     state::put_mark(state, state::TURN, next_rows::one_up(state::THREADS, t));
@@ -226,7 +218,7 @@ pub fn turn_of(table: &Table, state: &mut [u32; state::WORDS], t: u32, top: u32)
 }
 
 // Every channel gets its count of waiting holders from a list.
-fn put_waiting(state: &mut [u32; state::WORDS], waiting: &[u8; CHANNELS])
+fn put_waiting(state: &mut state::Words, waiting: &[u8; CHANNELS])
     ensures { state_of state.new ≡ weighed waiting.now (state_of state.old) max_channels }
 {
     for (c, n) in waiting.iter().enumerate() {
@@ -236,20 +228,18 @@ fn put_waiting(state: &mut [u32; state::WORDS], waiting: &[u8; CHANNELS])
 
 // The counts of waiting holders, which no move has kept, are settled.
 #[tactic(auto, using(crate::specs::Counted::Laws::settled_last))]
-pub fn settle_waiting(table: &Table, state: &mut [u32; state::WORDS])
+pub fn settle_waiting(table: &Table, state: &mut state::Words)
     requires counted { Counted table.now (state_of state.old) }
     ensures { state_of state.new ≡ settled table.now (state_of state.old) }
 {
-    let mut held = [0; CHANNELS];
-    let mut waiting = [0; CHANNELS];
-    recount::tally(table, state, &mut held, &mut waiting);
-    put_waiting(state, &waiting);
+    let counts = recount::tally(table, state);
+    put_waiting(state, &counts.waiting);
 }
 
 // The counts of waiting holders are settled after one step in a settled state, by which thread t, which stood at the node, made move m: where t has begun to
 // wait, and where its partner at a meeting by which a number is given no longer does. After every other move they are right.
 #[tactic(auto, unfolding(crate::specs::Weights::weighed_after))]
-pub fn settle_step(table: &Table, state: &mut [u32; state::WORDS], t: u32, node: u32, m: Move)
+pub fn settle_step(table: &Table, state: &mut state::Words, t: u32, node: u32, m: Move)
     ensures { state_of state.new ≡ weighed_after table.now node t m (state_of state.old) }
 {
     match m {

@@ -36,7 +36,7 @@ fn each_port_typed(table: &Table, n: u32) -> bool
 fn ports_typed(table: &Table) -> bool
     ensures { result ≡ ports_typed table.now }
 {
-    let n = table.cell(0, field::PORTS);
+    let n = table.ports();
     table.parameters(0) == n
         && each_port_typed(table, n)
         && (n == 0 || (table.cell(0, field::TYPES) >= 1 && table.cell(1, field::CARRIED) == 0))
@@ -66,7 +66,7 @@ fn node_typed(table: &Table, row: usize, d: u32) -> bool
     ensures { result ≡ node_typed table.now row d }
 {
     let callee = table.cell(row, field::CALLEE);
-    table.cell(row, field::NODE_KIND) != 2
+    table.cell(row, field::NODE_KIND) != table::CALL
         || arguments_typed(table, row, d, table.parameters(callee))
 }
 

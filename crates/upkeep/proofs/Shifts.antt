@@ -2,15 +2,16 @@
 use Prim.Native.Nat.{ℕ, zero, suc, ◌+◌, ◌<◌, ◌≤◌}
 use native.Mathlib.Omega.{arith}
 use native.Mathlib.Numerals.{add-one}
-use mathlib.Core.Path.{◌≡◌, refl}
+use native.Mathlib.Decide.{dec_lt}
+use mathlib.Core.Path.{◌≡◌, refl, ◌∙◌}
 use mathlib.Core.List.{List, [], ◌∷◌}
-use lib.ListN.{length, get_or, set}
+use lib.ListN.{length, get_or, set, take}
+use Rattle.std.proofs.lemmas.List.{get_or-take, length-take}
 use lib.Seq.{set_out}
 use Rattle.numbers.specs.Rows.{at}
-use Rattle.numbers.specs.Rows.Laws.{put_put}
 use Rattle.numbers.specs.Signed.{sum}
 use Rattle.state.specs.State.{State, state_of, state_words, channel, with_channel, with_channels, max_channels}
-use Rattle.state.specs.State.Laws.{length_channels, length_channel, three_stored}
+use Rattle.state.specs.State.Laws.{length_channels, length_channel, three_stored, either_channel_row, channel_again, channel_written}
 use Rattle.rules.specs.Holding.{channel_row}
 use Rattle.upkeep.specs.Shift.{row_counted, shift_row, shift_to, channel_shifted, shifted_to}
 
@@ -24,22 +25,33 @@ unfolding channel_row
 held_row ty zero w h = absurd (h refl)
 held_row ty (suc n) w h = refl
 
-module _ (b : List ℕ) (c n w : ℕ) (s₁ s₂ : State) (e : length b ≡ state_words) (h : c < max_channels) where
+module _ (b : List ℕ) (c n w : ℕ) (s₁ s₂ : State) (e : length b ≡ state_words) where
+  -- the row that is counted
+  counted : (r : List ℕ) → r ≡ channel_row (at (state_of b).channels c 0) n w → with_channel (state_of b) c r ≡ row_counted (state_of b) c n w
+  unfolding with_channel row_counted with_channels
+  counted r q = rw q
+
   pub counts_put : (n ≡ 0 → ⊥) → s₁ ≡ with_channel (state_of b) c (set (channel (state_of b) c) 1 n) → s₂ ≡ with_channel s₁ c (set (channel s₁ c) 2 w)
       → s₂ ≡ row_counted (state_of b) c n w
-  unfolding with_channel row_counted with_channels
-  counts_put z f g =
-      let i : c < length (state_of b).channels = omega (arith, length_channels b) in
-      rw (g, f, put_put (state_of b).channels c 2 w (set (channel (state_of b) c) 1 n) i, two (channel (state_of b) c) n w (length_channel b e c h), held_row (at (state_of b).channels c 0) n w z)
+  counts_put z f g = channel_again (state_of b) s₁ s₂ c (λ x. set x 2 w) (set (channel (state_of b) c) 1 n) g f ∙ go (dec_lt c max_channels)
+    where
+      row : List ℕ
+      row = at (state_of b).channels c 0 ∷ n ∷ w ∷ []
+
+      go : Dec (c < max_channels) → with_channel (state_of b) c (set (set (channel (state_of b) c) 1 n) 2 w) ≡ row_counted (state_of b) c n w
+      go (yes h) = rw (two (channel (state_of b) c) n w (length_channel b e c h)) (counted row (held_row (at (state_of b).channels c 0) n w z))
+      go (no h) =
+          either_channel_row (state_of b) c (set (set (channel (state_of b) c) 1 n) 2 w) row (omega (arith, length_channels b))
+          ∙ counted row (held_row (at (state_of b).channels c 0) n w z)
 
   pub counts_free : (s₃ : State) → n ≡ 0 → s₁ ≡ with_channel (state_of b) c (set (channel (state_of b) c) 0 0)
       → s₂ ≡ with_channel s₁ c (set (channel s₁ c) 1 0) → s₃ ≡ with_channel s₂ c (set (channel s₂ c) 2 0)
       → s₃ ≡ row_counted (state_of b) c n w
-  unfolding with_channel row_counted with_channels channel_row
+  unfolding channel_row
   counts_free s₃ z f g k =
-      let i : c < length (state_of b).channels = omega (arith, length_channels b) in
-      let r = channel (state_of b) c in
-      rw (k, g, f, z, put_put (state_of b).channels c 1 0 (set r 0 0) i, put_put (state_of b).channels c 2 0 (set (set r 0 0) 1 0) i, three_stored r 0 0 0 (length_channel b e c h))
+      let r = set (channel (state_of b) c) 0 0 in
+      channel_again (state_of b) s₂ s₃ c (λ x. set x 2 0) (set r 1 0) k (channel_again (state_of b) s₁ s₂ c (λ x. set x 1 0) r g f) ∙ channel_written b e c 0 0 0
+      ∙ counted (0 ∷ 0 ∷ 0 ∷ []) (rw z)
 
 -- shift: n and w are the counts that the row has, a and b those that it gets
 pub shift_in : (s s₂ : State) (c dn dw n w a b : ℕ) → s₂ ≡ row_counted s c a b → a ≡ sum n dn → b ≡ sum w dw → n ≡ at s.channels c 1
@@ -62,3 +74,16 @@ module _ (s : State) (l : List ℕ) (dn dw : ℕ) where
     pub shifts_more : (s₂ : State) (c : ℕ) → s₂ ≡ channel_shifted s₁ c dn dw → c ≡ get_or l k 0 → s₂ ≡ shifted_to s l dn dw (k + 1)
     unfolding shifted_to shift_to channel_shifted with_channels
     shifts_more s₂ c f g = rw (f, g, e, add-one k)
+
+-- the first n channels of a list, as a list of their own
+module _ (l : List ℕ) (n dn dw : ℕ) where
+  part_shifts : (chs : List (List ℕ)) (k : ℕ) → k ≤ n → shift_to (take n l) dn dw chs k ≡ shift_to l dn dw chs k
+  unfolding shift_to
+  part_shifts chs zero h = refl
+  part_shifts chs (suc k) h = rw (part_shifts chs k (omega arith), get_or-take n l k 0 (omega arith))
+
+  pub shifted_part : (s s₁ : State) → n ≤ length l → s₁ ≡ shifted_to s (take n l) dn dw (length (take n l)) → s₁ ≡ shifted_to s l dn dw n
+  unfolding shifted_to
+  shifted_part s s₁ h e =
+      let q : length (take n l) ≡ n = omega (arith, length-take n l) in
+      e ∙ rw (q, part_shifts s.channels n (omega arith))

@@ -2,9 +2,9 @@
 // who waits to send and who waits to receive on it; two threads that could meet then stand at one channel.
 #![tactic(auto)]
 
-ghost use Rattle.std.specs.Prelude.{◌≡◌, true, ◌+◌, ◌<◌, get_or, set, replicate};
+ghost use Rattle.std.specs.Prelude.{◌≡◌, true, ◌+◌, ◌<◌, get_or, set, is_some, IfSome};
 ghost use Rattle.numbers.specs.Search.{every};
-ghost use Rattle.state.specs.State.{state_of, max_threads, max_channels, thread, status, stands_at};
+ghost use Rattle.state.specs.State.{state_of, max_threads, thread, status, stands_at};
 ghost use Rattle.rules.specs.Sound.{waits_rightly};
 ghost use Rattle.rules.specs.declared.Direction.TheVariants.{Out, In};
 ghost use Rattle.waits.specs.Waits.{noted, apart, all_apart, held_back, offer_noted, all_held, waits_alone, notes};
@@ -12,10 +12,10 @@ ghost use Rattle.waits.specs.Waits.{noted, apart, all_apart, held_back, offer_no
 use rules::{Act, Direction};
 use table::{Table, field};
 
-const CHOICE: u32 = 1;
-
 // The note of several threads: nobody is 0, thread t alone is t + 1.
 const SEVERAL: u8 = 65;
+
+const CHANNELS: usize = state::CHANNELS as usize;
 
 // The note m with thread t besides.
 #[tactic(auto, unfolding(crate::specs::Waits::noted))]
@@ -25,6 +25,13 @@ fn note_of(m: u8, t: u32) -> u8
 {
     let own = t as u8 + 1;
     if m == 0 || m == own { own } else { SEVERAL }
+}
+
+// What a pass over the waiting threads notes at each channel: who offers to send on it, and who to receive.
+#[derive(Drop)]
+struct Offered {
+    senders: [u8; CHANNELS],
+    receivers: [u8; CHANNELS],
 }
 
 // Thread t is noted at channel c, if there is such a channel.
@@ -42,22 +49,21 @@ fn note(notes: &mut [u8], c: u32, t: u32)
 fn note_branch(
     table: &Table,
     row: usize,
-    state: &[u32; state::WORDS],
+    state: &state::Words,
     t: u32,
-    senders: &mut [u8],
-    receivers: &mut [u8],
+    offered: &mut Offered,
 ) -> bool
-    requires t_lt_max_threads { t < max_threads }
+    requires { t < max_threads }
     ensures value { result ≡ held_back table.now (thread (state_of state.now) t) row }
-    ensures senders_after { senders.new ≡ offer_noted table.now (thread (state_of state.now) t) Out row t senders.old }
-    ensures receivers_after { receivers.new ≡ offer_noted table.now (thread (state_of state.now) t) In row t receivers.old }
+    ensures senders_after { offered.new.senders ≡ offer_noted table.now (thread (state_of state.now) t) Out row t offered.old.senders }
+    ensures receivers_after { offered.new.receivers ≡ offer_noted table.now (thread (state_of state.now) t) In row t offered.old.receivers }
 {
     if let Act::Meeting(d) = program::act_of(table, row) {
         if program::printed_guard(table, row, state, t) {
             let c = program::slot(state, t, table.cell(row, field::A));
             match d {
-                Direction::Out => note(senders, c, t),
-                Direction::In => note(receivers, c, t),
+                Direction::Out => note(&mut offered.senders, c, t),
+                Direction::In => note(&mut offered.receivers, c, t),
             }
         }
         true
@@ -67,27 +73,19 @@ fn note_branch(
 }
 
 // What the branches of thread t, which waits at node n, offer is noted. Answers whether all are held back; where they are, the notes are whole.
-fn note_branches(
-    table: &Table,
-    state: &[u32; state::WORDS],
-    t: u32,
-    n: u32,
-    senders: &mut [u8],
-    receivers: &mut [u8],
-) -> bool
-    requires t_lt_max_threads { t < max_threads }
+fn note_branches(table: &Table, state: &state::Words, t: u32, n: u32, offered: &mut Offered) -> bool
     requires n_value { n ≡ stands_at (thread (state_of state.now) t) }
     requires waits { status (thread (state_of state.now) t) ≡ 2 }
-    requires senders_value { senders.old ≡ notes table.now (state_of state.now) Out t }
-    requires receivers_value { receivers.old ≡ notes table.now (state_of state.now) In t }
+    requires senders_value { offered.old.senders ≡ notes table.now (state_of state.now) Out t }
+    requires receivers_value { offered.old.receivers ≡ notes table.now (state_of state.now) In t }
     ensures value { result ≡ all_held table.now (state_of state.now) t }
-    ensures senders_after { result ≡ true → senders.new ≡ notes table.now (state_of state.now) Out (t + 1) }
-    ensures receivers_after { result ≡ true → receivers.new ≡ notes table.now (state_of state.now) In (t + 1) }
+    ensures senders_after { result ≡ true → offered.new.senders ≡ notes table.now (state_of state.now) Out (t + 1) }
+    ensures receivers_after { result ≡ true → offered.new.receivers ≡ notes table.now (state_of state.now) In (t + 1) }
 {
     let count = table.branch_count(n);
-    let from = offers::first_branch(table, table.node_row(), n);
+    let from = table.first_branch(n);
     for i in 0..count {
-        if !note_branch(table, from + i as usize, state, t, senders, receivers) {
+        if !note_branch(table, from + i as usize, state, t, offered) {
             return false;
         }
     }
@@ -96,48 +94,37 @@ fn note_branches(
 
 // What thread t offers is noted. Answers whether it could not go ahead alone; where it could not, the notes are whole.
 #[tactic(auto, using(crate::proofs::Ways::thread_skipped), unfolding(crate::specs::Waits::waits_alone, table::specs::Layout::branch_count))]
-fn note_thread(
-    table: &Table,
-    state: &[u32; state::WORDS],
-    t: u32,
-    senders: &mut [u8],
-    receivers: &mut [u8],
-) -> bool
-    requires t_lt_max_threads { t < max_threads }
-    requires senders_value { senders.old ≡ notes table.now (state_of state.now) Out t }
-    requires receivers_value { receivers.old ≡ notes table.now (state_of state.now) In t }
+fn note_thread(table: &Table, state: &state::Words, t: u32, offered: &mut Offered) -> bool
+    requires senders_value { offered.old.senders ≡ notes table.now (state_of state.now) Out t }
+    requires receivers_value { offered.old.receivers ≡ notes table.now (state_of state.now) In t }
     ensures value { result ≡ waits_alone table.now (state_of state.now) t }
-    ensures senders_after { result ≡ true → senders.new ≡ notes table.now (state_of state.now) Out (t + 1) }
-    ensures receivers_after { result ≡ true → receivers.new ≡ notes table.now (state_of state.now) In (t + 1) }
+    ensures senders_after { result ≡ true → offered.new.senders ≡ notes table.now (state_of state.now) Out (t + 1) }
+    ensures receivers_after { result ≡ true → offered.new.receivers ≡ notes table.now (state_of state.now) In (t + 1) }
 {
-    if state::thread_word(state, t as usize, state::STATUS) != state::WAITING {
+    if state::status(state, t) != state::WAITING {
         return true;
     }
-    let n = state::thread_word(state, t as usize, state::NODE);
+    let n = state::stands_at(state, t);
     let row = table.node_row() + n as usize;
-    table.cell(row, field::NODE_KIND) == CHOICE
-        && note_branches(table, state, t, n, senders, receivers)
+    table.cell(row, field::NODE_KIND) == table::CHOICE && note_branches(table, state, t, n, offered)
 }
 
-// What all threads offer is noted, in two lists of zeros. Answers whether none of them could go ahead alone; then the notes are whole.
-fn note_threads(
-    table: &Table,
-    state: &[u32; state::WORDS],
-    senders: &mut [u8],
-    receivers: &mut [u8],
-) -> bool
-    requires senders_value { senders.old ≡ replicate max_channels 0 }
-    requires receivers_value { receivers.old ≡ replicate max_channels 0 }
-    ensures value { result ≡ every (waits_alone table.now (state_of state.now)) max_threads }
-    ensures senders_after { result ≡ true → senders.new ≡ notes table.now (state_of state.now) Out max_threads }
-    ensures receivers_after { result ≡ true → receivers.new ≡ notes table.now (state_of state.now) In max_threads }
+// What all threads offer, if none of them could go ahead alone.
+fn note_threads(table: &Table, state: &state::Words) -> Option<Offered>
+    ensures value { is_some result ≡ every (waits_alone table.now (state_of state.now)) max_threads }
+    ensures senders { IfSome result (λ offered. offered.senders ≡ notes table.now (state_of state.now) Out max_threads) }
+    ensures receivers { IfSome result (λ offered. offered.receivers ≡ notes table.now (state_of state.now) In max_threads) }
 {
+    let mut offered = Offered {
+        senders: [0; CHANNELS],
+        receivers: [0; CHANNELS],
+    };
     for t in 0..state::THREADS {
-        if !note_thread(table, state, t, senders, receivers) {
-            return false;
+        if !note_thread(table, state, t, &mut offered) {
+            return None;
         }
     }
-    true
+    Some(offered)
 }
 
 // Whether the threads noted as senders, a, and as receivers, b, of one channel are not two that could meet.
@@ -149,21 +136,22 @@ fn is_apart(a: u8, b: u8) -> bool
 }
 
 // Whether no channel has a sender and a receiver that are two threads.
-fn all_apart(senders: &[u8], receivers: &[u8]) -> bool
-    ensures { result ≡ all_apart senders.now receivers.now }
+fn all_apart(offered: &Offered) -> bool
+    ensures { result ≡ all_apart offered.now.senders offered.now.receivers }
 {
     (0..state::CHANNELS).all(|c| is_apart(
-        recount::byte_at(senders, c),
-        recount::byte_at(receivers, c),
+        recount::byte_at(&offered.senders, c),
+        recount::byte_at(&offered.receivers, c),
     ))
 }
 
 // Whether every waiting thread stands at a choice of which no branch could go ahead.
 #[tactic(auto, using(crate::proofs::Ways::not_alone))]
-pub fn waits_rightly(table: &Table, state: &[u32; state::WORDS]) -> bool
+pub fn waits_rightly(table: &Table, state: &state::Words) -> bool
     ensures { result ≡ every (waits_rightly table.now (state_of state.now)) max_threads }
 {
-    let mut senders = [0u8; state::CHANNELS as usize];
-    let mut receivers = [0u8; state::CHANNELS as usize];
-    note_threads(table, state, &mut senders, &mut receivers) && all_apart(&senders, &receivers)
+    match note_threads(table, state) {
+        Some(offered) => all_apart(&offered),
+        None => false,
+    }
 }

@@ -60,6 +60,6 @@ pub fn write(table: &[u8], file: &mut [u8]) -> Result<usize, WriteRefusal>
     if file.len() < bytes {
         return Err(WriteRefusal::ShortBuffer);
     }
-    put_lines(&accepted, file, n);
+    put_lines(accepted.table(), file, n);
     Ok(bytes)
 }

@@ -15,11 +15,11 @@ pub loop-k-preserved : goal.loop-k-preserved
 loop-k-preserved c = (
   search rules,
   search calls_more fits 5000,
-  kept_more _ _ _ _ _ _ _ c.call_slot-v.result _ c.loop-k.kept c.slot_keeps-kept.result refl (search) c.slot_keeps-kept.ensures c.call_slot-v.ensures,
+  kept_more _ _ _ _ _ _ _ c.call_slot-v.result _ c.loop-k.keeps c.slot_keeps-keeps.result refl (search) c.slot_keeps-keeps.ensures c.call_slot-v.ensures,
 )
 
-pub returns-clause-slots_after : goal.returns-clause-slots_after
-returns-clause-slots_after c = search calls_laid
+pub returns-clause-slots : goal.returns-clause-slots
+returns-clause-slots c = search calls_laid
 
-pub returns-clause-value : goal.returns-clause-value
-returns-clause-value c = search kept_all
+pub returns-clause-keeps : goal.returns-clause-keeps
+returns-clause-keeps c = search kept_all

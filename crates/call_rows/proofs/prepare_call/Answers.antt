@@ -1,8 +1,8 @@
 use Rattle.call_rows.specs.CalledRow.Laws.{call_laid}
 use Rattle.call_rows.proofs.prepare_call.Goals as goal
 
-pub returns-then-definition_of-d-2-clause-slots_after : goal.returns-then-definition_of-d-2-clause-slots_after
-returns-then-definition_of-d-2-clause-slots_after c = search call_laid
+pub returns-then-definition_of-d-2-clause-slots : goal.returns-then-definition_of-d-2-clause-slots
+returns-then-definition_of-d-2-clause-slots c = search call_laid
 
-pub returns-else-definition_of-d-2-clause-slots_after : goal.returns-else-definition_of-d-2-clause-slots_after
-returns-else-definition_of-d-2-clause-slots_after c = search call_laid
+pub returns-else-definition_of-d-2-clause-slots : goal.returns-else-definition_of-d-2-clause-slots
+returns-else-definition_of-d-2-clause-slots c = search call_laid

@@ -3,7 +3,6 @@
 use Prim.Native.Nat.{◌≤◌, ◌-◌, ◌<◌}
 use mathlib.Core.Path.{◌≡◌}
 use mathlib.Core.Bool.{true}
-use Rattle.table.specs.Table.{table_of}
 use Rattle.state.specs.State.{state_of, thread, is_ready}
 use Rattle.rules.specs.Holding.{settled}
 use Rattle.next_rows.specs.UsedBelow.{UsedBelow}

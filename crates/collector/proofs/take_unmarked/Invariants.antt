@@ -2,7 +2,6 @@
 -- rows are settled. Assumes nothing.
 use Prim.Native.Nat.{◌≤◌}
 use mathlib.Core.Path.{◌≡◌}
-use Rattle.table.specs.Table.{table_of}
 use Rattle.state.specs.State.{max_threads, state_of}
 use Rattle.rules.specs.Holding.{settled}
 use Rattle.collector.specs.Freeing.{collected_to, taken_to}

@@ -181,8 +181,11 @@ answer_put a b b₁ b₂ b₃ b₄ b₅ i e₁ e₂ e₃ e₄ e₅ f₁ f₂ f�
 
 -- at: where the part begins; end: where it ends
 module _ (lists : List ℕ) (from n at end : ℕ) (e : at ≡ min (length lists) from) where
+  begins_low : at ≤ from
+  begins_low = omega arith
+
   pub end_fits : Fits w32 from → Fits w32 n → Fits w64 (at + n)
-  end_fits f g = record { fits = omega (arith, f.fits, g.fits) }
+  end_fits f g = record { fits = omega (arith, begins_low, f.fits, g.fits) }
 
   pub begins_inside : at ≤ length lists
   begins_inside = omega arith

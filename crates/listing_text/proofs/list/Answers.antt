@@ -3,8 +3,8 @@ use Rattle.std.specs.Prelude.{◌≡◌, Err}
 use Rattle.listing_text.specs.Laying.Whole.{length_never, done_accepted, run_counts, run_front, run_rest, refusal_counts, refusal_front, refusal_rest}
 use Rattle.listing_text.proofs.list.Goals as goal
 
-pub list_table-requires-clause-accepted : goal.list_table-requires-clause-accepted
-list_table-requires-clause-accepted c = search done_accepted
+pub list_table-requires : goal.list_table-requires
+list_table-requires c = search done_accepted
 
 pub returns-in-Ok-clause-value : goal.returns-in-Ok-clause-value
 returns-in-Ok-clause-value c = search run_counts

@@ -23,7 +23,7 @@ pub returns-then-t-lt-THREADS-clause-sound_after : goal.returns-then-t-lt-THREAD
 returns-then-t-lt-THREADS-clause-sound_after c = turn_keeps _ _ _ c.settle_waiting.ensures c.turn_of-round.ensures.running.sound
 
 pub returns-then-t-lt-THREADS-clause-out_after : goal.returns-then-t-lt-THREADS-clause-out_after
-returns-then-t-lt-THREADS-clause-out_after c = turn_laid _ _ c.requires.sound _ _ _ c.turn_of-round.ensures.ends _ _ _ _ _ _ _ c.put_step.ensures c.step_answer.ensures c.turn_of-round.ensures.decided c.thread_word-node.ensures c.next_ready-t.ensures.value
+returns-then-t-lt-THREADS-clause-out_after c = turn_laid _ _ c.requires.sound _ _ _ c.turn_of-round.ensures.ends _ _ _ _ _ _ _ c.put_step.ensures c.step_answer.ensures c.turn_of-round.ensures.decided c.stands_at-node.ensures c.next_ready-t.ensures.value
 
 pub returns-else-t-lt-THREADS-clause-state_after : goal.returns-else-t-lt-THREADS-clause-state_after
 returns-else-t-lt-THREADS-clause-state_after c = search no_turn

@@ -5,6 +5,7 @@ use Rattle.std.proofs.Math.Path.{refl}
 use Rattle.std.proofs.Math.Bool.{Bool, true, false, not}
 use Rattle.std.proofs.Math.Logic.{inl, inr, ⊎_elim}
 use Rattle.std.proofs.Math.Dec.{ltb}
+use Rattle.std.proofs.lemmas.Bool.{or_cases, or_right}
 use borrow.Author.Tests.{ltb-true, lt-ltb, eqb-false, ne_eqb, not-true}
 use Rattle.numbers.specs.Search.{some}
 use Rattle.numbers.specs.Search.Laws.{contra, some_elim, some_intro}
@@ -23,16 +24,6 @@ use Rattle.rules_laws.specs.Reading.{Offering}
 use Rattle.rules_laws.specs.Reading.Laws.{offers_elim, offers_intro}
 use Rattle.marking.specs.Rounds.{marked, round_all, round_root, round_closed}
 use Rattle.marking.specs.Enabled.{Enabled, from_start, is_ready_lem, by_bench, by_thread, known, reaches, joins, begins, rounds, enabled_set}
-
--- ---- tests joined by or
-
-pub or_elim : (a b : Bool) → (a || b) ≡ true → (a ≡ true) ⊎ (b ≡ true)
-or_elim true b e = inl refl
-or_elim false b e = inr e
-
-pub or_second : (a b : Bool) → b ≡ true → (a || b) ≡ true
-or_second true b e = refl
-or_second false b e = e
 
 -- ---- an act that is a meeting, of one direction or the other
 
@@ -65,7 +56,7 @@ module _ (tb : Table) (s : State) (given : ℕ → Bool) where
       (λ l. inl (ltb-true c (ports tb) l))
       (λ h. let (u, l, x) = some_elim knows max_threads h in
       inr (u, l, eqb-false u t (not-true (eqb u t) (search parts)), search parts, search parts))
-      (or_elim (ltb c (ports tb)) (some knows max_threads) k)
+      (or_cases (ltb c (ports tb)) (some knows max_threads) k)
 
   known_low : (m : List Bool) (t c : ℕ) → known tb s given m t c ≡ true → ltb c max_channels ≡ true
   unfolding known
@@ -77,7 +68,7 @@ module _ (tb : Table) (s : State) (given : ℕ → Bool) where
   known_intro m t c b (inr (u, l, n, k, h)) =
       let knows : ℕ → Bool = λ u. not (eqb u t) && (get_or m u false && holds tb (thread s u) c) in
       let y : knows u ≡ true = rw (ne_eqb u t n, k, h) in
-      rw (lt-ltb c max_channels b) (or_second (ltb c (ports tb)) (some knows max_threads) (some_intro knows max_threads u l y))
+      rw (lt-ltb c max_channels b) (or_right (ltb c (ports tb)) (some knows max_threads) (some_intro knows max_threads u l y))
 
   -- why a thread is in the next round: it was in the one before, or it offers on a channel that is known
   unfoldable pub Joins : List Bool → ℕ → Type 0
@@ -118,7 +109,7 @@ module _ (tb : Table) (s : State) (given : ℕ → Bool) where
       ⊎_elim
       (λ k. inl k)
       (λ h. let (i, l, x) = some_elim (reaches tb s given m t) n (search parts) in inr (reach_elim m t i (search parts) l x))
-      (or_elim (get_or m t false) (is_waiting (thread s t) && some (reaches tb s given m t) n) e)
+      (or_cases (get_or m t false) (is_waiting (thread s t) && some (reaches tb s given m t) n) e)
 
   pub joins_intro : (m : List Bool) (t : ℕ) → Joins m t → joins tb s given m t ≡ true
   unfolding joins Joins
@@ -126,13 +117,13 @@ module _ (tb : Table) (s : State) (given : ℕ → Bool) where
   joins_intro m t (inr (d, c, o, k)) =
       let n = branch_count tb (stands_at (thread s t)) in
       let f = offers_elim tb (thread s t) d c o in
-      or_second (get_or m t false) (is_waiting (thread s t) && some (reaches tb s given m t) n)
+      or_right (get_or m t false) (is_waiting (thread s t) && some (reaches tb s given m t) n)
       (rw f.waits (some_intro (reaches tb s given m t) n f.branch f.branch_in (reach_intro m t c d f k)))
 
   begins_elim : (t : ℕ) → t < max_threads → begins tb s given t ≡ true → Enabled tb s given t
   unfolding begins
   begins_elim t l e =
-      ⊎_elim (λ r. is_ready_lem l r) (λ h. from_start l (search parts) (search parts)) (or_elim (is_ready (thread s t)) (in_use (thread s t) && given t) e)
+      ⊎_elim (λ r. is_ready_lem l r) (λ h. from_start l (search parts) (search parts)) (or_cases (is_ready (thread s t)) (in_use (thread s t) && given t) e)
 
   -- ---- enabled threads and marks
 
@@ -155,7 +146,7 @@ module _ (tb : Table) (s : State) (given : ℕ → Bool) where
   pub enabled_closed : (m : List Bool) → ((t : ℕ) → t < max_threads → begins tb s given t ≡ true → marked m t ≡ true)
       → ((t : ℕ) → t < max_threads → joins tb s given m t ≡ true → marked m t ≡ true) → {t : ℕ} → Enabled tb s given t → marked m t ≡ true
   unfolding Joins Known begins
-  enabled_closed m r c {t} (from_start l u g) = r t l (or_second (is_ready (thread s t)) (in_use (thread s t) && given t) (rw (u, g)))
+  enabled_closed m r c {t} (from_start l u g) = r t l (or_right (is_ready (thread s t)) (in_use (thread s t) && given t) (rw (u, g)))
   enabled_closed m r c {t} (is_ready_lem l h) = r t l (rw h)
   enabled_closed m r c {t} (by_bench l d x o p) = c t l (joins_intro m t (inr (d, x, o, inl p)))
   enabled_closed m r c {t} (by_thread l d x o u n k e) = c t l (joins_intro m t (inr (d, x, o, inr (u, enabled_in e, n, enabled_closed m r c e, k))))

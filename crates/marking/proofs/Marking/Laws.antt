@@ -3,10 +3,11 @@ use Prim.Native.Nat.{ℕ, ◌+◌, ◌≤◌, ◌<◌}
 use Rattle.std.proofs.Common.{arith, ◌∙◌, ap, length-set, get_or-set_same, get_or-set_other, ext_get_or}
 use Rattle.std.specs.Prelude.{◌≡◌, refl, ◌&&◌, ◌||◌, List, eqb, set, replicate}
 use Rattle.std.proofs.Math.Path.{sym}
-use Rattle.std.proofs.Math.Bool.{Bool, true, false, not}
+use Rattle.std.proofs.Math.Bool.{Bool, true, false, not, or-false, or_assoc}
 use Rattle.std.proofs.Math.Logic.{inl, inr, ⊎_elim}
 use Rattle.std.proofs.Math.Dec.{ltb}
 use Rattle.std.proofs.Math.ListN.{length, get_or, get_or-eq_default}
+use Rattle.std.proofs.lemmas.Bool.{or_cases, or_right, or_parts}
 use Rattle.std.proofs.lemmas.List.{length-replicate, get_or-replicate}
 use borrow.Author.Tests.{ltb-true, ltb-false, lt-ltb, eqb-true, eqb-false}
 use Rattle.numbers.specs.Count.{bit, count}
@@ -22,22 +23,8 @@ use Rattle.threads.specs.Threads.{offers_marked, with_held}
 use Rattle.threads.specs.Threads.Laws.{marked_offer, offer_marked}
 use Rattle.marking.specs.Rounds.{marked}
 use Rattle.marking.specs.Enabled.{nobody, Enabled, is_ready_lem, joins, begins, rounds, enabled_set}
-use Rattle.marking.proofs.Enabled.Laws.{or_elim, or_second, Known, Joins, joins_elim, joins_intro, joins_enabled, enabled_closed, enabled_iff}
+use Rattle.marking.proofs.Enabled.Laws.{Known, Joins, joins_elim, joins_intro, joins_enabled, enabled_closed, enabled_iff}
 use Rattle.marking.specs.Marking.{ports_to, unmarked, comes, marked_if, known_if, Still, Marking}
-
--- ---- tests
-
-or_false : (a b : Bool) → (a || b) ≡ false → (a ≡ false) × (b ≡ false)
-or_false true b e = contra refl e
-or_false false b e = (refl, e)
-
-or_none : (a : Bool) → a ≡ (a || false)
-or_none true = refl
-or_none false = refl
-
-or_assoc : (a b c : Bool) → ((a || b) || c) ≡ (a || (b || c))
-or_assoc true b c = refl
-or_assoc false b c = refl
 
 -- ---- a thread that is not marked joins by the marks where it does by the known channels
 
@@ -52,14 +39,14 @@ module _ (tb : Table) (s : State) (m k : List Bool) (g : Marking tb s m k) where
         (λ y. let (u, b, h) = some_elim p max_threads y in
         let x : marked m u ≡ true = and_left (marked m u) (holds tb (thread s u) c) h in
         inr (u, b, (λ q. contra (rw q at x) n), x, and_right (marked m u) (holds tb (thread s u) c) h))
-        (or_elim (ltb c (ports tb)) (some p max_threads) (sym (g.held c l) ∙ e))
+        (or_cases (ltb c (ports tb)) (some p max_threads) (sym (g.held c l) ∙ e))
 
     held_known : (c : ℕ) → c < max_channels → Known tb s nobody m t c → get_or k c false ≡ true
     unfolding Known
     held_known c l (inl p) = g.held c l ∙ rw (lt-ltb c (ports tb) p)
     held_known c l (inr (u, b, d, x, h)) =
         let p : ℕ → Bool = λ u. marked m u && holds tb (thread s u) c in
-        g.held c l ∙ or_second (ltb c (ports tb)) (some p max_threads) (some_intro p max_threads u b (rw (x, h)))
+        g.held c l ∙ or_right (ltb c (ports tb)) (some p max_threads) (some_intro p max_threads u b (rw (x, h)))
 
     joins_same : offers_marked tb (thread s t) k ≡ joins tb s nobody m t
     unfolding Joins
@@ -83,7 +70,7 @@ module _ (tb : Table) (s : State) (m k : List Bool) (g : Marking tb s m k) where
   comes_enabled : (t : ℕ) → t < max_threads → comes tb s m k t ≡ true → Enabled tb s nobody t
   comes_enabled t l e =
       ⊎_elim (λ r. is_ready_lem l r) (λ j. joins_enabled tb s nobody m g.only_enabled t l j)
-      (or_elim (is_ready (thread s t)) (joins tb s nobody m t) (sym (comes_is t (comes_unmarked t e)) ∙ e))
+      (or_cases (is_ready (thread s t)) (joins tb s nobody m t) (sym (comes_is t (comes_unmarked t e)) ∙ e))
 
   module _ (t : ℕ) (l : t < max_threads) (e : comes tb s m k t ≡ true) where
     here : marked (set m t true) t ≡ true
@@ -114,11 +101,11 @@ module _ (tb : Table) (s : State) (m k : List Bool) (g : Marking tb s m k) where
         (λ z. let (u, b, h) = some_elim p max_threads z in
         some_intro q max_threads u b (rw (still_marked u (and_left (marked m u) (holds tb (thread s u) c) h), and_right (marked m u) (holds tb (thread s u) c) h)))
         (λ z. some_intro q max_threads t l (rw here z))
-        (or_elim (some p max_threads) (holds tb (thread s t) c) y))
+        (or_cases (some p max_threads) (holds tb (thread s t) c) y))
         (λ y. let (u, b, h) = some_elim q max_threads y in
         case_b (eqb u t)
         (λ z. let x : u ≡ t = eqb-true u t z in
-        or_second (some p max_threads) (holds tb (thread s t) c) (rw x at (and_right (marked (set m t true) u) (holds tb (thread s u) c) h)))
+        or_right (some p max_threads) (holds tb (thread s t) c) (rw x at (and_right (marked (set m t true) u) (holds tb (thread s u) c) h)))
         (λ z. let x : p u ≡ true = sym (rw (get_or-set_other m t u true false (eqb-false u t z))) ∙ h in rw (some_intro p max_threads u b x)))))
 
     marked_more : Marking tb s (set m t true) (with_held tb (thread s t) k)
@@ -158,7 +145,7 @@ marking_none tb s m k e f = rw (e, f) (record {
   all_threads = length-replicate {A = Bool} 64 false;
   only_enabled = λ u h. contra h (none_set 64 u);
   held = λ c l. get_d_tabulate max_channels c (λ c. ltb c (ports tb)) false l
-      ∙ rw (some_void (λ u. marked (replicate 64 false) u && holds tb (thread s u) c) max_threads (λ u h. rw (none_set 64 u))) (or_none (ltb c (ports tb)));
+      ∙ rw (some_void (λ u. marked (replicate 64 false) u && holds tb (thread s u) c) max_threads (λ u h. rw (none_set 64 u))) (sym (or-false (ltb c (ports tb))));
 })
 
 -- r: whether thread t comes, and m', k' the marks and the known channels after it was visited
@@ -181,7 +168,7 @@ module _ (tb : Table) (s : State) (m k m' k' : List Bool) (t : ℕ) (r : Bool) (
     pub still_more : (a ≡ false → Still tb s m k t) → x ≡ false → Still tb s m' k' (t + 1)
     unfolding Still marked_if known_if
     still_more g z =
-        let (p, q) = or_false a r (sym j ∙ z) in
+        let (p, q) = or_parts a r (sym j ∙ z) in
         let n : comes tb s m k t ≡ false = sym h ∙ q in
         rw (e, f, q) (λ u l. case_b (eqb u t)
         (λ y. let i : u ≡ t = eqb-true u t y in rw i n)
@@ -216,13 +203,13 @@ module _ (tb : Table) (s : State) (m k : List Bool) (g : Marking tb s m k) (st :
 
   begins_ready : (t : ℕ) → begins tb s nobody t ≡ true → is_ready (thread s t) ≡ true
   unfolding begins nobody
-  begins_ready t e = ⊎_elim (λ y. y) (λ y. contra (and_right (in_use (thread s t)) false y) refl) (or_elim (is_ready (thread s t)) (in_use (thread s t) && false) e)
+  begins_ready t e = ⊎_elim (λ y. y) (λ y. contra (and_right (in_use (thread s t)) false y) refl) (or_cases (is_ready (thread s t)) (in_use (thread s t) && false) e)
 
   marked_enabled : {t : ℕ} → Enabled tb s nobody t → marked m t ≡ true
   marked_enabled e =
       enabled_closed tb s nobody m
       (λ t l y. unmarked_comes t l (rw (begins_ready t y)))
-      (λ t l y. unmarked_comes t l (or_second (is_ready (thread s t)) (joins tb s nobody m t) y)) e
+      (λ t l y. unmarked_comes t l (or_right (is_ready (thread s t)) (joins tb s nobody m t) y)) e
 
   set_long : length (enabled_set tb s nobody) ≡ max_threads
   unfolding enabled_set rounds

@@ -1,5 +1,4 @@
 -- `marking::mark_enabled` meets its contract. The loop: the marks are right. Assumes nothing.
-use Rattle.table.specs.Table.{table_of}
 use Rattle.state.specs.State.{state_of}
 use Rattle.marking.specs.Marking.{Marking, unmarked}
 use Rattle.marking.proofs.mark_enabled.Given as goal

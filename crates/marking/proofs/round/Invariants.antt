@@ -4,7 +4,6 @@ use Prim.Native.Nat.{◌+◌, ◌≤◌}
 use mathlib.Core.Path.{◌≡◌}
 use mathlib.Core.Bool.{false}
 use Rattle.numbers.specs.Count.{bit}
-use Rattle.table.specs.Table.{table_of}
 use Rattle.state.specs.State.{max_threads, state_of}
 use Rattle.marking.specs.Marking.{Marking, Still, unmarked}
 use Rattle.marking.proofs.round.Given as goal

@@ -1,6 +1,6 @@
 -- The ways of the code that finds bounds, and what falls from one call to the next. Assumes nothing.
 use Rattle.std.specs.Prelude.{ℕ, ◌+◌, ◌≤◌, ◌<◌, max, ◌≡◌, Bool, true, false, List, ◌⊎◌, ltb, eqb, length, get_or, set, replicate}
-use Rattle.std.proofs.Common.{arith, sym, ap, ◌∙◌, inl, inr, ⊎_elim, get_or-set_same, get_or-set_other}
+use Rattle.std.proofs.Common.{arith, sym, ap, ◌∙◌, inl, inr, get_or-set_same, get_or-set_other}
 use Rattle.std.proofs.Math.Numerals.{add-one}
 use Rattle.std.proofs.Math.Path.{refl}
 use Rattle.std.proofs.Math.Seq.{set_out}
@@ -50,39 +50,32 @@ module _ (tb : Table) (g : Rising tb) (n : ℕ) (h : n < nodes tb) where
       rw w ((g.call n h k q).0, (g.call n h k q).1, call_bound tb g n h k q))))
       (λ z. rw z (end_bound tb g n h (eqb-false (kind_of tb n) 1 y) (eqb-false (kind_of tb n) 2 z)))))
 
-  module _ (o : Onward) (e : o ≡ onward tb n) where
-    told : (p : Onward) → o ≡ p → Rests tb n p
-    told p q = rw (sym e ∙ q) at rests
+  told : (p : Onward) → onward tb n ≡ p → Rests tb n p
+  told p q = rw q at rests
 
-    pub nowhere_bound : (r : ℕ) → r ≡ 1 → o ≡ Nowhere → r ≡ capped (node_bound tb n)
-    unfolding Rests capped
-    nowhere_bound r f q = f ∙ rw (told Nowhere q)
+  pub nowhere_bound : onward tb n ≡ Nowhere → 1 ≡ capped (node_bound tb n)
+  unfolding Rests capped
+  nowhere_bound q = rw (told Nowhere q)
 
-    pub branches_bound : (r b : ℕ) → r ≡ b → b ≡ capped (largest (branch_bound tb n) (branch_count tb n)) → o ≡ Branches → r ≡ capped (node_bound tb n)
+  pub branches_bound : onward tb n ≡ Branches → node_bound tb n ≡ largest (branch_bound tb n) (branch_count tb n)
+  unfolding Rests
+  branches_bound q = told Branches q
+
+  module _ (d : ℕ) (q : onward tb n ≡ Definition d) where
+    pub definition_inside : d < definitions tb
     unfolding Rests
-    branches_bound r b p f q = p ∙ rw (told Branches q) f
+    definition_inside = (told (Definition d) q).1
 
-    module _ (d : ℕ) (q : o ≡ Definition d) where
-      pub definition_inside : d < definitions tb
-      unfolding Rests
-      definition_inside = (told (Definition d) q).1
+    pub called_bound : node_bound tb n ≡ definition_bound tb d
+    unfolding Rests
+    called_bound = (told (Definition d) q).2
 
-      pub called_bound : (r b : ℕ) → r ≡ b → b ≡ capped (definition_bound tb d) → r ≡ capped (node_bound tb n)
-      unfolding Rests
-      called_bound r b p f = p ∙ rw (told (Definition d) q).2 f
-
-      -- a call goes to a later definition, so that the definitions that are left become fewer
-      pub call_falls : (t : ℕ) → rank tb n + 2 ≡ t → definition_rank tb d < t
-      unfolding Rests rank definition_rank
-      call_falls t f = omega (arith, f, (told (Definition d) q).0, definition_inside, g.few_definitions)
+    -- a call goes to a later definition, so that the definitions that are left become fewer
+    pub call_falls : (t : ℕ) → rank tb n + 2 ≡ t → definition_rank tb d < t
+    unfolding Rests rank definition_rank
+    call_falls t f = omega (arith, f, (told (Definition d) q).0, definition_inside, g.few_definitions)
 
   -- ---- what else falls: in one definition, the nodes that are left
-
-  pub choice_falls : (t : ℕ) → rank tb n + 2 ≡ t → rank tb n + 1 < t
-  choice_falls t f = omega arith
-
-  pub branch_falls : (t : ℕ) → rank tb n + 1 ≡ t → rank tb n < t
-  branch_falls t f = omega arith
 
   later_falls : (m t : ℕ) → Later tb n m → rank tb n ≡ t → rank tb m + 2 < t
   unfolding rank
@@ -125,10 +118,6 @@ module _ (tb : Table) (g : Rising tb) (n : ℕ) (h : n < nodes tb) where
   unfolding largest
   choice_more i m b r e f k = e ∙ rw (f, k, add-one i) (capped_through (largest (branch_bound tb n) i) (branch_bound tb n i)).1
 
-  pub choice_end : (i c m : ℕ) → c ≡ branch_count tb n → m ≡ capped (largest (branch_bound tb n) i) → i ≤ c → c ≤ i
-      → m ≡ capped (largest (branch_bound tb n) (branch_count tb n))
-  choice_end i c m e f a b = let q : i ≡ branch_count tb n = omega (arith, e) in rw q at f
-
 module _ (tb : Table) (n i r m : ℕ) (s : Bool) where
   pub plain_found : (x : ℕ) → x ≡ capped (node_bound tb m) → m ≡ next_of tb n r → r ≡ branch_at tb n i → s ≡ is_spawn tb n i → s ≡ false
       → x ≡ capped (branch_bound tb n i)
@@ -162,9 +151,6 @@ module _ (tb : Table) where
   pub kept_none : (l : List ℕ) → l ≡ replicate max_nodes 0 → Kept tb l
   kept_none l e = record { bounds = λ n h. inl (rw e (zeros_at max_nodes n)) }
 
-  pub kept_found : (l : List ℕ) (n f : ℕ) → f ≡ get_or l n 0 → Kept tb l → n < nodes tb → (f ≡ 0 → ⊥) → f ≡ capped (node_bound tb n)
-  kept_found l n f e k h z = ⊎_elim (λ y. absurd (z (e ∙ y))) (λ y. e ∙ y) (k.bounds n h)
-
   -- at the place itself; past the end nothing is stored
   kept_here : (l : List ℕ) (n b : ℕ) → Kept tb l → b ≡ capped (node_bound tb n) → n < nodes tb
       → (get_or (set l n b) n 0 ≡ 0) ⊎ (get_or (set l n b) n 0 ≡ capped (node_bound tb n))
@@ -178,3 +164,27 @@ module _ (tb : Table) where
         (λ y. let q = eqb-true m n y in rw q (kept_here l n b k f (rw q at h)))
         (λ y. rw (get_or-set_other l n m b 0 (eqb-false m n y)) (k.bounds m h)));
   }
+
+-- ---- all that the methods ask for
+
+pub ruleset ways = (
+  capped_few,
+  nowhere_bound,
+  branches_bound,
+  definition_inside,
+  called_bound,
+  call_falls,
+  next_falls,
+  next_inside,
+  child_falls,
+  child_inside,
+  choice_none,
+  choice_more,
+  plain_found,
+  spawn_found,
+  first_inside,
+  first_falls,
+  definition_found,
+  kept_none,
+  kept_more,
+)

@@ -3,13 +3,13 @@
 use Prim.Native.Nat.{◌≤◌}
 use mathlib.Core.Path.{◌≡◌}
 use mathlib.Core.Bool.{true}
-use lib.ListN.{length}
+use lib.ListN.{replicate}
 use Rattle.state.specs.State.{state_of, is_waiting, max_threads, max_channels}
 use Rattle.recount.specs.Tally.{added_below, Fresh}
 use Rattle.recount.proofs.tally.Given as goal
 
 abbrev pub invariant-loop-t : goal.invariant-loop-t
 invariant-loop-t l =
-    (l.t ≤ max_threads) × (length l.held ≡ max_channels) × (length l.waiting ≡ max_channels) × Fresh l.t l.stamps
-    × (l.held ≡ added_below l.table (λ row. true) (state_of l.state).threads l.initial.held l.t)
-    × (l.waiting ≡ added_below l.table (λ row. is_waiting row) (state_of l.state).threads l.initial.waiting l.t)
+    (l.t ≤ max_threads) × Fresh l.t l.counts.stamps
+    × (l.counts.held ≡ added_below l.table (λ row. true) (state_of l.state).threads (replicate max_channels 0) l.t)
+    × (l.counts.waiting ≡ added_below l.table (λ row. is_waiting row) (state_of l.state).threads (replicate max_channels 0) l.t)

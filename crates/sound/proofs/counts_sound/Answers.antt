@@ -1,6 +1,5 @@
 use Rattle.std.proofs.Common.{rules, refl}
 use Rattle.numbers.specs.Search.Chains.{every_all}
-use Rattle.table.specs.Table.{table_of}
 use Rattle.state.specs.State.{state_of, max_channels}
 use Rattle.rules.specs.Sound.{count_true}
 use Rattle.sound.proofs.counts_sound.Goals as goal

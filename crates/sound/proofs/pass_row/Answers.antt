@@ -16,7 +16,10 @@ pub returns-then-status-eq-FREE-clause-fresh_after : goal.returns-then-status-eq
 returns-then-status-eq-FREE-clause-fresh_after c = search fresh_later
 
 pub pass_slots-typed-requires-clause-from_value : goal.pass_slots-typed-requires-clause-from_value
-pass_slots-typed-requires-clause-from_value c = c.slots_of-slots.ensures.from_value (search in_use_lem)
+pass_slots-typed-requires-clause-from_value c = rw (← c.table-table.ensures) (c.slots_of-slots.ensures.from_value (search in_use_lem))
 
 pub returns-clause-value : goal.returns-clause-value
-returns-clause-value c = search row_used
+returns-clause-value c =
+    let m = rw c.table-table.ensures at c.slots_of-slots.ensures.count_value in
+    let d = rw c.table-table.ensures at c.in_range.ensures in
+    search row_used

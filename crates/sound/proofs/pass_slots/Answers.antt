@@ -1,14 +1,18 @@
 use borrow.Author.Rules.{rules}
 use Rattle.numbers.specs.Search.Laws.{tests_none, tests_more, tests_all}
 use Rattle.recount.specs.Tally.Stamps.{passed_none, passed_all}
-use Rattle.recount.specs.Tally.Pass.{slots_none, slots_more, slots_all, still_long}
+use Rattle.recount.specs.Tally.Pass.{slots_none, slots_more, slots_all}
 use Rattle.sound.proofs.pass_slots.Goals as goal
 
 pub loop-k-init : goal.loop-k-init
-loop-k-init c = (search rules, search tests_none, search, search, search slots_none, search slots_none, search passed_none)
+loop-k-init c = (search rules, search tests_none, search slots_none, search slots_none, search passed_none)
 
 pub loop-k-preserved : goal.loop-k-preserved
-loop-k-preserved c = (search rules, search tests_more, search still_long, search still_long, search slots_more, search slots_more, search)
+loop-k-preserved c =
+    let h = rw c.table.ensures at c.count_slot.ensures.held_after in
+    let w = rw c.table.ensures at c.count_slot.ensures.waiting_after in
+    let p = rw c.table.ensures at c.count_slot.ensures.passed_after in
+    (search rules, search tests_more, search slots_more, search slots_more, p)
 
 pub returns-clause-value : goal.returns-clause-value
 returns-clause-value c = search tests_all

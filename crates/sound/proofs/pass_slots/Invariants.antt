@@ -2,10 +2,8 @@
 -- nothing.
 use Prim.Native.Nat.{◌≤◌}
 use mathlib.Core.Path.{◌≡◌}
-use lib.ListN.{length}
 use Rattle.numbers.specs.Search.{every}
-use Rattle.table.specs.Table.{table_of}
-use Rattle.state.specs.State.{state_of, thread, max_channels}
+use Rattle.state.specs.State.{state_of, thread}
 use Rattle.holding.specs.Own.{own_of}
 use Rattle.recount.specs.Tally.{added_to, Passed}
 use Rattle.sound.specs.SoundRows.{slot_sound}
@@ -13,8 +11,7 @@ use Rattle.sound.proofs.pass_slots.Given as goal
 
 abbrev pub invariant-loop-k : goal.invariant-loop-k
 invariant-loop-k l =
-    (l.k ≤ l.count) × (l.passed ≡ every (slot_sound l.table (state_of l.state) (thread (state_of l.state) l.t)) l.k)
-    × (length l.held ≡ max_channels) × (length l.waiting ≡ max_channels)
-    × (l.held ≡ added_to (own_of l.table (thread (state_of l.state) l.t)) 1 l.initial.held l.k)
-    × (l.waiting ≡ added_to (own_of l.table (thread (state_of l.state) l.t)) l.w l.initial.waiting l.k)
-    × Passed l.table (thread (state_of l.state) l.t) l.t l.k l.stamps
+    (l.k ≤ l.count) × (l.passed ≡ every (slot_sound l.flow (state_of l.state) (thread (state_of l.state) l.t)) l.k)
+    × (l.counts.held ≡ added_to (own_of l.flow (thread (state_of l.state) l.t)) 1 l.initial.counts.held l.k)
+    × (l.counts.waiting ≡ added_to (own_of l.flow (thread (state_of l.state) l.t)) l.w l.initial.counts.waiting l.k)
+    × Passed l.flow (thread (state_of l.state) l.t) l.t l.k l.counts.stamps

@@ -7,14 +7,13 @@ use mathlib.Core.List.{List, [], ◌∷◌}
 use Rattle.std.proofs.Math.ListN.{replicate, length-replicate}
 use Rattle.numbers.specs.Count.{bit}
 use Rattle.numbers.specs.Rows.{at}
-use Rattle.numbers.specs.Rows.Laws.{put_put}
 use Rattle.numbers.specs.Search.{tabulate}
 use Rattle.numbers.specs.Search.Laws.{case_b, get_d_tabulate, tabulate_cong}
 use Rattle.table.specs.Table.{Table, ports}
 use Rattle.table.specs.Layout.{start}
 use Rattle.table.specs.declared.Part.TheVariants.{Nodes}
 use Rattle.state.specs.State.{max_channels, max_threads, State, state_of, state_words, row_slots, thread, channel, is_waiting, with_mark, with_thread, with_channel, with_channels}
-use Rattle.state.specs.State.Laws.{length_marks, length_threads, length_channels, length_channel, three_stored}
+use Rattle.state.specs.State.Laws.{length_marks, length_threads, length_channels, three_stored, channel_again, channel_written}
 use Rattle.rules.specs.Holding.{holds, holders, waiters, count_of, channel_row, recount, settled}
 use Rattle.rules.specs.Start.{free_row, entered, port_row, started}
 use Rattle.holding.specs.Own.{own_list}
@@ -45,14 +44,12 @@ pub ruleset freeing = (freed_none, freed_more, freed_all)
 
 -- ---- open_ports
 
-pub row_put : (b : List ℕ) (c ty n : ℕ) (s₁ s₂ s₃ : State) → length b ≡ state_words → c < max_channels
+pub row_put : (b : List ℕ) (c ty n : ℕ) (s₁ s₂ s₃ : State) → length b ≡ state_words
     → s₁ ≡ with_channel (state_of b) c (set (channel (state_of b) c) 0 ty)
     → s₂ ≡ with_channel s₁ c (set (channel s₁ c) 1 n) → s₃ ≡ with_channel s₂ c (set (channel s₂ c) 2 0) → s₃ ≡ with_channel (state_of b) c (ty ∷ n ∷ 0 ∷ [])
-unfolding with_channel
-row_put b c ty n s₁ s₂ s₃ e h f g k =
-    let i : c < length (state_of b).channels = omega (arith, length_channels b) in
-    let r = channel (state_of b) c in
-    rw (k, g, f, put_put (state_of b).channels c 1 n (set r 0 ty) i, put_put (state_of b).channels c 2 0 (set (set r 0 ty) 1 n) i, three_stored r ty n 0 (length_channel b e c h))
+row_put b c ty n s₁ s₂ s₃ e f g k =
+    let r = set (channel (state_of b) c) 0 ty in
+    channel_again (state_of b) s₂ s₃ c (λ x. set x 2 0) (set r 1 n) k (channel_again (state_of b) s₁ s₂ c (λ x. set x 1 n) r g f) ∙ channel_written b e c ty n 0
 
 module _ (s s₁ : State) (c p : ℕ) where
   pub open_port : s₁ ≡ with_channel s c (1 ∷ 1 ∷ 0 ∷ []) → c < p → s₁ ≡ with_channel s c (port_held p c)

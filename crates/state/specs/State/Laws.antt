@@ -1,16 +1,18 @@
 -- What a read and a store of a word mean for the state. Assumes nothing.
-use Rattle.std.specs.Prelude.{ℕ, ◌+◌, ◌*◌, ◌<◌, ◌≤◌, ◌≡◌, refl, ◌≢◌, length, get_or, set, take, drop}
+use Rattle.std.specs.Prelude.{ℕ, ◌+◌, ◌*◌, ◌<◌, ◌≤◌, ◌≡◌, refl, ◌≢◌, true, length, get_or, set, take, drop}
 use native.Mathlib.Omega.{arith}
-use Rattle.std.proofs.Math.Path.{sym}
+use Rattle.std.proofs.Math.Path.{sym, ap}
 use Rattle.std.proofs.Common.{◌∙◌, take-append-drop, set-set, take_all, drop-drop, get_or-take}
 use mathlib.Core.List.{List, [], ◌∷◌, ◌++◌}
+use Rattle.std.proofs.Math.Decide.{dec_lt}
 use Rattle.std.proofs.Math.Nat.{min-eq_left}
 use Rattle.std.proofs.Math.ListN.{length-take, length-drop, length-set, get_or-eq_default}
 use Rattle.std.proofs.Math.Seq.{get_or-set_same, get_or-set_other, get_or-drop, take-set-lt, take-set-le, drop-set-lt, drop-set-add, set_out}
 use Rattle.numbers.specs.Bytes.{words, encode}
 use Rattle.numbers.specs.Bytes.Laws.{joined_rows, encode_numbers, length_numbers}
 use Rattle.numbers.specs.Rows.{rows, at}
-use Rattle.state.specs.State.{mark_words, max_threads, thread_words, max_channels, channel_words, channels_from, state_words, state_length, State, state_of, view, state_bytes, thread, channel, with_mark, with_thread, with_channel}
+use Rattle.numbers.specs.Search.Laws.{contra}
+use Rattle.state.specs.State.{mark_words, max_threads, thread_words, max_channels, channel_words, channels_from, state_words, state_length, State, state_of, view, state_bytes, thread, in_use, channel, with_mark, with_thread, with_channel}
 use Rattle.numbers.specs.Rows.Laws.{length_rows, length_row, at_in, at_out, at_row_out, rows_put, rows_past, put_out, put_row_out}
 
 module _ (b : List ℕ) where
@@ -22,6 +24,14 @@ module _ (b : List ℕ) where
   pub length_channels : length (state_of b).channels ≡ max_channels
   unfolding state_of
   length_channels = length_rows max_channels channel_words (drop channels_from b)
+
+  -- a thread that is in use has a row
+  pub used_below : (t : ℕ) → in_use (thread (state_of b) t) ≡ true → t < max_threads
+  used_below t e = go (dec_lt t max_threads)
+    where
+      go : Dec (t < max_threads) → t < max_threads
+      go (yes h) = h
+      go (no h) = contra e (rw (get_or-eq_default (state_of b).threads [] {n = t} (omega (arith, length_threads))) refl)
 
   -- ---- reads
   pub mark_is : (i r : ℕ) → r ≡ get_or b i 0 → i < mark_words → r ≡ get_or (state_of b).marks i 0
@@ -154,6 +164,22 @@ three_stored (x ∷ y ∷ z ∷ u ∷ r) a n w e = absurd (omega arith)
 
 -- ---- rows replaced and read
 
+-- where there is no such row nothing is replaced
+no_thread_row : (s : State) (t : ℕ) (row : List ℕ) → length s.threads ≤ t → with_thread s t row ≡ s
+unfolding with_thread
+no_thread_row s t row h = rw (set_out s.threads t row h)
+
+no_channel_row : (s : State) (c : ℕ) (row : List ℕ) → length s.channels ≤ c → with_channel s c row ≡ s
+unfolding with_channel
+no_channel_row s c row h = rw (set_out s.channels c row h)
+
+-- so that there two rows come to the same
+pub either_thread_row : (s : State) (t : ℕ) (row row' : List ℕ) → length s.threads ≤ t → with_thread s t row ≡ with_thread s t row'
+either_thread_row s t row row' h = no_thread_row s t row h ∙ sym (no_thread_row s t row' h)
+
+pub either_channel_row : (s : State) (c : ℕ) (row row' : List ℕ) → length s.channels ≤ c → with_channel s c row ≡ with_channel s c row'
+either_channel_row s c row row' h = no_channel_row s c row h ∙ sym (no_channel_row s c row' h)
+
 module _ (s : State) (t : ℕ) (row : List ℕ) where
   pub thread_same : t < length s.threads → thread (with_thread s t row) t ≡ row
   unfolding with_thread
@@ -171,3 +197,33 @@ module _ (s : State) (t : ℕ) (row : List ℕ) where
   pub threads_with : length (with_thread s t row).threads ≡ length s.threads
   unfolding with_thread
   threads_with = length-set s.threads t row
+
+-- what stands in a row is written anew, by f: s₁ has the row r there
+pub thread_again : (s s₁ s₂ : State) (t : ℕ) (f : List ℕ → List ℕ) (r : List ℕ) → s₂ ≡ with_thread s₁ t (f (thread s₁ t)) → s₁ ≡ with_thread s t r
+    → s₂ ≡ with_thread s t (f r)
+thread_again s s₁ s₂ t f r e g = e ∙ ap (λ (x : State). with_thread x t (f (thread x t))) g ∙ go (dec_lt t (length s.threads))
+  where
+    go : Dec (t < length s.threads) → with_thread (with_thread s t r) t (f (thread (with_thread s t r) t)) ≡ with_thread s t (f r)
+    go (yes h) = rw (thread_same s t r h, thread_twice s t r (f r))
+    go (no h) = rw (no_thread_row s t r (omega arith)) (either_thread_row s t (f (thread s t)) (f r) (omega arith))
+
+channel_replaced : (s : State) (c : ℕ) (row row' : List ℕ) → c < length s.channels
+    → (channel (with_channel s c row) c ≡ row) × (with_channel (with_channel s c row) c row' ≡ with_channel s c row')
+unfolding with_channel
+channel_replaced s c row row' h = (get_or-set_same s.channels c row [] h, rw (set-set s.channels c row row'))
+
+pub channel_again : (s s₁ s₂ : State) (c : ℕ) (f : List ℕ → List ℕ) (r : List ℕ) → s₂ ≡ with_channel s₁ c (f (channel s₁ c)) → s₁ ≡ with_channel s c r
+    → s₂ ≡ with_channel s c (f r)
+channel_again s s₁ s₂ c f r e g = e ∙ ap (λ (x : State). with_channel x c (f (channel x c))) g ∙ go (dec_lt c (length s.channels))
+  where
+    go : Dec (c < length s.channels) → with_channel (with_channel s c r) c (f (channel (with_channel s c r) c)) ≡ with_channel s c (f r)
+    go (yes h) = let p = channel_replaced s c r (f r) h in rw (p.0, p.1)
+    go (no h) = rw (no_channel_row s c r (omega arith)) (either_channel_row s c (f (channel s c)) (f r) (omega arith))
+
+-- a channel's row of which each word is written
+pub channel_written : (b : List ℕ) → length b ≡ state_words → (c a n w : ℕ) → with_channel (state_of b) c (set (set (set (channel (state_of b) c) 0 a) 1 n) 2 w) ≡ with_channel (state_of b) c (a ∷ n ∷ w ∷ [])
+channel_written b e c a n w = go (dec_lt c max_channels)
+  where
+    go : Dec (c < max_channels) → with_channel (state_of b) c (set (set (set (channel (state_of b) c) 0 a) 1 n) 2 w) ≡ with_channel (state_of b) c (a ∷ n ∷ w ∷ [])
+    go (yes h) = rw (three_stored (channel (state_of b) c) a n w (length_channel b e c h))
+    go (no h) = either_channel_row (state_of b) c (set (set (set (channel (state_of b) c) 0 a) 1 n) 2 w) (a ∷ n ∷ w ∷ []) (omega (arith, length_channels b))

@@ -3,14 +3,13 @@ use Rattle.std.specs.Prelude.{ℕ, zero, suc, ◌+◌, ◌<◌, ◌≤◌, ◌�
 use Rattle.std.proofs.Common.{arith, sym, ◌∙◌, length-set, length-drop, get_or-set_same, get_or-set_other, get_or-drop, ext_get_or}
 use Rattle.std.proofs.Math.Decide.{dec_lt}
 use Rattle.std.proofs.Math.Numerals.{add-one}
-use Rattle.std.proofs.Math.Path.{ap}
 use Rattle.std.proofs.lemmas.List.{set-get_or}
 use Rattle.numbers.specs.Laid.{laid}
 use Rattle.numbers.specs.Laid.Laws.{laid_none, laid_all, laid_put}
 use Rattle.numbers.specs.Search.{tabulate}
 use Rattle.numbers.specs.Search.Laws.{get_d_tabulate, length_tabulate}
 use Rattle.state.specs.State.{State, state_of, thread, stands_at, slot_of, slots_of, state_words, row_slots, with_thread, max_threads}
-use Rattle.state.specs.State.Laws.{length_threads, length_thread, thread_same, thread_twice}
+use Rattle.state.specs.State.Laws.{length_threads, length_thread, either_thread_row, thread_again}
 use Rattle.rules.specs.Moves.{waiting_row, stored}
 use Rattle.thread_rows.specs.WrittenRows.{reslotted, refilled}
 
@@ -23,11 +22,12 @@ two_words (x ∷ y ∷ row) a b h = refl
 
 module _ (b b₁ : List ℕ) (t v n : ℕ) (s₂ : State) where
   pub head_written : s₂ ≡ with_thread (state_of b₁) t (set (thread (state_of b₁) t) 1 n) → state_of b₁ ≡ with_thread (state_of b) t (set (thread (state_of b) t) 0 v)
-      → length b ≡ state_words → t < max_threads → s₂ ≡ with_thread (state_of b) t (v ∷ n ∷ slots_of (thread (state_of b) t))
-  head_written e f l h =
-      let r = set (thread (state_of b) t) 0 v in
-      let g : thread (state_of b₁) t ≡ r = ap (λ (s : State). thread s t) f ∙ thread_same (state_of b) t r (omega (arith, length_threads b)) in
-      e ∙ rw (g, f, thread_twice (state_of b) t r (set r 1 n), two_words (thread (state_of b) t) v n (omega (arith, length_thread b l t h)))
+      → length b ≡ state_words → s₂ ≡ with_thread (state_of b) t (v ∷ n ∷ slots_of (thread (state_of b) t))
+  head_written e f l = thread_again (state_of b) (state_of b₁) s₂ t (λ x. set x 1 n) (set (thread (state_of b) t) 0 v) e f ∙ go (dec_lt t max_threads)
+    where
+      go : Dec (t < max_threads) → with_thread (state_of b) t (set (set (thread (state_of b) t) 0 v) 1 n) ≡ with_thread (state_of b) t (v ∷ n ∷ slots_of (thread (state_of b) t))
+      go (yes h) = rw (two_words (thread (state_of b) t) v n (omega (arith, length_thread b l t h)))
+      go (no h) = either_thread_row (state_of b) t (set (set (thread (state_of b) t) 0 v) 1 n) (v ∷ n ∷ slots_of (thread (state_of b) t)) (omega (arith, length_threads b))
 
 -- a thread that waits where it stands: h is its status and n its node
 pub waiting_written : (s s₁ : State) (t h n : ℕ) → s₁ ≡ with_thread s t (h ∷ n ∷ slots_of (thread s t)) → h ≡ 2 → n ≡ stands_at (thread s t)
@@ -78,37 +78,35 @@ module _ (b : List ℕ) (t : ℕ) (l : List ℕ) where
   refill_none = rw (set-get_or (state_of b).threads t [])
 
   pub refill_more : (s₁ s₂ : State) (k x : ℕ) → s₂ ≡ with_thread s₁ t (stored (thread s₁ t) k x)
-      → s₁ ≡ with_thread (state_of b) t (refilled l (thread (state_of b) t) k) → x ≡ get_or l k 0 → t < max_threads
+      → s₁ ≡ with_thread (state_of b) t (refilled l (thread (state_of b) t) k) → x ≡ get_or l k 0
       → s₂ ≡ with_thread (state_of b) t (refilled l (thread (state_of b) t) (k + 1))
   unfolding refilled
-  refill_more s₁ s₂ k x e f g h =
-      let r = refilled l (thread (state_of b) t) k in
-      let w : thread s₁ t ≡ r = ap (λ (s : State). thread s t) f ∙ thread_same (state_of b) t r (omega (arith, length_threads b)) in
-      e ∙ rw (w, f, thread_twice (state_of b) t r (stored r k x), add-one k, g)
+  refill_more s₁ s₂ k x e f g =
+      thread_again (state_of b) s₁ s₂ t (λ y. stored y k x) (refilled l (thread (state_of b) t) k) e f ∙ rw (add-one k, g)
 
   pub refill_done : (s₁ : State) (k : ℕ) → s₁ ≡ with_thread (state_of b) t (refilled l (thread (state_of b) t) k)
-      → length b ≡ state_words → length l ≡ row_slots → t < max_threads → row_slots ≤ k → k ≤ row_slots
+      → length b ≡ state_words → length l ≡ row_slots → row_slots ≤ k → k ≤ row_slots
       → s₁ ≡ with_thread (state_of b) t (reslotted (thread (state_of b) t) l)
-  refill_done s₁ k e g f h i j =
-      let q : k ≡ 16 = omega arith in
-      e ∙ rw (q, refill_all l (thread (state_of b) t) 16 f (length_thread b g t h))
+  refill_done s₁ k e g f i j = e ∙ go (dec_lt t max_threads)
+    where
+      go : Dec (t < max_threads) → with_thread (state_of b) t (refilled l (thread (state_of b) t) k) ≡ with_thread (state_of b) t (reslotted (thread (state_of b) t) l)
+      go (yes h) =
+          let q : k ≡ 16 = omega arith in
+          rw (q, refill_all l (thread (state_of b) t) 16 f (length_thread b g t h))
+      go (no h) = either_thread_row (state_of b) t (refilled l (thread (state_of b) t) k) (reslotted (thread (state_of b) t) l) (omega (arith, length_threads b))
 
 -- a head and then the slots make a row
 pub row_written_lem : (b b₁ : List ℕ) (t v n : ℕ) (l : List ℕ) (s₂ : State) → s₂ ≡ with_thread (state_of b₁) t (reslotted (thread (state_of b₁) t) l)
-    → state_of b₁ ≡ with_thread (state_of b) t (v ∷ n ∷ slots_of (thread (state_of b) t)) → t < max_threads → s₂ ≡ with_thread (state_of b) t (v ∷ n ∷ l)
-row_written_lem b b₁ t v n l s₂ e f h =
-    let r = v ∷ n ∷ slots_of (thread (state_of b) t) in
-    let g : thread (state_of b₁) t ≡ r = ap (λ (s : State). thread s t) f ∙ thread_same (state_of b) t r (omega (arith, length_threads b)) in
-    e ∙ rw (g, f, thread_twice (state_of b) t r (v ∷ n ∷ l))
+    → state_of b₁ ≡ with_thread (state_of b) t (v ∷ n ∷ slots_of (thread (state_of b) t)) → s₂ ≡ with_thread (state_of b) t (v ∷ n ∷ l)
+row_written_lem b b₁ t v n l s₂ e f =
+    thread_again (state_of b) (state_of b₁) s₂ t (λ r. reslotted r l) (v ∷ n ∷ slots_of (thread (state_of b) t)) e f
 
--- ---- a row that is written twice: s₁ has row r for thread t, and s₂ has v in its slot k besides
+-- ---- s₁ has row r for thread t, and s₂ has v in its slot k besides
 
 module _ (b : List ℕ) (t : ℕ) (r : List ℕ) (s₁ s₂ : State) (k v : ℕ) where
-  pub stored_after : s₂ ≡ with_thread s₁ t (stored (thread s₁ t) k v) → s₁ ≡ with_thread (state_of b) t r → t < max_threads
+  pub stored_after : s₂ ≡ with_thread s₁ t (stored (thread s₁ t) k v) → s₁ ≡ with_thread (state_of b) t r
       → s₂ ≡ with_thread (state_of b) t (stored r k v)
-  stored_after e f h =
-      let w : thread s₁ t ≡ r = ap (λ (s : State). thread s t) f ∙ thread_same (state_of b) t r (omega (arith, length_threads b)) in
-      e ∙ rw (w, f, thread_twice (state_of b) t r (stored r k v))
+  stored_after e f = thread_again (state_of b) s₁ s₂ t (λ x. stored x k v) r e f
 
 -- ---- a list of slots, laid one after the other
 

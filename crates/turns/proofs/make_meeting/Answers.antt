@@ -11,8 +11,8 @@ write_directed-requires-clause-facing c = search meet_facing
 pub returns-then-gives_number : goal.returns-then-gives_number
 returns-then-gives_number c = search number_keeps
 
-pub write_meeting-requires-clause-distinct : goal.write_meeting-requires-clause-distinct
-write_meeting-requires-clause-distinct c = search meet_other
+pub write_meeting-requires : goal.write_meeting-requires
+write_meeting-requires c = search meet_other
 
 pub returns-else-gives_number : goal.returns-else-gives_number
 returns-else-gives_number c =

@@ -1,5 +1,5 @@
 use Rattle.rules_laws.specs.Decided.{created_below, spawned_below}
-use Rattle.turns.specs.Keeping.Laws.{waits_made, goes_made, can_meet}
+use Rattle.turns.specs.Keeping.Laws.{waits_made, goes_made, can_meet, ready_below}
 use Rattle.std.proofs.Math.Logic.{inl, inr}
 use Rattle.turns.specs.Running.Laws.{lacks_thread, lacks_channel}
 use Rattle.turns.proofs.make_move.Goals as goal
@@ -11,13 +11,13 @@ pub make_child-requires-clause-u_lt_max_threads : goal.make_child-requires-claus
 make_child-requires-clause-u_lt_max_threads c = search spawned_below
 
 pub make_meeting-requires-clause-can_meet : goal.make_meeting-requires-clause-can_meet
-make_meeting-requires-clause-can_meet c = search can_meet
+make_meeting-requires-clause-can_meet c = search (can_meet, ready_below)
 
 pub returns-in-Waits : goal.returns-in-Waits
-returns-in-Waits c = search waits_made
+returns-in-Waits c = search (waits_made, ready_below)
 
 pub returns-in-Goes : goal.returns-in-Goes
-returns-in-Goes c = search goes_made
+returns-in-Goes c = search (goes_made, ready_below)
 
 pub returns-in-LacksThread : goal.returns-in-LacksThread
 returns-in-LacksThread c = elim c.in-LacksThread.is [ inl h ↦ search lacks_thread | inr h ↦ search lacks_channel ]

@@ -9,7 +9,7 @@ use Rattle.numbers.specs.Rows.{at}
 use Rattle.table.specs.Table.{Table, ports, carried}
 use Rattle.table.specs.Layout.{branch_count, definition_of, slot_type}
 use Rattle.state.specs.State.{max_threads, minus_one, State, state_of, thread, stands_at, in_use, is_ready, type_in, with_thread, with_channels}
-use Rattle.state.specs.State.Laws.{length_threads, thread_other, threads_with}
+use Rattle.state.specs.State.Laws.{length_threads, used_below, thread_other, threads_with}
 use Rattle.rules.specs.Program.{type_at, field_b, act_of, opposite}
 use Rattle.rules.specs.Holding.{holds, settled}
 use Rattle.rules.specs.Offers.{partner_of}
@@ -42,6 +42,10 @@ use Rattle.turns.specs.HeldStill.{waiting_holds, resumed_holds, stored_holds, me
 use Rattle.turns.specs.Keeping.{CanMeet, AtPort}
 use Rattle.turns.specs.Weights.{number_by, weighed_after}
 use Rattle.turns.specs.Weights.Laws.{weighs_less, weighs_more, weighs_same}
+
+-- a thread that is ready has a row
+pub ready_below : (b : List ℕ) (t : ℕ) → is_ready (thread (state_of b) t) ≡ true → t < max_threads
+ready_below b t r = used_below b t (ready_used (thread (state_of b) t) r)
 
 -- ---- rows that hold what they held
 
@@ -200,13 +204,14 @@ module _ (tb : Table) (b : List ℕ) (t : ℕ) (m : Move) (e : m ≡ move tb (st
 -- ---- a thread that the bench meets, which waited and is ready now: s₁ after the write, s₂ weighed
 
 module _ (tb : Table) (b : List ℕ) (u j v : ℕ) (s₁ s₂ : State) where
-  pub met_made : s₂ ≡ row_weighed tb s₁ u minus_one → s₁ ≡ with_thread (state_of b) u (met_by tb (thread (state_of b) u) j v) → u < max_threads → Granted tb
+  pub met_made : s₂ ≡ row_weighed tb s₁ u minus_one → s₁ ≡ with_thread (state_of b) u (met_by tb (thread (state_of b) u) j v) → Granted tb
       → Sound tb (state_of b) → AtPort tb (state_of b) u j
       → s₂ ≡ met_by_bench tb (state_of b) u j v
   unfolding AtPort met_by_bench
-  met_made q f h g ok (d, port, l, e) =
+  met_made q f g ok (d, port, l, e) =
       let a = partner_answers tb (state_of b) bench d port u j e in
       let used = waiting_used (thread (state_of b) u) a.waits in
+      let h = used_below b u used in
       let row = met_by tb (thread (state_of b) u) j v in
       q ∙ rw f (sym (row_weighed_lem tb (state_of b) (length_threads b) ok.counts u h row
       (side_holds tb g _ (thread (state_of b) u) (ok.orderly.row u h) used j a.branch_in (port_number tb g (state_of b) ok.orderly d port u j l a) v)

@@ -1,6 +1,6 @@
 -- A run begins in a sound state, a turn of a ready thread keeps its invariant, and what the code leaves is the turn of the rules. Assumes nothing.
 use Rattle.rules.specs.Answers.{Turn}
-use Rattle.std.specs.Prelude.{ℕ, ◌<◌, ◌≡◌, true, List}
+use Rattle.std.specs.Prelude.{ℕ, ◌<◌, ◌≡◌, true}
 use Rattle.std.proofs.Common.{sym, ◌∙◌}
 use Rattle.table.specs.Table.{Table}
 use Rattle.state.specs.State.{State, max_threads, thread, stands_at, is_ready, with_mark, with_channels}

@@ -1,5 +1,3 @@
-use native.Mathlib.Omega.{arith}
-use Rattle.std.proofs.lemmas.List.{get_or-take, length-take}
 use Rattle.upkeep.proofs.Shifts.{shifts_none, shifts_more}
 use Rattle.upkeep.proofs.shift_listed.Goals as goal
 
@@ -7,6 +5,4 @@ pub loop-c-init : goal.loop-c-init
 loop-c-init c = search shifts_none
 
 pub loop-c-preserved : goal.loop-c-preserved
-loop-c-preserved c =
-    shifts_more _ _ _ _ _ c.loop-c.c-index c.loop-c.invariant _ _ c.shift.ensures
-    (get_or-take c.args.n c.args.list.now c.loop-c.c-index 0 (omega (arith, length-take c.args.n c.args.list.now)))
+loop-c-preserved c = shifts_more _ _ _ _ _ c.loop-c.c-index c.loop-c.invariant _ _ c.shift.ensures (search)

@@ -7,4 +7,4 @@ use Rattle.waits.proofs.all_apart.Goals as goal
 pub returns : goal.returns
 unfolding all_apart
 returns c =
-    every_all (λ k. apart (get_or c.args.senders.now k 0) (get_or c.args.receivers.now k 0)) max_channels refl _ _ c.all.result c.all.ensures.ran (λ x b q k. search rules)
+    every_all (λ k. apart (get_or c.args.offered.now.senders k 0) (get_or c.args.offered.now.receivers k 0)) max_channels refl _ _ c.all.result c.all.ensures.ran (λ x b q k. search rules)

@@ -2,7 +2,6 @@
 use Prim.Native.Nat.{◌≤◌}
 use mathlib.Core.Path.{◌≡◌}
 use mathlib.Core.Bool.{true}
-use lib.ListN.{length}
 use Rattle.numbers.specs.Search.{every, tabulate}
 use Rattle.state.specs.State.{state_of, max_channels}
 use Rattle.rules.specs.declared.Direction.TheVariants.{Out, In}
@@ -11,5 +10,5 @@ use Rattle.waits.proofs.note_branches.Given as goal
 
 abbrev pub invariant-loop-i : goal.invariant-loop-i
 invariant-loop-i l =
-    (l.i ≤ l.count) × (length l.senders ≡ length l.initial.senders) × (length l.receivers ≡ length l.initial.receivers) × (every (branch_held l.table (state_of l.state) l.t) l.i ≡ true)
-    × (l.senders ≡ tabulate max_channels (who_to l.table (state_of l.state) Out l.t l.i)) × (l.receivers ≡ tabulate max_channels (who_to l.table (state_of l.state) In l.t l.i))
+    (l.i ≤ l.count) × (every (branch_held l.table (state_of l.state) l.t) l.i ≡ true)
+    × (l.offered.senders ≡ tabulate max_channels (who_to l.table (state_of l.state) Out l.t l.i)) × (l.offered.receivers ≡ tabulate max_channels (who_to l.table (state_of l.state) In l.t l.i))

@@ -2,7 +2,6 @@
 use Prim.Native.Nat.{◌≤◌}
 use mathlib.Core.Path.{◌≡◌}
 use mathlib.Core.Bool.{true}
-use lib.ListN.{length}
 use Rattle.numbers.specs.Search.{every, tabulate}
 use Rattle.state.specs.State.{state_of, max_channels, max_threads}
 use Rattle.rules.specs.declared.Direction.TheVariants.{Out, In}
@@ -11,5 +10,5 @@ use Rattle.waits.proofs.note_threads.Given as goal
 
 abbrev pub invariant-loop-t : goal.invariant-loop-t
 invariant-loop-t l =
-    (l.t ≤ max_threads) × (length l.senders ≡ length l.initial.senders) × (length l.receivers ≡ length l.initial.receivers) × (every (waits_alone l.table (state_of l.state)) l.t ≡ true)
-    × (l.senders ≡ tabulate max_channels (who l.table (state_of l.state) Out l.t)) × (l.receivers ≡ tabulate max_channels (who l.table (state_of l.state) In l.t))
+    (l.t ≤ max_threads) × (every (waits_alone l.table (state_of l.state)) l.t ≡ true)
+    × (l.offered.senders ≡ tabulate max_channels (who l.table (state_of l.state) Out l.t)) × (l.offered.receivers ≡ tabulate max_channels (who l.table (state_of l.state) In l.t))

@@ -1,4 +1,5 @@
 use Rattle.writer.specs.declared.WriteRefusal.TheVariants as WriteRefusal
+use Rattle.std.proofs.Common.{arith}
 use Rattle.std.proofs.lemmas.Result.{err_from_is_err_and}
 use Rattle.loader.specs.Load.Laws.{told_refused, told_refusal, told_accepted}
 use Rattle.writer.specs.Write.Laws.{whole, few, length_fits, length_wrong, table_wrong, buffer_short, file_laid}
@@ -27,7 +28,7 @@ returns-then-file-bytes c =
 pub put_lines-requires-clause-whole : goal.put_lines-requires-clause-whole
 put_lines-requires-clause-whole c =
     let t = told_accepted _ _ _ _ c.accept.ensures.value c.in_ok-accepted.ensures.ok_part in
-    rw t.1 (search whole)
+    rw (c.table.ensures, t.1) (whole _ (omega arith))
 
 pub put_lines-requires-clause-n_le_max_rows : goal.put_lines-requires-clause-n_le_max_rows
 put_lines-requires-clause-n_le_max_rows c =
@@ -37,5 +38,5 @@ put_lines-requires-clause-n_le_max_rows c =
 pub returns : goal.returns
 returns c =
     let t = told_accepted _ _ _ _ c.accept.ensures.value c.in_ok-accepted.ensures.ok_part in
-    let e = rw t.1 at c.put_lines.ensures in
+    let e = rw (c.table.ensures, t.1) at c.put_lines.ensures in
     search file_laid

@@ -1,9 +1,9 @@
 -- The rows of a table, laid into a buffer as lines, and the ways out of a write. Assumes nothing.
 use Rattle.writer.specs.declared.WriteRefusal.TheVariants as WriteRefusal
-use Rattle.std.specs.Prelude.{ℕ, ◌+◌, ◌*◌, ◌≤◌, ◌<◌, ◌≡◌, Bool, true, false, not, cond, leb, eqb, get_or, set, take, Option, None, Some, Result, Err, Ok}
+use Rattle.std.specs.Prelude.{ℕ, ◌+◌, ◌*◌, ◌≤◌, ◌<◌, ◌≡◌, Bool, true, false, not, leb, eqb, get_or, set, take, Err, Ok}
 use native.Mathlib.Omega.{arith}
 use Rattle.std.proofs.Math.Path.{refl}
-use Rattle.std.proofs.Common.{◌∙◌, length-take-le, get_or-take, Fits}
+use Rattle.std.proofs.Common.{sym, ◌∙◌, length-take-le, get_or-take, Fits}
 use mathlib.Core.List.{List, [], map}
 use Rattle.std.proofs.Math.ListN.{length}
 use Rattle.std.proofs.lemmas.List.Edits.{sets}
@@ -19,6 +19,7 @@ use Rattle.text.specs.Text.{line_length, text, line_text, file_text}
 use Rattle.text.specs.Text.Laws.{length_text, length_line, length_file, pieces_more, pieces_closed}
 use Rattle.table.specs.Table.{Table, max_rows, row_numbers, table_length, table_of, line_total}
 use Rattle.table.specs.Index.{Indexed}
+use Rattle.table.specs.Index.Laws.{whole_long}
 use Rattle.loader.specs.Verdict.Laws.{acceptable_few}
 use Rattle.loader.specs.Load.{accepted}
 use Rattle.writer.specs.Write.{Whole, printed_form, outcome, laid_into, write_call, bytes_number}
@@ -46,8 +47,16 @@ length_printed t a =
     length_file (take n (table_of t))
     (λ i h. let h' : i < n = omega arith in rw (get_or-take n (table_of t) i [] h') (row_twelve t (omega (arith, accepted_long t a)) i (omega arith))) ∙ rw front
 
-pub whole : (t : List ℕ) → length t ≡ table_length → Whole (table_of t)
-whole t long = record { rows = length_rows max_rows row_numbers (shorts t); numbers = row_twelve t (omega (arith, long)) }
+pub whole : (t : List ℕ) → table_length ≤ length t → Whole (table_of t)
+whole t long = record { rows = length_rows max_rows row_numbers (shorts t); numbers = row_twelve t long }
+
+-- so that a table with its index is whole, and what follows is said of each
+module _ (t l : List ℕ) (g : Indexed (table_of t) l) where
+  twelve : (i : ℕ) → i < max_rows → length (get_or (table_of t) i []) ≡ row_numbers
+  twelve = row_twelve t (whole_long t l g)
+
+  pub indexed_whole : Whole (table_of t)
+  indexed_whole = whole t (whole_long t l g)
 
 module _ (tb : Table) (g : Whole tb) where
   -- ---- the fields of a row, and its newline
@@ -98,8 +107,11 @@ module _ (t b : List ℕ) where
     unfolding write_call
     table_wrong b' h e = rw (eq-eqb (length t) table_length long, h, e)
 
-    -- what an accepted table's index is promised to be, it is where the table has been told to be accepted
+    -- where the table has been told to be accepted: what its index is promised to be, it is
     module _ (a : Bool) (x : a ≡ accepted t) (h : not a ≡ false) where
+      told : accepted t ≡ true
+      told = sym x ∙ not-false a h
+
       pub indexed : (l : List ℕ) → (a ≡ true → Indexed (table_of t) l) → Indexed (table_of t) l
       indexed l f = f (not-false a h)
 
