@@ -202,6 +202,13 @@ impl<'a, 'b> Flow<'a, 'b> {
         self.table
     }
 
+    // The gaps that were found for the table, for as long as they were lent.
+    pub fn gaps(&self) -> &'b [u32]
+        ensures { gaps_of result.now ≡ flow self.now }
+    {
+        self.gaps
+    }
+
     // Whether node n has gap k.
     pub fn has_gap(&self, n: usize, k: u32) -> bool
         ensures { result ≡ has_gap (flow self.now) n k }

@@ -69,7 +69,7 @@ fn judge_flow(table: Table, gaps: &mut [u32], n: usize) -> Result<(), (Ground, u
     pass(Ground::Unwritten, unwritten, n)?;
     pass(
         Ground::Unreachable,
-        paths::first_unreachable(flow.table().bytes(), gaps, n),
+        paths::first_unreachable(flow.table().bytes(), flow.gaps(), n),
         n,
     )
 }

@@ -85,7 +85,7 @@ fn is_unreachable(table: &[u8], gaps: &[u32], row: usize) -> bool
     ensures { result ≡ unreachable (table_of table.now) row }
 {
     table::cell(table, row, field::KIND) == 5
-        && !has_gap(gaps, row.saturating_sub(table::node_row(table)), PATH_MARK)
+        && !has_gap(gaps, table::node_in(table, row), PATH_MARK)
 }
 
 // The first of n rows that is a node that no path leads to; n where there is none.

@@ -196,6 +196,20 @@ pub fn branch_count(table: &[u8], node: u32) -> u32
     }
 }
 
+// The node in a row, counted over the whole file; 0 for the rows before the first node.
+pub fn node_in(table: &[u8], row: usize) -> usize
+    ensures { result ≡ row - node_row (table_of table.now) }
+{
+    row.saturating_sub(node_row(table))
+}
+
+// The branch in a row, counted over the whole file; 0 for the rows before the first branch.
+pub fn branch_in(table: &[u8], row: usize) -> usize
+    ensures { result ≡ row - branch_row (table_of table.now) }
+{
+    row.saturating_sub(branch_row(table))
+}
+
 // How many lines block i of a part has.
 #[tactic(auto, unfolding(crate::specs::Layout::size))]
 pub fn block_size(table: &[u8], part: Part, i: u32) -> u32
@@ -294,6 +308,13 @@ impl<'a> Table<'a> {
         ensures { table_of result.now ≡ self.now }
     {
         self.bytes
+    }
+
+    // The index of the table, for as long as it was lent.
+    pub fn index(&self) -> &'a [u32]
+        ensures { Indexed self.now result.now }
+    {
+        self.index
     }
 
     // The number of nodes in all. That the header's counts are in range is known of each value of this type.
