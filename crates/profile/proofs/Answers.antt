@@ -3,11 +3,12 @@ use Rattle.profile.specs.declared.ProfileRefusal.TheVariants as ProfileRefusal
 use Rattle.profile.specs.Answers.{Profiled}
 use Rattle.std.specs.Prelude.{ℕ, ◌≤◌, ◌<◌, ◌≡◌, Bool, true, false, List, length, get_or, Err, Ok}
 use native.Mathlib.Omega.{arith}
-use Rattle.std.proofs.Common.{Fits}
+use Rattle.std.proofs.Common.{sym, ◌∙◌, Fits}
 use Rattle.std.specs.Int.{w8}
 use borrow.Author.Tests.{eq-eqb, ne_eqb, le-leb, lt-leb}
 use Rattle.numbers.specs.Bytes.Laws.{bytes_fit}
 use Rattle.table.specs.Table.{Table, table_length, table_of}
+use Rattle.table.specs.Index.{Indexed}
 use Rattle.loader.specs.Load.{accepted}
 use Rattle.state.specs.State.{max_threads}
 use Rattle.rules_laws.specs.Granted.{Granted}
@@ -62,3 +63,10 @@ module _ (t : List ℕ) where
 
     pub rises : calls_allowed (table_of t) ≡ true → Rising (table_of t)
     rises = accepted_rising t e (bytes_fit t fit)
+
+  -- what the test of the table says where it says yes: the table is accepted, and its index is there
+  pub is_accepted : (a : Bool) → a ≡ accepted t → a ≡ true → accepted t ≡ true
+  is_accepted a x h = sym x ∙ h
+
+  pub indexed : (a : Bool) (l : List ℕ) → (a ≡ true → Indexed (table_of t) l) → a ≡ true → Indexed (table_of t) l
+  indexed a l f h = f h

@@ -40,6 +40,16 @@ unfolding meets? same
 meeting_intro a Out e = rw e
 meeting_intro a In e = rw e
 
+-- ---- tests joined by or: one of the two holds, and with the second the whole does
+
+pub or_elim : (a b : Bool) → (a || b) ≡ true → (a ≡ true) ⊎ (b ≡ true)
+or_elim true b e = inl refl
+or_elim false b e = inr e
+
+pub or_second : (a b : Bool) → b ≡ true → (a || b) ≡ true
+or_second true b e = refl
+or_second false b e = e
+
 module _ (tb : Table) (s : State) (given : ℕ → Bool) where
   -- ---- what the tests say
 

@@ -191,9 +191,14 @@ unfolding bit
 fewer_none m = omega arith
 
 -- a round that marks somebody leaves fewer to be marked
-pub fewer_left : (x y : ℕ) (r : Bool) → y + bit r ≤ x → r ≡ true → y < x
+pub fewer_marked : (x y : ℕ) (r : Bool) → y + bit r ≤ x → r ≡ true → y < x
 unfolding bit
-fewer_left x y r h e = let k : y + 1 ≤ x = rw e at h in omega arith
+fewer_marked x y r h e = let k : y + 1 ≤ x = rw e at h in omega arith
+
+-- what is left, with one more while a round is due, becomes less in a round that was due
+pub fewer_left : (x y : ℕ) (a r : Bool) → y + bit r ≤ x → a ≡ true → y + bit r < x + bit a
+unfolding bit
+fewer_left x y a r h e = rw e (omega arith)
 
 -- a round that marks nobody ends the marking
 module _ (tb : Table) (s : State) (m k : List Bool) (g : Marking tb s m k) (st : Still tb s m k 64) where
@@ -226,3 +231,7 @@ module _ (tb : Table) (s : State) (m k : List Bool) (g : Marking tb s m k) (st :
 pub marking_end : (tb : Table) (s : State) (m k : List Bool) (a : Bool) → Marking tb s m k → (a ≡ false → Still tb s m k 64) → a ≡ false
     → m ≡ enabled_set tb s nobody
 marking_end tb s m k a g h e = marking_done tb s m k g (h e)
+
+-- before the first
+pub no_rounds : (tb : Table) (s : State) (m k : List Bool) → true ≡ false → Still tb s m k max_threads
+no_rounds tb s m k e = contra refl e

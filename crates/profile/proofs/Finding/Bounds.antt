@@ -1,18 +1,21 @@
 -- The ways of the code that finds bounds, and what falls from one call to the next. Assumes nothing.
 use Rattle.std.specs.Prelude.{ℕ, ◌+◌, ◌≤◌, ◌<◌, max, ◌≡◌, Bool, true, false, List, ◌⊎◌, ltb, eqb, length, get_or, set, replicate}
-use Rattle.std.proofs.Common.{arith, sym, ap, ◌∙◌, inl, inr, get_or-set_same, get_or-set_other}
+use Rattle.std.proofs.Common.{arith, sym, ap, ◌∙◌, inl, inr, ⊎_elim, get_or-set_same, get_or-set_other}
 use Rattle.std.proofs.Math.Numerals.{add-one}
 use Rattle.std.proofs.Math.Path.{refl}
 use Rattle.std.proofs.Math.Seq.{set_out}
-use borrow.Author.Tests.{ltb-true, ltb-false, eqb-true, eqb-false}
+use borrow.Author.Tests.{ltb-true, ltb-false, eq-eqb, ne_eqb, eqb-true, eqb-false}
+use Rattle.numbers.specs.Rows.{at}
 use Rattle.numbers.specs.Search.Laws.{case_b}
 use Rattle.numbers.specs.Laid.Laws.{zeros_at}
-use Rattle.table.specs.Table.{Table, max_nodes, definitions, nodes}
+use Rattle.table.specs.Fields as Field
+use Rattle.table.specs.Table.{Table, max_nodes, definitions, nodes, node_row}
 use Rattle.table.specs.Layout.{start, branch_count, definition_of}
 use Rattle.table.specs.declared.Part.TheVariants.{Nodes}
 use Rattle.rules.specs.Program.{kind_of, callee, branch_at, next_of, child_of}
 use Rattle.profile.specs.Profile.{largest, is_spawn, node_bound, branch_bound, definition_bound}
 use Rattle.profile.specs.Equations.{Later, Rising, end_bound, own_call_bound, call_bound, choice_bound, spawn_bound, plain_bound}
+use Rattle.profile.specs.Finding.Calls.{node_cell}
 use Rattle.profile.specs.Finding.{above, capped, Kept, onward, rank, definition_rank}
 use Rattle.profile.specs.declared.Onward.{Onward}
 use Rattle.profile.specs.declared.Onward.TheVariants.{Nowhere, Definition, Branches}
@@ -28,7 +31,43 @@ pub capped_few : (x r : ℕ) → r ≡ capped x → r ≤ above
 unfolding capped
 capped_few x r e = omega arith
 
+-- below the cap a number stays what it is, and from there on it is the cap
+pub capped_low : (s : ℕ) → s < above → s ≡ capped s
+unfolding capped
+capped_low s h = omega arith
+
+pub capped_high : (s : ℕ) → above ≤ s → above ≡ capped s
+unfolding capped
+capped_high s h = omega arith
+
 -- ---- what a bound rests on
+
+-- what the bound of node n rests on, told from the cells that were read: a choice on its branches, an end and a call of its own definition on nothing, and any
+-- other call on the definition that it calls
+module _ (tb : Table) (n r v : ℕ) (a : r ≡ node_row tb) (e : v ≡ at tb (r + n) Field.node_kind) where
+  kind_is : v ≡ kind_of tb n
+  kind_is = node_cell tb n r Field.node_kind v a e
+
+  pub onward_choice : v ≡ 1 → Branches ≡ onward tb n
+  unfolding onward
+  onward_choice f = rw (← kind_is, f)
+
+  module _ (f : v ≡ 1 → ⊥) where
+    pub onward_end : (v ≡ 2 → ⊥) → Nowhere ≡ onward tb n
+    unfolding onward
+    onward_end g = rw (ne_eqb (kind_of tb n) 1 (λ q. f (kind_is ∙ q)), ne_eqb (kind_of tb n) 2 (λ q. g (kind_is ∙ q)))
+
+    module _ (g : v ≡ 2) (x d : ℕ) (k : x ≡ at tb (r + n) Field.callee) (b : d ≡ definition_of tb n) where
+      callee_is : x ≡ callee tb n
+      callee_is = node_cell tb n r Field.callee x a k
+
+      pub onward_own : x ≡ d → Nowhere ≡ onward tb n
+      unfolding onward
+      onward_own q = rw (← kind_is, g, ← callee_is, ← b, q, eq-eqb d d refl)
+
+      pub onward_call : (x ≡ d → ⊥) → Definition x ≡ onward tb n
+      unfolding onward
+      onward_call q = rw (← kind_is, g, ← callee_is, ← b, ne_eqb x d q)
 
 -- what it says of the bound of node n that it rests on this
 unfoldable Rests : Table → ℕ → Onward → Type 0
@@ -77,6 +116,13 @@ module _ (tb : Table) (g : Rising tb) (n : ℕ) (h : n < nodes tb) where
 
   -- ---- what else falls: in one definition, the nodes that are left
 
+  -- on the way from a node to its choice, and from there to a branch
+  pub choice_falls : (t : ℕ) → rank tb n + 2 ≡ t → rank tb n + 1 < t
+  choice_falls t f = omega arith
+
+  pub branch_falls : (t : ℕ) → rank tb n + 1 ≡ t → rank tb n < t
+  branch_falls t f = omega arith
+
   later_falls : (m t : ℕ) → Later tb n m → rank tb n ≡ t → rank tb m + 2 < t
   unfolding rank
   later_falls m t l f = rw l.same (omega (arith, f, l.above, l.inside, g.few_nodes))
@@ -118,6 +164,11 @@ module _ (tb : Table) (g : Rising tb) (n : ℕ) (h : n < nodes tb) where
   unfolding largest
   choice_more i m b r e f k = e ∙ rw (f, k, add-one i) (capped_through (largest (branch_bound tb n) i) (branch_bound tb n i)).1
 
+  -- when no branch is left, the largest so far is the largest of all
+  pub choice_end : (i c m : ℕ) → c ≡ branch_count tb n → m ≡ capped (largest (branch_bound tb n) i) → i ≤ c → c ≤ i
+      → m ≡ capped (largest (branch_bound tb n) (branch_count tb n))
+  choice_end i c m e f a b = let q : i ≡ branch_count tb n = omega (arith, e) in rw q at f
+
 module _ (tb : Table) (n i r m : ℕ) (s : Bool) where
   pub plain_found : (x : ℕ) → x ≡ capped (node_bound tb m) → m ≡ next_of tb n r → r ≡ branch_at tb n i → s ≡ is_spawn tb n i → s ≡ false
       → x ≡ capped (branch_bound tb n i)
@@ -150,6 +201,10 @@ module _ (tb : Table) (g : Rising tb) (d m : ℕ) (h : d < definitions tb) (e : 
 module _ (tb : Table) where
   pub kept_none : (l : List ℕ) → l ≡ replicate max_nodes 0 → Kept tb l
   kept_none l e = record { bounds = λ n h. inl (rw e (zeros_at max_nodes n)) }
+
+  -- a kept number other than 0 is the bound of its node
+  pub kept_found : (l : List ℕ) (n f : ℕ) → f ≡ get_or l n 0 → Kept tb l → n < nodes tb → (f ≡ 0 → ⊥) → f ≡ capped (node_bound tb n)
+  kept_found l n f e k h z = ⊎_elim (λ y. absurd (z (e ∙ y))) (λ y. e ∙ y) (k.bounds n h)
 
   -- at the place itself; past the end nothing is stored
   kept_here : (l : List ℕ) (n b : ℕ) → Kept tb l → b ≡ capped (node_bound tb n) → n < nodes tb
