@@ -186,7 +186,8 @@ NR == FNR {
 }
 
 FNR == 1 {
-    level = caller = heading = clause = 0
+    level = caller = heading = clause = skipped = brackets = 0
+    head = brings = ""
     module[0] = FILENAME
     sub(/^crates\//, "", module[0])
     sub(/\/src\//, "/", module[0])
