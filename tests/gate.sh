@@ -53,7 +53,10 @@ done
 check "the crate passes again" passes
 
 # What has no caller and stays: a line for each, its name and why.
-kept=''
+kept='
+table::branch_in      was promised of any bytes to whoever calls the crate; with an index there is Table::branch_in
+table::Table::index   gives back the index that loader::accept was lent, which it promised to be that of the table
+'
 
 # uncalled FOLDER [NAME..]: no function of its crates is left that neither an exported function nor a program, nor one of those that are kept,
 # comes to call; those that are left are named.
