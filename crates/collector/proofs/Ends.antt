@@ -6,7 +6,6 @@ use Rattle.state.specs.State.{state_of, thread, status, max_threads}
 use Rattle.state.specs.State.Laws.{length_threads, used_below}
 use Rattle.rules.specs.Holding.{settled}
 use Rattle.rules.specs.Calls.{afterwards}
-use Rattle.engine.specs.Admitted.{Admits}
 use Rattle.collector.specs.Collect.{collected, taken_count, collect_on}
 use Rattle.collector.specs.Freeing.{collected_to}
 use Rattle.collector.specs.Freeing.Laws.{freed_none}
@@ -16,9 +15,6 @@ pub none_freed : (tb : Table) (b : List ℕ) → settled tb (state_of b) ≡ sta
 none_freed tb b e = freed_none tb (state_of b) (length_threads b) e
 
 -- collect: w are the words of the admitted state, and w₁ those after the call, which took n threads
-pub admitted_settled : (table b w : List ℕ) (seen : Table) → Admits table b seen w → settled seen (state_of w) ≡ state_of w
-admitted_settled table b w seen a = a.sound.counts
-
 pub collect_done : (w w₁ : List ℕ) (seen : Table) (n : ℕ) → n ≡ taken_count seen (state_of w) → state_of w₁ ≡ collected seen (state_of w)
     → afterwards (Ok n) (state_of w₁) ≡ collect_on seen (state_of w)
 unfolding collect_on

@@ -63,20 +63,24 @@ pub fn collect_in(table: &Table, state: &mut state::Words) -> u32
 }
 
 // A collection, made at a seat.
+#[tactic(auto, using(engine::specs::Admitted::judged_length))]
 pub fn collect(table: &[u8], state: &mut [u8], rights: &[u8], seat: u32) -> Result<u32, Refusal>
     ensures { outcome result state.new ≡ seated_collect table.now state.old rights.now seat }
 {
     let mut index = [0u32; table::INDEX];
-    let mut words = [0u32; state::WORDS];
-    let table = engine::admit(
+    let mut gaps = [0u32; engine::GAPS];
+    let flow = engine::admit_seat(
         table,
         state,
         rights,
         seat,
         Right::Collect,
         &mut index,
-        &mut words,
+        &mut gaps,
     )?;
+    let mut words = [0u32; state::WORDS];
+    engine::admit_state(&flow, state, &mut words)?;
+    let table = flow.into_table();
     let count = collect_in(&table, &mut words);
     engine::write(&words, state);
     Ok(count)

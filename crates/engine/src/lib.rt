@@ -1,6 +1,6 @@
 // The calls of the engine: start, and at a seat step, give, take, run. Each judges its buffers first, and a call that is refused writes nothing. A layer above,
-// which works on the words of an admitted state, has the admission, what it may ask of a thread, the release of a thread and the writing of the words
-// from here.
+// which works on the words of an admitted state, has the two parts of the admission, what it may ask of a thread, the release of a thread and the
+// writing of the words from here.
 #![tactic(auto)]
 
 ghost use Rattle.std.specs.Prelude.{◌≡◌, cond, length, replicate, Err, Ok, IfOk};
@@ -12,13 +12,12 @@ ghost use Rattle.rules.specs.Sound.{sound};
 ghost use Rattle.rules.specs.Calls.{outcome, lengths_right, start_admission, start_call};
 ghost use Rattle.rules.specs.Seats.{seat_admission, seated_step, seated_give, seated_take, seated_run};
 ghost use Rattle.rules_laws.specs.Soundness.{Sound};
-ghost use Rattle.engine.specs.Admitted.{Seen, Admits, admission_by, call_admission};
+ghost use Rattle.engine.specs.Admitted.{Seen, admission_by};
 
 use flow::Flow;
 pub use loader::GAPS;
 use rules::{Deed, Reason, Refusal, Right};
 pub use state::{WORDS, write};
-use table::Table;
 pub use threads::{mark_held, offers_marked, port_count, release, status_of};
 
 // Ground 8.
@@ -93,28 +92,6 @@ pub fn admit_state(flow: &Flow, state: &[u8], words: &mut state::Words) -> Resul
     }
 }
 
-// Grounds 8, 9, 18, 19 and 10, of a call that asks its seat for a right: those before the call's own. The table that is admitted comes with its index, which is laid
-// into `index`, and the words of the state are left in `words`.
-#[tactic(auto, unfolding(crate::specs::Admitted::call_admission, rules::specs::Calls::and_then), using(crate::specs::Admitted::judged_length, crate::specs::Admitted::judged_back, crate::specs::Admitted::judged_admission))]
-pub fn admit<'a>(
-    table: &'a [u8],
-    state: &[u8],
-    rights: &[u8],
-    seat: u32,
-    right: Right,
-    index: &'a mut [u32],
-    words: &mut state::Words,
-) -> Result<Table<'a>, Refusal>
-    requires { index.old ≡ replicate index_length 0 }
-    ensures value { admission_by result ≡ call_admission table.now state.now rights.now seat right }
-    ensures admitted { IfOk result (λ seen. Admits table.now state.now seen words.new) }
-{
-    let mut gaps = [0u32; GAPS];
-    let flow = admit_seat(table, state, rights, seat, right, index, &mut gaps)?;
-    admit_state(&flow, state, words)?;
-    Ok(flow.into_table())
-}
-
 // Writes the state with which a table starts.
 pub fn start(table: &[u8], state: &mut [u8]) -> Result<(), Refusal>
     ensures { outcome result state.new ≡ start_call table.now state.old }
@@ -128,7 +105,11 @@ pub fn start(table: &[u8], state: &mut [u8]) -> Result<(), Refusal>
     Ok(())
 }
 
+// The calls at a seat, `step` to `run`, declare the words of the state behind the seat's admission: to declare them clears 6,156 bytes, which a call that its
+// seat may not make does not pay for.
+
 // A step of thread t, made at a seat.
+#[tactic(auto, using(crate::specs::Admitted::judged_length))]
 pub fn step(
     table: &[u8],
     state: &mut [u8],
@@ -139,22 +120,26 @@ pub fn step(
     ensures { outcome result state.new ≡ seated_step table.now state.old rights.now seat t }
 {
     let mut index = [0u32; table::INDEX];
-    let mut words = [0u32; state::WORDS];
-    let table = admit(
+    let mut gaps = [0u32; GAPS];
+    let flow = admit_seat(
         table,
         state,
         rights,
         seat,
         Right::StepAndRun,
         &mut index,
-        &mut words,
+        &mut gaps,
     )?;
+    let mut words = [0u32; state::WORDS];
+    admit_state(&flow, state, &mut words)?;
+    let table = flow.into_table();
     let step = calls::step(&table, &mut words, t)?;
     state::write(&words, state);
     Ok(step)
 }
 
 // A give on port p of the number of pattern v, made at a seat.
+#[tactic(auto, using(crate::specs::Admitted::judged_length))]
 pub fn give(
     table: &[u8],
     state: &mut [u8],
@@ -166,16 +151,19 @@ pub fn give(
     ensures { outcome result state.new ≡ seated_give table.now state.old rights.now seat p v }
 {
     let mut index = [0u32; table::INDEX];
-    let mut words = [0u32; state::WORDS];
-    let table = admit(
+    let mut gaps = [0u32; GAPS];
+    let flow = admit_seat(
         table,
         state,
         rights,
         seat,
         Right::Give(p),
         &mut index,
-        &mut words,
+        &mut gaps,
     )?;
+    let mut words = [0u32; state::WORDS];
+    admit_state(&flow, state, &mut words)?;
+    let table = flow.into_table();
     let met = calls::give(&table, &mut words, p, v)?;
     if met.is_some() {
         state::write(&words, state);
@@ -184,6 +172,7 @@ pub fn give(
 }
 
 // A take from port p, made at a seat.
+#[tactic(auto, using(crate::specs::Admitted::judged_length))]
 pub fn take(
     table: &[u8],
     state: &mut [u8],
@@ -194,16 +183,19 @@ pub fn take(
     ensures { outcome result state.new ≡ seated_take table.now state.old rights.now seat p }
 {
     let mut index = [0u32; table::INDEX];
-    let mut words = [0u32; state::WORDS];
-    let table = admit(
+    let mut gaps = [0u32; GAPS];
+    let flow = admit_seat(
         table,
         state,
         rights,
         seat,
         Right::Take(p),
         &mut index,
-        &mut words,
+        &mut gaps,
     )?;
+    let mut words = [0u32; state::WORDS];
+    admit_state(&flow, state, &mut words)?;
+    let table = flow.into_table();
     let met = calls::take(&table, &mut words, p)?;
     if met.is_some() {
         state::write(&words, state);
@@ -212,6 +204,7 @@ pub fn take(
 }
 
 // A run of at most n steps, made at a seat.
+#[tactic(auto, using(crate::specs::Admitted::judged_length))]
 pub fn run(
     table: &[u8],
     state: &mut [u8],
@@ -222,16 +215,19 @@ pub fn run(
     ensures { outcome result state.new ≡ seated_run table.now state.old rights.now seat n }
 {
     let mut index = [0u32; table::INDEX];
-    let mut words = [0u32; state::WORDS];
-    let table = admit(
+    let mut gaps = [0u32; GAPS];
+    let flow = admit_seat(
         table,
         state,
         rights,
         seat,
         Right::StepAndRun,
         &mut index,
-        &mut words,
+        &mut gaps,
     )?;
+    let mut words = [0u32; state::WORDS];
+    admit_state(&flow, state, &mut words)?;
+    let table = flow.into_table();
     let answer = calls::run(&table, &mut words, n);
     state::write(&words, state);
     answer
