@@ -1,36 +1,16 @@
 -- What the list of a row's channels comes to. Assumes nothing.
-use Prim.Native.Nat.{ℕ, zero, suc, ◌+◌, ◌≤◌}
+use Prim.Native.Nat.{ℕ, ◌+◌, ◌≤◌}
 use native.Mathlib.Omega.{arith}
 use native.Mathlib.Numerals.{add-one}
-use mathlib.Core.Path.{◌≡◌, refl, sym, ◌∙◌}
-use mathlib.Core.Bool.{Bool, true, false, cond, ◌||◌}
+use mathlib.Core.Path.{◌≡◌, refl, ◌∙◌}
+use mathlib.Core.Bool.{true}
 use mathlib.Core.List.{List}
-use lib.Dec.{eqb}
-use lib.ListN.{length, get_or, set, take, replicate}
-use Rattle.std.specs.List.{list_any}
-use Rattle.std.proofs.lemmas.List.Folds.{list_any_more}
-use Rattle.numbers.specs.Search.{some}
-use Rattle.numbers.specs.Search.Laws.{some_zero, some_suc}
+use lib.ListN.{set, replicate}
 use Rattle.table.specs.Table.{Table}
 use Rattle.state.specs.State.{in_use, max_channels, row_slots}
 use Rattle.holding.specs.Own.{own_list, own_room, types_of}
-use Rattle.holding.specs.Own.Listing.{listed, own_by, listed_to}
+use Rattle.holding.specs.Own.Listing.{own_by, listed_to}
 use Rattle.holding.specs.Own.Listing.Laws.{listed_own}
-
--- is_listed
-either : (a b : Bool) → (a || b) ≡ cond a true b
-either true b = refl
-either false b = refl
-
-some_of : (p : ℕ → Bool) (l : List ℕ) (n : ℕ) → n ≤ length l → list_any p (take n l) ≡ some (λ i. p (get_or l i 0)) n
-some_of p l zero h = sym (some_zero (λ i. p (get_or l i 0)))
-some_of p l (suc n) h =
-    rw (← add-one n, list_any_more p l n 0 (omega arith), some_of p l n (omega arith), add-one n, some_suc (λ i. p (get_or l i 0)) n)
-    (either (some (λ i. p (get_or l i 0)) n) (p (get_or l n 0)))
-
-pub listed_is : (l : List ℕ) (n c : ℕ) → n ≤ length l → list_any (λ y. eqb y c) (take n l) ≡ listed l n c
-unfolding listed
-listed_is l n c = some_of (λ y. eqb y c) l n
 
 -- list_own
 module _ (tb : Table) (from : ℕ) (row l : List ℕ) where

@@ -14,10 +14,9 @@ pub const LIST: usize = state::SLOTS as usize;
 
 // Whether one of the first n entries of a list is c.
 fn is_listed(list: &[u8; LIST], n: u32, c: u8) -> bool
-    requires { n ≤ row_slots }
     ensures { result ≡ listed list.now n c }
 {
-    list[..n as usize].contains(&c)
+    (0..n).any(|i| numbers::item_at(list, i as usize, 0) == c)
 }
 
 // The channel in slot k of thread t; 128 where the slot has a number or no channel. The types of the slots stand from a row of the table on.
@@ -36,7 +35,6 @@ pub fn channel_at(table: &Table, from: u32, state: &state::Words, t: u32, k: u32
 // The channel that slot k of thread t is the first to hold; 128 where there is none. The list has the channels of the slots before.
 #[tactic(auto, unfolding(crate::specs::Own::Listing::own_by))]
 fn own_at(table: &Table, from: u32, state: &state::Words, t: u32, list: &[u8; LIST], k: u32) -> u8
-    requires { k ≤ row_slots }
     ensures { result ≡ own_by table.now from (thread (state_of state.now) t) list.now k }
 {
     let c = channel_at(table, from, state, t, k);
@@ -106,7 +104,8 @@ pub struct Own {
     pub count: u32,
 }
 
-// The channels that thread t holds.
+// The channels that thread t holds. Laid out in each caller: as a call it would copy the list.
+#[inline(always)]
 pub fn own_channels(table: &Table, state: &state::Words, t: u32) -> Own
     ensures list { result.list ≡ own_list table.now (thread (state_of state.now) t) }
     ensures count { result.count ≡ own_room table.now (thread (state_of state.now) t) }

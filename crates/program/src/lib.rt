@@ -119,15 +119,19 @@ pub fn slot(state: &state::Words, t: u32, k: u32) -> u32
 pub fn printed_guard(table: &Table, row: usize, state: &state::Words, t: u32) -> bool
     ensures { result ≡ printed_guard table.now row (thread (state_of state.now) t) }
 {
-    // Read where the guard asks for them: most branches have none.
-    let left = || slot(state, t, table.cell(row, field::FIRST));
-    let right = || table.cell(row, field::SECOND);
-    match table.cell(row, field::GUARD) {
-        0 => true,
-        1 => left() == numbers::widen(right()),
-        2 => numbers::below(left(), numbers::widen(right())),
-        3 => left() == slot(state, t, right()),
-        _ => numbers::below(left(), slot(state, t, right())),
+    let guard = table.cell(row, field::GUARD);
+    // Most branches have none, and their operands are not read.
+    if guard == 0 {
+        true
+    } else {
+        let left = slot(state, t, table.cell(row, field::FIRST));
+        let right = table.cell(row, field::SECOND);
+        match guard {
+            1 => left == numbers::widen(right),
+            2 => numbers::below(left, numbers::widen(right)),
+            3 => left == slot(state, t, right),
+            _ => numbers::below(left, slot(state, t, right)),
+        }
     }
 }
 

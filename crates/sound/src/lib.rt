@@ -42,8 +42,8 @@ fn slot_sound(flow: &Flow, state: &state::Words, t: u32, n: u32, from: u32, k: u
     let ty = flow.table().cell(from as usize + k as usize, field::TYPE);
     ty == 0
         || match program::slot(state, t, k) {
-            state::MINUS_ONE => flow.has_gap(n as usize, k),
-            v => v < state::CHANNELS && state::channel_word(state, v as usize, state::TYPE) == ty,
+            c if c < state::CHANNELS => state::channel_word(state, c as usize, state::TYPE) == ty,
+            v => v == state::MINUS_ONE && flow.has_gap(n as usize, k),
         }
 }
 

@@ -1,7 +1,10 @@
-use native.Mathlib.Omega.{arith}
-use mathlib.Core.Path.{◌∙◌}
-use Rattle.holding.proofs.Listings.{listed_is}
+use lib.Dec.{eqb}
+use lib.ListN.{get_or}
+use Rattle.std.proofs.Common.{rules, refl}
+use Rattle.numbers.specs.Search.Chains.{some_any}
+use Rattle.holding.specs.Own.Listing.{listed}
 use Rattle.holding.proofs.is_listed.Goals as goal
 
 pub returns : goal.returns
-returns c = c.contains.ensures.value ∙ listed_is c.args.list.now c.args.n c.args.c (omega arith)
+unfolding listed
+returns c = some_any (λ i. eqb (get_or c.args.list.now i 0) c.args.c) c.args.n refl _ _ c.any.result c.any.ensures.ran (λ x b q k. search rules)
