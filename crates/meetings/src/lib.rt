@@ -59,6 +59,7 @@ pub fn write_meeting(table: &Table, state: &mut state::Words, t: u32, i: u32, u:
 }
 
 // Thread t goes on after the send in a row, and thread u after the receive in another, with what t gives in its slot.
+#[inline(always)]
 fn write_passed(
     table: &Table,
     state: &mut state::Words,

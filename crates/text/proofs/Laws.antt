@@ -219,11 +219,14 @@ module _ (l ys zs : List ℕ) (at : ℕ) (inside : at + 6 ≤ length l) where
   pub field_laid : (v : ℕ) → zs ≡ text v → length zs ≡ 6 → ys ≡ zs → put_mid at (at + 6 - at) l ys ≡ sets l at (text v)
   field_laid v e n h = six_laid n h ∙ ap (sets l at) e
 
+-- a field of one figure: five blanks, and the figure at the end
+pub figure_laid : (l ys : List ℕ) (at v : ℕ) → at + 6 ≤ length l → v < 10 → ys ≡ six 32 32 32 32 32 (48 + v)
+    → put_mid at (at + 6 - at) l ys ≡ sets l at (text v)
+figure_laid l ys at v inside h e =
+    six_laid l ys (six 32 32 32 32 32 (48 + v)) at inside refl e ∙ ap (sets l at) (sym (text_one v h))
+
 -- the six columns of the number with the pattern v
 module _ (zs : List ℕ) (v : ℕ) where
-  pub figure_printed : v < 10 → zs ≡ six 32 32 32 32 32 (48 + v) → zs ≡ text v
-  figure_printed h e = e ∙ sym (text_one v h)
-
   pub text_printed : v ≤ 32767 → zs ≡ columns false v → zs ≡ text v
   text_printed h e = e ∙ sym (text_pos v h)
 

@@ -108,25 +108,29 @@ pub fn read_field(field: &[u8]) -> Option<u16>
     }
 }
 
-// The six columns that print the number with the pattern v. Most are one figure, which is told at once.
-#[tactic(auto, using(crate::proofs::Laws::figure_printed, crate::proofs::Laws::text_printed, crate::proofs::Laws::minus_printed))]
+// The six columns that print the number with the pattern v.
+#[tactic(auto, using(crate::proofs::Laws::text_printed, crate::proofs::Laws::minus_printed))]
 fn printed(v: u16) -> [u8; FIELD]
     ensures { result ≡ text v }
 {
-    if v < 10 {
-        [b' ', b' ', b' ', b' ', b' ', b'0' + v as u8]
-    } else if v <= 32767 {
+    if v <= 32767 {
         columns(false, v as u32)
     } else {
         columns(true, 65536 - v as u32)
     }
 }
 
-// The field of the number with the pattern v, laid into a buffer from a place on.
+// The field of the number with the pattern v, laid into a buffer from a place on. Most are one figure, which is laid at once.
 #[tactic(auto, using(crate::proofs::Laws::field_laid))]
 pub fn put_field(buffer: &mut [u8], at: usize, v: u16)
     requires { at + 6 ≤ length buffer.old }
     ensures { buffer.new ≡ sets buffer.old at (text v) }
 {
-    buffer[at..at + FIELD].copy_from_slice(&printed(v));
+    let field = &mut buffer[at..at + FIELD];
+    if v < 10 {
+        field.copy_from_slice(&[b' '; FIELD]);
+        field[FIELD - 1] = b'0' + v as u8;
+    } else {
+        field.copy_from_slice(&printed(v));
+    }
 }

@@ -70,9 +70,9 @@ pub fn mark_held(
     ensures { marks.new ≡ with_held table.now (thread (state_of words.now) t) marks.old }
 {
     let own = holding::own_channels(table, words, t);
-    for c in own.list {
+    for c in &own.list {
         // An entry that is no channel marks nothing.
-        numbers::put_item(marks, c as usize, true);
+        numbers::put_item(marks, *c as usize, true);
     }
 }
 

@@ -19,7 +19,8 @@ pub struct Noted {
     pub waited: u32,
 }
 
-// Thread t's row is noted before it changes.
+// Thread t's row is noted before it changes. Laid out in each caller: as a call it would copy the list.
+#[inline(always)]
 pub fn note_held(table: &Table, state: &state::Words, t: u32) -> Noted
     ensures list { result.list ≡ own_list table.now (thread (state_of state.now) t) }
     ensures waited { result.waited ≡ bit (is_waiting (thread (state_of state.now) t)) }
