@@ -63,7 +63,7 @@ pub fn collect_in(table: &Table, state: &mut state::Words) -> u32
 }
 
 // A collection, made at a seat.
-#[tactic(auto, using(engine::specs::Admitted::judged_length))]
+#[tactic(auto, unfolding(crate::specs::Collect::seated_collect, crate::specs::Collect::collect_call, crate::specs::Collect::collect_on, rules::specs::Seats::at_seat, rules::specs::Seats::by_seat, rules::specs::Calls::on_buffers, rules::specs::Calls::by_admission), using(engine::specs::Admitted::judged_length, engine::specs::Admitted::judged_admission))]
 pub fn collect(table: &[u8], state: &mut [u8], rights: &[u8], seat: u32) -> Result<u32, Refusal>
     ensures { outcome result state.new ≡ seated_collect table.now state.old rights.now seat }
 {

@@ -109,32 +109,6 @@ module _ (table state rights : List ℕ) (seat : ℕ) (right : Right) where
   unfoldable pub call_admission : Admission
   call_admission = and_then (seat_admission table state rights seat right) (admission table state)
 
-  -- those of its seat come first
-  pub seat_first : (g : Refusal) → Err g ≡ seat_admission table state rights seat right → Err g ≡ call_admission
-  unfolding call_admission and_then
-  seat_first g e = rw (← e)
-
-  -- and where they do not refuse, ground 10 is left: seen is the table
-  module _ (seen : Table) (k : Seen table state seen) (e : Ok tt ≡ seat_admission table state rights seat right) where
-    pub state_next : (a : Admission) → a ≡ cond (sound seen (view state)) (Ok tt) (Err Ground.State) → a ≡ call_admission
-    unfolding call_admission and_then
-    state_next a f = rw (← e, judged_admission table state k.judged, ← k.is) f
-
-    -- tb is the table as it was given up, ws are the words of the state, as the test of the state left them
-    pub both_admit : (tb : Table) (ws : List ℕ) → tb ≡ seen → ((i : ℕ) → Fits w8 (get_or state i 0)) → ws ≡ words state → Sound seen (state_of ws)
-        → ◌≡◌ {A = Admission} (Ok tt) (cond (sound seen (view state)) (Ok tt) (Err Ground.State)) → Admits table state tb ws × (Ok tt ≡ call_admission)
-    both_admit tb ws t fit w s f = (
-      record {
-        is = t ∙ k.is;
-        long = judged_length table state k.judged;
-        back = judged_back table state k.judged fit;
-        granted = rw t k.granted;
-        words_are = w;
-        sound = rw t s;
-      },
-      state_next (Ok tt) f,
-    )
-
   module _ {A : Type 0} (k : After (Result A Refusal)) where
     -- a call that is refused before its own grounds
     pub refused_at : (g : Refusal) → Err g ≡ call_admission → outcome (Err g) state ≡ at_seat table state rights seat Err right (on_buffers Err table state k)

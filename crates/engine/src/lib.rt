@@ -93,6 +93,7 @@ pub fn admit_state(flow: &Flow, state: &[u8], words: &mut state::Words) -> Resul
 }
 
 // Writes the state with which a table starts.
+#[tactic(auto, unfolding(rules::specs::Calls::start_call, rules::specs::Calls::start_admission, rules::specs::Calls::start_on, rules::specs::Calls::by_admission), using(crate::specs::Admitted::judged_length))]
 pub fn start(table: &[u8], state: &mut [u8]) -> Result<(), Refusal>
     ensures { outcome result state.new ≡ start_call table.now state.old }
 {
@@ -109,7 +110,7 @@ pub fn start(table: &[u8], state: &mut [u8]) -> Result<(), Refusal>
 // seat may not make does not pay for.
 
 // A step of thread t, made at a seat.
-#[tactic(auto, using(crate::specs::Admitted::judged_length))]
+#[tactic(auto, unfolding(rules::specs::Seats::seated_step, rules::specs::Calls::step_call, rules::specs::Seats::at_seat, rules::specs::Seats::by_seat, rules::specs::Calls::on_buffers, rules::specs::Calls::by_admission), using(crate::specs::Admitted::judged_length, crate::specs::Admitted::judged_back, crate::specs::Admitted::judged_admission, rules::specs::Calls::Laws::step_unchanged))]
 pub fn step(
     table: &[u8],
     state: &mut [u8],
@@ -139,7 +140,7 @@ pub fn step(
 }
 
 // A give on port p of the number of pattern v, made at a seat.
-#[tactic(auto, using(crate::specs::Admitted::judged_length))]
+#[tactic(auto, unfolding(rules::specs::Seats::seated_give, rules::specs::Calls::give_call, rules::specs::Seats::at_seat, rules::specs::Seats::by_seat, rules::specs::Calls::on_buffers, rules::specs::Calls::by_admission), using(crate::specs::Admitted::judged_length, crate::specs::Admitted::judged_back, crate::specs::Admitted::judged_admission, crate::proofs::Laws::given_refused, crate::proofs::Laws::given_nobody))]
 pub fn give(
     table: &[u8],
     state: &mut [u8],
@@ -172,7 +173,7 @@ pub fn give(
 }
 
 // A take from port p, made at a seat.
-#[tactic(auto, using(crate::specs::Admitted::judged_length))]
+#[tactic(auto, unfolding(rules::specs::Seats::seated_take, rules::specs::Calls::take_call, rules::specs::Seats::at_seat, rules::specs::Seats::by_seat, rules::specs::Calls::on_buffers, rules::specs::Calls::by_admission), using(crate::specs::Admitted::judged_length, crate::specs::Admitted::judged_back, crate::specs::Admitted::judged_admission, crate::proofs::Laws::taken_refused, crate::proofs::Laws::taken_nobody))]
 pub fn take(
     table: &[u8],
     state: &mut [u8],
@@ -204,7 +205,7 @@ pub fn take(
 }
 
 // A run of at most n steps, made at a seat.
-#[tactic(auto, using(crate::specs::Admitted::judged_length))]
+#[tactic(auto, unfolding(rules::specs::Seats::seated_run, rules::specs::Calls::run_call, rules::specs::Seats::at_seat, rules::specs::Seats::by_seat, rules::specs::Calls::on_buffers, rules::specs::Calls::by_admission), using(crate::specs::Admitted::judged_length, crate::specs::Admitted::judged_back, crate::specs::Admitted::judged_admission))]
 pub fn run(
     table: &[u8],
     state: &mut [u8],
