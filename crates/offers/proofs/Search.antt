@@ -12,8 +12,8 @@ use Rattle.numbers.specs.Search.{first}
 use Rattle.numbers.specs.Search.Laws.{case_b, contra, first_more, first_below, first_void, first_rest, some_intro}
 use Rattle.numbers.specs.Tests.{and_right}
 use Rattle.table.specs.Table.{Table}
-use Rattle.state.specs.State.{State, max_threads, thread, is_waiting, max_channels}
-use Rattle.rules.specs.Program.{opposite, same}
+use Rattle.state.specs.State.{State, max_threads, thread, is_waiting, max_channels, stands_at}
+use Rattle.rules.specs.Program.{opposite, same, branch_at}
 use Rattle.rules.specs.Offers.{offers_in, offers_at, offers, answers, partner_of}
 use Rattle.rules.specs.Moves.{first_from}
 use Rattle.rules.specs.declared.Direction.{Direction}
@@ -60,6 +60,24 @@ module _ (tb : Table) (row : List ℕ) (d : Direction) (c r : ℕ) (v : Seen) (e
   competes_is f =
       let g : competes? v ≡ true = rw f in
       offers_in_lem tb row c r (opposite d) ∙ seen_competing (offer_on tb row c r) d (rw e at g)
+
+-- branch i, in row r, of the node at which a thread stands, was seen to be v
+module _ (tb : Table) (row : List ℕ) (d : Direction) (c i node r : ℕ) (e : node ≡ stands_at row) (f : r ≡ branch_at tb node i) (v : Seen) (g : v ≡ seen_in tb row d c r) where
+  seen_at : answers? v ≡ offers_at tb row d c i
+  unfolding offers_at
+  seen_at = rw (← e, ← f) (answers_is tb row d c r v g)
+
+  pub at_answers : v ≡ Answers → true ≡ offers_at tb row d c i
+  unfolding answers?
+  at_answers h = rw h at seen_at
+
+  pub at_competes : v ≡ Competes → false ≡ offers_at tb row d c i
+  unfolding answers?
+  at_competes h = rw h at seen_at
+
+  pub at_neither : v ≡ Neither → false ≡ offers_at tb row d c i
+  unfolding answers?
+  at_neither h = rw h at seen_at
 
 -- branch i of thread u, of which n are tried, in row r + i, was tried
 module _ (tb : Table) (s : State) (d : Direction) (c u r i n : ℕ) (f : r ≡ first_row tb s u n) (v : Seen) (e : v ≡ seen_in tb (thread s u) d c (r + i)) (h : i < n) where

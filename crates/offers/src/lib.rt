@@ -195,15 +195,15 @@ impl<'a, 'b> Moment<'a, 'b> {
 }
 
 // Whether thread u offers d on channel c by its branch i.
-#[tactic(auto, using(crate::proofs::Ways::at_nothing))]
+#[tactic(auto, using(crate::proofs::Search::at_answers, crate::proofs::Search::at_competes, crate::proofs::Search::at_neither))]
 fn offers_at(table: &Table, state: &state::Words, u: u32, d: Direction, c: u32, i: u32) -> bool
     ensures { result ≡ offers_at table.now (thread (state_of state.now) u) d c i }
 {
     let node = state::stands_at(state, u);
     let row = program::branch_at(table, node, i);
-    match offer_on(table, row, state, u, c) {
-        Some(e) => e == d,
-        None => false,
+    match seen_in(table, row, state, u, d, c) {
+        Seen::Answers => true,
+        Seen::Competes | Seen::Neither => false,
     }
 }
 
