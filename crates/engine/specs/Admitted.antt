@@ -1,22 +1,20 @@
 -- What is promised of the buffers of an admitted call is had where an admission answered so: one law for each promise; and what a call at a seat comes to by
 -- what its admission answered. Assumes nothing.
-use Rattle.numbers.specs.Tests.{clash}
-use Rattle.numbers.specs.Bytes.{words}
 use Rattle.numbers.specs.Bytes.Laws.{bytes_fit}
 use Rattle.rules.specs.Answers.{Admission}
 use Rattle.std.specs.Prelude.{ℕ, ◌≡◌, List, length, get_or, cond, Err, Ok, Result}
-use Rattle.std.proofs.Common.{sym, ◌∙◌, refl, ap, Fits, w8}
+use Rattle.std.proofs.Common.{sym, ◌∙◌, Fits, w8}
 use Rattle.table.specs.Table.{Table, table_of}
 use Rattle.table.specs.Index.{Indexed}
 use Rattle.flow.specs.Flow.{flow}
 use Rattle.flow.specs.Gaps.{gaps_of}
-use Rattle.state.specs.State.{State, state_length, state_of, state_bytes, view}
+use Rattle.state.specs.State.{State, state_length, state_bytes, view}
 use Rattle.state.specs.State.Laws.{bytes_view}
 use Rattle.rules.specs.Holding.{settled}
 use Rattle.rules.specs.Sound.{sound}
 use Rattle.rules.specs.Calls.Laws.{start_admits}
-use Rattle.rules.specs.Calls.{Outcome, outcome, start_admission, After, afterwards, and_then, admission, by_admission, on_buffers}
-use Rattle.rules.specs.Seats.{seat_admission, at_seat, by_seat}
+use Rattle.rules.specs.Calls.{Outcome, outcome, start_admission, and_then, admission}
+use Rattle.rules.specs.Seats.{seat_admission, at_seat}
 use Rattle.rules.specs.Seats.Laws.{seat_refused, seat_granted}
 use Rattle.rules.specs.declared.Right.{Right}
 use Rattle.rules.specs.declared.Refusal.{Refusal}
@@ -81,7 +79,7 @@ module _ (table b rights : List ℕ) (seat : ℕ) (right : Right) (a : Admission
   pub seat_grants : a ≡ Ok tt → (r : A) (b₁ : List ℕ) → outcome r b₁ ≡ call → outcome r b₁ ≡ at_seat table b rights seat refused right call
   seat_grants f r b₁ h = h ∙ sym (seat_granted table b rights seat right refused call (sym e ∙ f))
 
--- ---- a call that asks its seat for a right, with all grounds before its own
+-- ---- a call that asks its seat for a right
 
 -- the admission that an answer stands for
 abbrev pub admission_by : Result Table Refusal → Admission
@@ -93,54 +91,3 @@ pub record Seen (table state : List ℕ) (seen : Table) : Type 0 where
   pub is : seen ≡ table_of table
   pub judged : Judged table state
   pub granted : Granted seen
-
--- what is known of buffers that are admitted: seen is the table, ws are the words of the state, and
--- a state that was not changed would be written back as it came
-pub record Admits (table state : List ℕ) (seen : Table) (ws : List ℕ) : Type 0 where
-  pub is : seen ≡ table_of table
-  pub long : length state ≡ state_length
-  pub back : state_bytes (view state) ≡ state
-  pub granted : Granted seen
-  pub words_are : ws ≡ words state
-  pub sound : Sound seen (state_of ws)
-
-module _ (table state rights : List ℕ) (seat : ℕ) (right : Right) where
-  -- all grounds before a call's own
-  unfoldable pub call_admission : Admission
-  call_admission = and_then (seat_admission table state rights seat right) (admission table state)
-
-  module _ {A : Type 0} (k : After (Result A Refusal)) where
-    -- a call that is refused before its own grounds
-    pub refused_at : (g : Refusal) → Err g ≡ call_admission → outcome (Err g) state ≡ at_seat table state rights seat Err right (on_buffers Err table state k)
-    unfolding call_admission at_seat on_buffers and_then by_seat by_admission
-    refused_at g e = refused_by (seat_admission table state rights seat right) (admission table state) (sym e)
-      where
-        refused_by : (a b : Admission) → and_then a b ≡ Err g → outcome (Err g) state ≡ by_seat Err a state (by_admission Err b state k)
-        refused_by (Err r) b f = let q : r ≡ g = cc in ap (λ (x : Refusal). outcome (Err x) state) (sym q)
-        refused_by (Ok _) (Err r) f = let q : r ≡ g = cc in ap (λ (x : Refusal). outcome (Err x) state) (sym q)
-        refused_by (Ok _) (Ok _) f = clash cc
-
-    -- one that is admitted is the call on the state that the buffer holds
-    pub admitted_at : Ok tt ≡ call_admission → outcome k.answer (state_bytes k.state) ≡ at_seat table state rights seat Err right (on_buffers Err table state k)
-    unfolding call_admission at_seat on_buffers and_then by_seat by_admission
-    admitted_at e = granted_by (seat_admission table state rights seat right) (admission table state) (sym e)
-      where
-        granted_by : (a b : Admission) → and_then a b ≡ Ok tt → outcome k.answer (state_bytes k.state) ≡ by_seat Err a state (by_admission Err b state k)
-        granted_by (Err r) b f = clash cc
-        granted_by (Ok _) (Err r) f = clash cc
-        granted_by (Ok _) (Ok _) f = refl
-
--- seen is the table that was admitted, w are the words of the state and w₁ those after the call, which answers r
-module _ (table b : List ℕ) (seen : Table) (w w₁ : List ℕ) (a : Admits table b seen w) {X : Type 0} (call : Table → State → After (Result X Refusal)) (r : Result X Refusal)
-    (k : afterwards r (state_of w₁) ≡ call seen (state_of w)) where
-  pub as_called : afterwards r (state_of w₁) ≡ call (table_of table) (view b)
-  as_called = k ∙ rw (a.is, a.words_are)
-
--- a call that is admitted, and whose state is written
-module _ (table b rights : List ℕ) (seat : ℕ) (right : Right) (seen : Table) (w w₁ : List ℕ) (a : Admits table b seen w)
-    (e : Ok tt ≡ call_admission table b rights seat right) {X : Type 0} (call : Table → State → After (Result X Refusal)) (r : Result X Refusal)
-    (k : afterwards r (state_of w₁) ≡ call seen (state_of w)) where
-  pub written_at : (b₁ : List ℕ) → b₁ ≡ state_bytes (state_of w₁) → outcome r b₁ ≡ at_seat table b rights seat Err right (on_buffers Err table b (call (table_of table) (view b)))
-  written_at b₁ h =
-      rw h (ap (λ (x : After (Result X Refusal)). outcome x.answer (state_bytes x.state)) (as_called table b seen w w₁ a call r k)
-      ∙ admitted_at table b rights seat right (call (table_of table) (view b)) e)
